@@ -1,33 +1,57 @@
-/* Loaded before a test program: its malloc refuses one growth, the one of the number that REFUSE_NTH gives, counted from
-   1. Where it did, it leaves an empty file of the name that REFUSE_REPORT gives. */
+/* Loaded before a test program, it refuses one growth of memory, or one start of a thread: that of the number that the
+   variable REFUSE_GROWTH or REFUSE_THREAD gives, counted from 1. Where it did, it leaves an empty file of the name that
+   REFUSE_REPORT gives. Each call of a function below counts, also one that asks for less memory than before. */
 #define _GNU_SOURCE
 #include <dlfcn.h>
 #include <errno.h>
 #include <fcntl.h>
+#include <malloc.h>
+#include <pthread.h>
 #include <stdatomic.h>
+#include <stdbool.h>
 #include <stdlib.h>
 #include <unistd.h>
 
 static atomic_long growths;
+static atomic_long threads;
 
-static void report(void)
+/* Counts one call more, and tells whether it is the one that a variable names. */
+static bool is_refused(atomic_long *counter, const char *variable)
 {
-    const char *name = getenv("REFUSE_REPORT");
-    int file = name ? open(name, O_CREAT | O_WRONLY, 0666) : -1;
+    const char *number = getenv(variable);
+    const char *report = getenv("REFUSE_REPORT");
+    int file;
+
+    if (!number || atomic_fetch_add(counter, 1) + 1 != atol(number))
+        return false;
+    file = report ? open(report, O_CREAT | O_WRONLY, 0666) : -1;
     if (file >= 0)
         close(file);
+    return true;
 }
 
-void *malloc(size_t size)
-{
-    static void *(*real)(size_t);
-    const char *nth = getenv("REFUSE_NTH");
-    if (!real)
-        real = (void *(*)(size_t))dlsym(RTLD_NEXT, "malloc");
-    if (nth && ++growths == atol(nth)) {
-        report();
-        errno = ENOMEM;
-        return 0;
+/* A function of the C library: `answer` is what it answers where it is refused. `dlsym` asks for no memory where it
+   finds a name. The others that give memory, such as reallocarray, have it of these. */
+#define REFUSING(counter, variable, answer, type, name, parameters, arguments)                                         \
+    type name parameters                                                                                               \
+    {                                                                                                                  \
+        if (is_refused(&counter, variable)) {                                                                          \
+            errno = ENOMEM;                                                                                            \
+            return answer;                                                                                             \
+        }                                                                                                              \
+        return ((type(*) parameters)dlsym(RTLD_NEXT, #name)) arguments;                                                \
     }
-    return real(size);
-}
+#define GROWING(answer, type, name, parameters, arguments)                                                             \
+    REFUSING(growths, "REFUSE_GROWTH", answer, type, name, parameters, arguments)
+
+GROWING(NULL, void *, malloc, (size_t size), (size))
+GROWING(NULL, void *, calloc, (size_t count, size_t size), (count, size))
+GROWING(NULL, void *, realloc, (void *at, size_t size), (at, size))
+GROWING(NULL, void *, aligned_alloc, (size_t align, size_t size), (align, size))
+GROWING(NULL, void *, memalign, (size_t align, size_t size), (align, size))
+GROWING(NULL, void *, valloc, (size_t size), (size))
+GROWING(NULL, void *, pvalloc, (size_t size), (size))
+GROWING(ENOMEM, int, posix_memalign, (void **at, size_t align, size_t size), (at, align, size))
+REFUSING(threads, "REFUSE_THREAD", EAGAIN, int, pthread_create,
+         (pthread_t *thread, const pthread_attr_t *attributes, void *(*start)(void *), void *argument),
+         (thread, attributes, start, argument))

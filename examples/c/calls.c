@@ -26,11 +26,18 @@
 #define C (LW_HOST_BASE + 32)
 #define END (LW_HOST_BASE + HOST_SIZE)
 
+/* Two arrays behind these, in a larger memory: one of many bytes, and one whose length is no multiple of 16. */
+#define LARGE (LW_HOST_BASE + 4096)
+#define LARGE_SIZE UINT64_C(8192)
+#define ODD (LW_HOST_BASE + 16384)
+#define ODD_SIZE UINT64_C(24)
+
 #define NO_QUEUE LW_NO_QUEUE_GIVEN
 
 enum { LISTED = 2, ITEMS = 65, TEXT = 4096 };
 
-/* One call: its arguments, and what it has to answer. Bytes are those of a number, the highest first. */
+/* One call: its arguments, and what it has to answer. Bytes are those of a number, the highest first, and zeros behind
+   them. */
 typedef struct row {
     const char *says;
     uint32_t (*make)(lw_table *table, const struct row *row, uint64_t *number, lw_fault *fault);
@@ -71,15 +78,26 @@ static uint64_t number_in(const uint8_t *buffer)
     return number;
 }
 
-/* The bytes of a number in a buffer. */
-static const uint8_t *bytes_of(uint64_t number)
+/* A buffer that begins with the bytes of a number. */
+static uint8_t *bytes_of(uint64_t number)
 {
-    static uint8_t bytes[8];
+    static uint8_t bytes[LARGE_SIZE];
 
     for (int i = 0; i < 8; i++) {
         bytes[i] = (uint8_t)(number >> (56 - 8 * i));
     }
     return bytes;
+}
+
+/* Reads with one of the calls that do. */
+static uint32_t read_by(uint32_t (*read)(lw_table *, uint64_t, uint8_t *, size_t, lw_fault *), lw_table *table,
+                        const row *row, uint64_t *number, lw_fault *fault)
+{
+    uint8_t *buffer = bytes_of(*number);
+    uint32_t status = read(table, row->at, row->len != 0 ? buffer : NULL, row->len, fault);
+
+    *number = number_in(buffer);
+    return status;
 }
 
 /* A query has no fault: here it gets that of its status. */
@@ -136,24 +154,12 @@ static uint32_t host_write(lw_table *table, const row *row, uint64_t *number, lw
 
 static uint32_t host_read(lw_table *table, const row *row, uint64_t *number, lw_fault *fault)
 {
-    uint8_t buffer[16];
-    uint32_t status;
-
-    memcpy(buffer, bytes_of(*number), 8);
-    status = lw_host_read(table, row->at, row->len != 0 ? buffer : NULL, row->len, fault);
-    *number = number_in(buffer);
-    return status;
+    return read_by(lw_host_read, table, row, number, fault);
 }
 
 static uint32_t device_read(lw_table *table, const row *row, uint64_t *number, lw_fault *fault)
 {
-    uint8_t buffer[16];
-    uint32_t status;
-
-    memcpy(buffer, bytes_of(*number), 8);
-    status = lw_device_read(table, row->at, row->len != 0 ? buffer : NULL, row->len, fault);
-    *number = number_in(buffer);
-    return status;
+    return read_by(lw_device_read, table, row, number, fault);
 }
 
 static uint32_t lend(lw_table *table, const row *row, uint64_t *number, lw_fault *fault)
@@ -163,13 +169,7 @@ static uint32_t lend(lw_table *table, const row *row, uint64_t *number, lw_fault
 
 static uint32_t lease_read(lw_table *table, const row *row, uint64_t *number, lw_fault *fault)
 {
-    uint8_t buffer[16];
-    uint32_t status;
-
-    memcpy(buffer, bytes_of(*number), 8);
-    status = lw_lease_read(table, row->at, buffer, row->len, fault);
-    *number = number_in(buffer);
-    return status;
+    return read_by(lw_lease_read, table, row, number, fault);
 }
 
 static uint32_t lease_write(lw_table *table, const row *row, uint64_t *number, lw_fault *fault)
@@ -421,6 +421,45 @@ static const row FEW_EVENTS[] = {
     {"a query without a ticket", events, ANSWERS(3)},
 };
 
+/* Five leases at a time, and rebases behind several events. */
+static const row SEVERAL[] = {
+    {"host write", host_write, .at = LARGE, .len = 8, .bytes = 0x0102030405060708, DONE},
+    {"data of A and B", enter, {{LW_COPY, A, 16, 0}, {LW_COPY, B, 16, 0}}, 2, ANSWERS(1)},
+    {"data of C and many bytes", enter, {{LW_COPY, C, 16, 0}, {LW_COPY, LARGE, LARGE_SIZE, 0}}, 2, ANSWERS(2)},
+    {"data of 24 bytes", enter, {{LW_COPY, ODD, ODD_SIZE, 0}}, 1, ANSWERS(3)},
+    {"all five blocks are used", used, ANSWERS(16 + 16 + 16 + 8192 + 32)},
+    {"rebase of four events", rebase, ANSWERS(4)},
+
+    {"the first lease", lend, .region = 1, .at = A, .len = 16, ANSWERS(1)},
+    {"the second lease", lend, .region = 1, .at = B + 8, .len = 8, ANSWERS(2)},
+    {"the third lease, of many bytes", lend, .region = 2, .at = LARGE, .len = LARGE_SIZE, ANSWERS(3)},
+    {"the fourth lease, in another region", lend, .region = 3, .at = C, .len = 16, ANSWERS(4)},
+    {"the fifth lease", lend, .region = 3, .at = ODD + 8, .len = 16, ANSWERS(5)},
+    {"rebase of five events", rebase, ANSWERS(5)},
+    {"lease read of many bytes", lease_read, .at = 3, .len = LARGE_SIZE, ANSWERS(0x0102030405060708)},
+    {"lease write of many bytes", lease_write, .at = 3, .len = LARGE_SIZE, .bytes = 0x1112131415161718, DONE},
+    {"lease write of the last one", lease_write, .at = 5, .len = 16, .bytes = 0x2122232425262728, DONE},
+    {"gather from the middle", gather, .at = 3, DONE},
+    {"gather it twice", gather, .at = 3, REFUSED(LW_NO_LEASE, 0, 3)},
+    {"the last one stays", lease_read, .at = 5, .len = 16, ANSWERS(0x2122232425262728)},
+    {"the sixth lease, of the same block", lend, .region = 2, .at = LARGE, .len = 16, ANSWERS(6)},
+    {"it has the kernel's bytes", lease_read, .at = 6, .len = 16, ANSWERS(0x1112131415161718)},
+    {"gather the last one", gather, .at = 6, DONE},
+    {"gather the first one", gather, .at = 1, DONE},
+    {"gather the fifth", gather, .at = 5, DONE},
+    {"gather the second", gather, .at = 2, DONE},
+    {"gather the fourth", gather, .at = 4, DONE},
+    {"rebase of seven events", rebase, ANSWERS(7)},
+
+    {"end data", leave, .at = 3, DONE},
+    {"the host has the bytes of the fifth", host_read, .at = ODD + 8, .len = 16, ANSWERS(0x2122232425262728)},
+    {"end data of many bytes", leave, .at = 2, DONE},
+    {"the host has those of the third", host_read, .at = LARGE, .len = LARGE_SIZE, ANSWERS(0x1112131415161718)},
+    {"end data of A and B", leave, .at = 1, DONE},
+    {"nothing is used", used, ANSWERS(0)},
+    {"rebase of three events", rebase, ANSWERS(3)},
+};
+
 /* ---- The driver ---- */
 
 typedef struct scene {
@@ -437,6 +476,8 @@ static const scene SCENES[] = {
     {"usual, full traces", {HOST_SIZE, 64, 2, 1000, 2, 1, 1000, true}, ROWS(USUAL)},
     {"few events", {HOST_SIZE, 64, 2, 3, 2, 1, 1, false}, ROWS(FEW_EVENTS)},
     {"few events, full traces", {HOST_SIZE, 64, 2, 3, 2, 1, 1, true}, ROWS(FEW_EVENTS)},
+    {"several leases", {32768, 32768, 3, 1000, 2, 1, 1000, false}, ROWS(SEVERAL)},
+    {"several leases, full traces", {32768, 32768, 3, 1000, 2, 1, 1000, true}, ROWS(SEVERAL)},
 };
 
 static unsigned wrong;
@@ -573,6 +614,31 @@ static void check_short_tables(bool is_full)
     refused_growths += growth - 1;
     lw_table_end(&kept);
     lw_table_end(&none);
+}
+
+/* ---- Tables that end ---- */
+
+/* A table that is ended, or in whose place another one comes, gives back all of its memory, with its leases. */
+static void check_ends(bool is_full)
+{
+    static const lw_item item = {.clause = LW_COPYIN, .start = A, .len = 16};
+    lw_table table = LW_NO_TABLE;
+    lw_limits limits;
+    lw_fault fault;
+    uint64_t number;
+    size_t held = 0;
+
+    lw_limits_default(&limits);
+    limits.full = is_full;
+    for (int i = 0; i < 100; i++) {
+        lw_table_new(&table, &limits, &fault);
+        lw_enter(&table, &item, 1, &number, &fault);
+        lw_lend(&table, number, A, 16, &number, &fault);
+        held = i == 0 ? blocks_held() : held;
+        check(fault.status == LW_DONE && blocks_held() == held, "table", "the one before it has memory still");
+    }
+    lw_table_end(&table);
+    check(blocks_held() == 0, "table", "it has memory behind its end");
 }
 
 /* ---- Limits and texts ---- */
@@ -717,6 +783,8 @@ int main(void)
     }
     check_short_tables(false);
     check_short_tables(true);
+    check_ends(false);
+    check_ends(true);
     check_limits();
     check_texts();
     check_longest_text();

@@ -30,7 +30,7 @@ use Rattle.acc_table.specs.contracts.devices.Devices as Devices
 use Rattle.acc_table.specs.contracts.tables.Table as Table
 use Rattle.acc_runtime.specs.contracts.laws.Locked as Locked
 use Rattle.acc_runtime.specs.contracts.laws.Locked.TheInside as inside_locked
-use Rattle.acc_runtime.specs.contracts.runtime.Runtime as Runtime
+use Rattle.acc_runtime.specs.contracts.lock.Runtime as Runtime
 
 -- ---- the parts of a store
 

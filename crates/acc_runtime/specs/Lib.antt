@@ -1,6 +1,6 @@
 pub mod Shares
 pub mod Acts
 pub mod Books
-pub mod Drills
 pub mod Shared
+pub mod Drills
 pub mod Outcomes

@@ -1,10 +1,13 @@
 -- What a call on a shared table came to. Which table it met is known only while the lock is held: one that keeps the laws.
-use Rattle.std.specs.Prelude.{ℕ, ◌≡◌, List, Some, length}
+use Rattle.std.specs.Prelude.{ℕ, ◌≡◌, ◌/◌, ◌%◌, List, Some, length}
 use Rattle.acc_base.specs.declared.items.Section.{Section}
 use Rattle.acc_base.specs.declared.calls.Call.{Call}
+use Rattle.acc_base.specs.declared.calls.Call.TheVariants.{Do}
+use Rattle.acc_base.specs.declared.directives.Directive.TheVariants.{Step}
 use Rattle.acc_base.specs.declared.faults.Fault.{Fault}
+use Rattle.acc_base.specs.declared.transfers.TheConstants.{QUEUE_COUNT}
 use Rattle.acc_base.specs.Loans.{Leased}
-use Rattle.acc_base.specs.Calls.{World}
+use Rattle.acc_base.specs.Calls.{World, rebased}
 use Rattle.acc_table.specs.declared.calls.Reply.{Reply}
 use Rattle.acc_table.specs.Laws.{IsLawful}
 use Rattle.acc_table.specs.Queries.{host_read_of}
@@ -31,6 +34,10 @@ pub record WasRead (section : Section) (bytes : List ℕ) : Type 0 where
   pub lawful : IsLawful world
   pub read : host_read_of section world.state.host ≡ Some bytes
 
--- a table of which the laws held had so many stored events when they were folded into its base
+-- a table had so many stored events when they were folded into its base; it kept the laws before and after
 abbrev pub WasRebased : ℕ → Type 0
-WasRebased folded = (w : World) × IsLawful w × (folded ≡ length w.history.trace)
+WasRebased folded = (w : World) × IsLawful w × IsLawful (rebased w) × (folded ≡ length w.history.trace)
+
+-- the step that a word means: of a queue, on a device
+abbrev pub step_of : ℕ → Call Leased
+step_of word = Do (Step (word / QUEUE_COUNT) (word % QUEUE_COUNT))

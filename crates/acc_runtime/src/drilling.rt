@@ -1,15 +1,17 @@
 //! Many threads that enter and exit data regions over one array, and what that leaves.
 
-ghost use Rattle.std.specs.Prelude.{◌≡◌, ◌+◌, ◌*◌, ◌<◌, ◌≤◌, length, All, vec_len, vec_capacity, IfOk, IfNone, OnOk, OnErr};
+ghost use Rattle.std.specs.Prelude.{ℕ, ◌≡◌, ◌+◌, ◌-◌, ◌*◌, ◌<◌, ◌≤◌, ◌⊎◌, length, map, All, vec_len, vec_capacity, IfOk, IfNone, OnOk, OnErr};
 ghost use Rattle.std.specs.List.{AllByRecursion};
 ghost use Rattle.acc_base.specs.declared.mappings.Range.{Range};
 ghost use Rattle.acc_base.specs.Devices.{view};
-ghost use Rattle.acc_base.specs.Calls.{event_count};
-ghost use Rattle.acc_runtime.specs.Drills.{HasRounds, IsWorked};
+ghost use Rattle.acc_table.specs.declared.calls.Reply.TheVariants.{Done};
+ghost use Rattle.acc_runtime.specs.Shares.{Shares};
+ghost use Rattle.acc_runtime.specs.Shared.{WasAccepted};
+ghost use Rattle.acc_runtime.specs.Drills.{array_in, mapping, WasRound, HasStopped, HasRounds, IsWorked, first_fault, IsTold, WasTold};
 
 use crate::callers::Caller;
-use crate::runtime::Runtime;
-use acc_base::{EnterClause, Fault, HOST_BASE, Item, RegionClause, Section};
+use crate::lock::Runtime;
+use acc_base::{Counters, EnterClause, Fault, HOST_BASE, Item, RegionClause, Section};
 use acc_lend::Gate;
 use acc_table::Table;
 use std::alloc::{AllocError, Global};
@@ -47,7 +49,9 @@ struct Worker<Regions: Ledger, Tickets: Ledger, Events: Ledger> {
 }
 
 /// The items of a directive that names the array in one clause.
-fn array_in<C: Drop>(alloc: Global, clause: C) -> Result<Vec<Item<C>>, AllocError> {
+fn array_in<C: Drop>(alloc: Global, clause: C) -> Result<Vec<Item<C>>, AllocError>
+    ensures { IfOk result (λ items. items.items ≡ array_in clause) }
+{
     let mut items = Vec::new(alloc);
     items.push(Item {
         clause,
@@ -64,8 +68,10 @@ fn make_round<Regions: Ledger, Tickets: Ledger, Events: Ledger, R: Wait + AllocG
     caller: &mut Caller<Regions, Tickets, Events>,
 ) -> Result<(), Fault>
     ensures kept { caller.new.made + caller.new.tickets ≡ caller.old.made + caller.old.tickets }
+    ensures accepted { OnOk result (WasRound caller.old caller.new) }
     ensures made { OnOk result (caller.new.made ≡ caller.old.made + 2) }
     ensures back { OnOk result (caller.new.allowance ≡ caller.old.allowance) }
+    ensures stopped { OnErr result (HasStopped 0 caller.old caller.new) }
 {
     let items = array_in(rt.alloc(), RegionClause::Copyin)?;
     let region = runtime.enter(rt, caller, DEVICE, items)?;
@@ -86,6 +92,7 @@ fn make_rounds<Regions: Ledger, Tickets: Ledger, Events: Ledger, R: Wait + Alloc
     ensures kept { caller.new.made + caller.new.tickets ≡ caller.old.made + caller.old.tickets }
     ensures made { OnOk result (caller.new.made ≡ caller.old.made + 2 * rounds) }
     ensures back { OnOk result (caller.new.allowance ≡ caller.old.allowance) }
+    ensures stopped { OnErr result ((done : ℕ) × (done < rounds) × HasStopped done caller.old caller.new) }
 {
     for _i in 0..rounds {
         make_round(rt, runtime, caller)?;
@@ -106,7 +113,8 @@ fn work<Regions: Ledger, Tickets: Ledger, Events: Ledger, R: Wait + AllocGlobal,
     ensures { IsWorked rounds worker.new.caller worker.new.fault }
 {
     gate.before(rt, number);
-    worker.fault = make_rounds(rt, runtime, &mut worker.caller, rounds).err();
+    let outcome = make_rounds(rt, runtime, &mut worker.caller, rounds);
+    worker.fault = outcome.err();
     gate.after(rt, number);
 }
 
@@ -211,42 +219,39 @@ fn merge_all<Regions: Ledger, Tickets: Ledger, Events: Ledger>(
     ensures kept { caller.new.made + caller.new.tickets ≡ caller.old.made + caller.old.tickets + 2 * rounds * vec_len workers }
     ensures made { IfNone result (caller.new.made ≡ caller.old.made + 2 * rounds * vec_len workers) }
     ensures back { IfNone result (caller.new.allowance ≡ caller.old.allowance + vec_len workers) }
+    ensures most { caller.new.allowance ≤ caller.old.allowance + vec_len workers }
+    ensures entered { caller.old.allowance + vec_len workers + caller.old.made ≤ caller.new.allowance + caller.new.made }
+    ensures more { (caller.old.allowance ≤ caller.new.allowance) × (caller.old.made ≤ caller.new.made) }
+    ensures first { result ≡ first_fault (map (λ w. w.fault) workers.items) }
 {
-    let mut first = None;
+    let mut first: Option<Fault> = None;
     while let Some(worker) = workers.pop() {
         let Worker {
             caller: theirs,
             fault,
         } = worker;
         caller.merge(theirs);
-        if fault.is_some() {
-            first = fault;
-        }
+        first = fault.or(first);
     }
     first
 }
 
 /// What a table says of the array, to a caller with this allowance.
-#[tactic(auto, using(acc_table::proofs::Tallied::none_told))]
 fn tell(table: &Table, allowance: u64) -> Drilled
     ensures allowance { result.allowance ≡ allowance }
-    ensures events { result.events ≡ event_count table.now.history }
+    ensures told { IsTold table.now result }
     ensures structured { AllByRecursion (λ (r : Range). r.structured ≡ 0) (view 0 table.now.state).records.ranges → result.structured ≡ 0 }
 {
-    let events = table.events();
-    match table.counters(DEVICE, ARRAY) {
-        Some(counters) => Drilled {
-            allowance,
-            events,
-            structured: counters.structured,
-            dynamic: counters.dynamic,
-        },
-        None => Drilled {
-            allowance,
-            events,
-            structured: 0,
-            dynamic: 0,
-        },
+    let told = table.counters(DEVICE, ARRAY);
+    let counters = told.unwrap_or(Counters {
+        structured: 0,
+        dynamic: 0,
+    });
+    Drilled {
+        allowance,
+        events: table.events(),
+        structured: counters.structured,
+        dynamic: counters.dynamic,
     }
 }
 
@@ -260,6 +265,7 @@ fn look<Regions: Ledger, Tickets: Ledger, Events: Ledger, R: Wait>(
     ensures allowance { result.allowance ≡ caller.old.allowance }
     ensures events { caller.old.made + caller.old.tickets ≡ Tickets.parts → result.events ≡ caller.old.made }
     ensures idle { caller.old.allowance ≡ Regions.parts → result.structured ≡ 0 }
+    ensures told { WasTold Regions.parts Tickets.parts caller.old result }
 {
     let allowance = caller.allowance();
     runtime.look(rt, caller, |table| tell(table, allowance))
@@ -294,12 +300,17 @@ pub fn drill<
 ) -> Result<Drilled, Fault>
     requires threads { (0 < threads) × (threads ≤ 64) }
     requires rounds { (0 < rounds) × (rounds ≤ 1000) }
+    ensures mapped { OnOk result ((q : Shares) × WasAccepted caller.old mapping Done q) }
     ensures made { OnOk result (caller.new.made ≡ caller.old.made + (1 + 2 * rounds * threads)) }
     ensures tickets { OnOk result (caller.new.tickets + (1 + 2 * rounds * threads) ≡ caller.old.tickets) }
     ensures allowance { IfOk result (λ left. (caller.new.allowance ≡ caller.old.allowance) × (left.allowance ≡ caller.old.allowance)) }
     ensures idle { IfOk result (λ left. caller.old.allowance ≡ Regions.parts → left.structured ≡ 0) }
     ensures events { IfOk result (λ left. caller.new.made + caller.new.tickets ≡ Tickets.parts → left.events ≡ caller.new.made) }
+    ensures told { IfOk result (WasTold Regions.parts Tickets.parts caller.new) }
     ensures kept { OnErr result (caller.new.made + caller.new.tickets ≡ caller.old.made + caller.old.tickets) }
+    ensures short { (caller.old.allowance < threads) ⊎ (caller.old.tickets ≤ 2 * rounds * threads) → caller.new.allowance ≡ caller.old.allowance }
+    ensures most { OnErr result ((caller.new.allowance ≤ caller.old.allowance) × (caller.old.allowance ≤ caller.new.allowance + threads)) }
+    ensures entered { OnErr result (caller.old.allowance ≤ caller.new.allowance + (caller.new.made - (caller.old.made + 1))) }
 {
     let mut workers = Vec::with_capacity(rt.alloc(), threads)?;
     let mapped = array_in(rt.alloc(), EnterClause::Copyin)?;
@@ -312,5 +323,6 @@ pub fn drill<
     if let Some(fault) = merge_all(caller, workers, rounds) {
         return Err(fault);
     }
-    Ok(look(rt, runtime, caller))
+    let left = look(rt, runtime, caller);
+    Ok(left)
 }

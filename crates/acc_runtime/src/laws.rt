@@ -131,6 +131,13 @@ impl<Regions: Ledger, Tickets: Ledger, Events: Ledger> Locked<Regions, Tickets, 
         Ok(open_books(table, config, blanks))
     }
 
+    /// The limits.
+    pub fn config(&self) -> Config
+        ensures { result ≡ self.now.limits }
+    {
+        self.table.config()
+    }
+
     /// The laws hold. Nothing is done.
     pub fn laws(&self)
         ensures { IsLawful self.now }

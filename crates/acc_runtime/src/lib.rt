@@ -103,12 +103,28 @@
 //! abbrev pub ghosts-on_new_runtime-Regions-Ledger : goal.ghosts-on_new_runtime-Regions-Ledger
 //! ghosts-on_new_runtime-Regions-Ledger a = record { name = a.blanks.regions.name; parts = a.blanks.regions.parts }
 //! ```
+//!
+//! A function that hands a runtime and a caller to another thread needs one too, here
+//! `proofs/map_twice/Answers.antt`, with the name of the crate in place of `example`:
+//!
+//! ```text
+//! use denote.Param.Send.{sendable}
+//! use Rattle.std.proofs.Crossing.{crosses}
+//! use Rattle.acc_runtime.proofs.Crossing.{runtime_sync}
+//! use Rattle.acc_runtime.proofs.callers.Caller.TheSendSync.{the_send as caller_send}
+//! use Rattle.example.proofs.map_twice.Goals as goal
+//!
+//! pub join-first-requires-send-F : goal.join-first-requires-send-F
+//! join-first-requires-send-F g c κs within = search (sendable, crosses, runtime_sync, caller_send) depth 40 fits 10000
+//! ```
 #![tactic(auto)]
 
 mod callers;
+mod calls;
 mod drilling;
 pub mod laws;
 mod ledgers;
+mod lock;
 mod locked;
 mod outcomes;
 mod regions;
@@ -119,6 +135,7 @@ pub use acc_lend::{Gate, Lease, Open};
 pub use callers::Caller;
 pub use drilling::{Drilled, drill};
 pub use ledgers::Blanks;
+pub use lock::Runtime;
 pub use regions::Region;
-pub use runtime::{Runtime, blanks};
+pub use runtime::blanks;
 pub use serving::{Served, serve};

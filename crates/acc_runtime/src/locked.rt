@@ -9,12 +9,11 @@ ghost use Rattle.acc_table.specs.declared.calls.Reply.TheVariants.{Done, Entered
 ghost use Rattle.acc_runtime.specs.Acts.{IsActed, IsDenied};
 
 use crate::callers::Caller;
+use crate::calls;
 use crate::laws::Locked;
 use crate::outcomes::{done, drained, entered, exited, gathered, leased, stepped};
 use crate::regions::Region;
-use acc_base::{
-    Directive, EnterClause, ExitClause, Fault, Item, List, RegionClause, Section, UpdateClause,
-};
+use acc_base::{EnterClause, ExitClause, Fault, Item, RegionClause, Section, UpdateClause};
 use acc_lend::Lease;
 use acc_table::Call;
 use std::sync::ledger::Ledger;
@@ -35,8 +34,7 @@ impl<Regions: Ledger, Tickets: Ledger, Events: Ledger> Locked<Regions, Tickets, 
         ensures refused { IfErr result (IsDenied caller.old self.old (Do (Enter device items.items))) }
         ensures same { OnErr result ((self.new ≡ self.old) × (caller.new ≡ caller.old)) }
     {
-        let items = List::from_vec(items);
-        entered(self.act(caller, Call::Do(Directive::Enter { device, items })))
+        entered(self.act(caller, calls::enter(device, items)))
     }
 
     /// Exits from an open data region, which is spent, on its own device (OpenACC 3.3, section 2.6.5, data construct).
@@ -53,11 +51,8 @@ impl<Regions: Ledger, Tickets: Ledger, Events: Ledger> Locked<Regions, Tickets, 
         ensures refused { IfErr result (λ back. IsDenied caller.old self.old (Do (Exit region)) back.1) }
         ensures same { IfErr result (λ back. (back.0 ≡ region) × (self.new ≡ self.old) × (caller.new ≡ caller.old)) }
     {
-        let number = region.number();
-        exited(
-            self.act(caller, Call::Do(Directive::Exit { number })),
-            region,
-        )
+        let outcome = self.act(caller, calls::exit(&region));
+        exited(outcome, region)
     }
 
     /// Carries out an `enter data` directive on a device (OpenACC 3.3, section 2.6.6).
@@ -76,15 +71,7 @@ impl<Regions: Ledger, Tickets: Ledger, Events: Ledger> Locked<Regions, Tickets, 
         ensures refused { IfErr result (IsDenied caller.old self.old (Do (EnterData device items.items queue))) }
         ensures same { OnErr result ((self.new ≡ self.old) × (caller.new ≡ caller.old)) }
     {
-        let items = List::from_vec(items);
-        done(self.act(
-            caller,
-            Call::Do(Directive::EnterData {
-                device,
-                items,
-                queue,
-            }),
-        ))
+        done(self.act(caller, calls::enter_data(device, items, queue)))
     }
 
     /// Carries out an `exit data` directive on a device (OpenACC 3.3, section 2.6.6).
@@ -104,16 +91,7 @@ impl<Regions: Ledger, Tickets: Ledger, Events: Ledger> Locked<Regions, Tickets, 
         ensures refused { IfErr result (IsDenied caller.old self.old (Do (ExitData device items.items finalize queue))) }
         ensures same { OnErr result ((self.new ≡ self.old) × (caller.new ≡ caller.old)) }
     {
-        let items = List::from_vec(items);
-        done(self.act(
-            caller,
-            Call::Do(Directive::ExitData {
-                device,
-                items,
-                finalize,
-                queue,
-            }),
-        ))
+        done(self.act(caller, calls::exit_data(device, items, finalize, queue)))
     }
 
     /// Carries out an `update` directive on a device (OpenACC 3.3, the update directive).
@@ -133,16 +111,7 @@ impl<Regions: Ledger, Tickets: Ledger, Events: Ledger> Locked<Regions, Tickets, 
         ensures refused { IfErr result (IsDenied caller.old self.old (Do (Update device items.items if_present queue))) }
         ensures same { OnErr result ((self.new ≡ self.old) × (caller.new ≡ caller.old)) }
     {
-        let items = List::from_vec(items);
-        done(self.act(
-            caller,
-            Call::Do(Directive::Update {
-                device,
-                items,
-                if_present,
-                queue,
-            }),
-        ))
+        done(self.act(caller, calls::update(device, items, if_present, queue)))
     }
 
     /// Makes the transfers of a queue of a device, or of all its queues (OpenACC 3.3, the wait directive), and answers
@@ -161,7 +130,7 @@ impl<Regions: Ledger, Tickets: Ledger, Events: Ledger> Locked<Regions, Tickets, 
         ensures refused { IfErr result (IsDenied caller.old self.old (Do (Wait device queue))) }
         ensures same { OnErr result ((self.new ≡ self.old) × (caller.new ≡ caller.old)) }
     {
-        drained(self.act(caller, Call::Do(Directive::Wait { device, queue })))
+        drained(self.act(caller, calls::wait(device, queue)))
     }
 
     /// Makes the next transfer of a queue of a device (OpenACC 3.3, section 2.16), and answers whether there was one.
@@ -180,7 +149,7 @@ impl<Regions: Ledger, Tickets: Ledger, Events: Ledger> Locked<Regions, Tickets, 
         ensures refused { IfErr result (IsDenied caller.old self.old (Do (Step device queue))) }
         ensures same { OnErr result ((self.new ≡ self.old) × (caller.new ≡ caller.old)) }
     {
-        stepped(self.act(caller, Call::Do(Directive::Step { device, queue })))
+        stepped(self.act(caller, calls::step(device, queue)))
     }
 
     /// Writes bytes into host memory, from a host address on.
@@ -198,8 +167,7 @@ impl<Regions: Ledger, Tickets: Ledger, Events: Ledger> Locked<Regions, Tickets, 
         ensures refused { IfErr result (IsDenied caller.old self.old (HostWrite addr bytes.items)) }
         ensures same { OnErr result ((self.new ≡ self.old) × (caller.new ≡ caller.old)) }
     {
-        let bytes = List::from_vec(bytes);
-        done(self.act(caller, Call::HostWrite { addr, bytes }))
+        done(self.act(caller, calls::host_write(addr, bytes)))
     }
 
     /// Lends the block of a section, in an open data region and on its device (OpenACC 3.3, section 2.5, compute
@@ -218,8 +186,7 @@ impl<Regions: Ledger, Tickets: Ledger, Events: Ledger> Locked<Regions, Tickets, 
         ensures refused { IfErr result (IsDenied caller.old self.old (Lend region.now section)) }
         ensures same { OnErr result ((self.new ≡ self.old) × (caller.new ≡ caller.old)) }
     {
-        let region = region.number();
-        leased(self.act(caller, Call::Lend { region, section }))
+        leased(self.act(caller, calls::lend(region, section)))
     }
 
     /// Brings a lease back, which is spent, to its own device (OpenACC 3.3, section 2.5, compute constructs).

@@ -1,4 +1,5 @@
-//! What a call came to, as its caller is answered. A call that came back refused is let go here, when the lock is free.
+//! What a call came to, as its caller is answered. A call that came back refused is let go here: that of a runtime when
+//! its lock is free.
 
 ghost use Rattle.std.specs.Prelude.{◌≡◌, ◌⊎◌, if◌then◌else◌, Ok, Err, IfOk, IfErr, MatchResult};
 ghost use Rattle.acc_base.specs.declared.calls.Call.TheVariants.{Gather};

@@ -1,4 +1,4 @@
-//! A table under one lock, for any number of threads.
+//! The calls on a table under one lock, for any number of threads.
 
 ghost use Rattle.std.specs.Prelude.{◌≡◌, ◌≤◌, if◌then◌else◌, vec_len, vec_capacity, Ok, IfOk, IfErr, OnOk, OnErr, IfSome, MatchResult};
 ghost use Rattle.std.specs.Fn.{FnOnceReturnsAt, FnOnceTakesAt};
@@ -13,42 +13,19 @@ ghost use Rattle.acc_runtime.specs.Books.{IsSettled};
 ghost use Rattle.acc_runtime.specs.Shared.{WasAccepted, WasRefused, WasRead, WasRebased};
 
 use crate::callers::Caller;
+use crate::calls;
 use crate::laws::Locked;
 use crate::ledgers::Blanks;
+use crate::lock::Runtime;
 use crate::outcomes::{Outcome, done, drained, entered, exited, gathered, leased, stepped};
 use crate::regions::Region;
 use acc_base::{
-    Config, Directive, EnterClause, ExitClause, Fault, HOST_BASE, Item, List, RegionClause,
-    Section, UpdateClause,
+    Config, EnterClause, ExitClause, Fault, HOST_BASE, Item, RegionClause, Section, UpdateClause,
 };
 use acc_lend::Lease;
 use acc_table::{Call, Table};
-use std::marker::Model;
+use std::sync::Wait;
 use std::sync::ledger::{Blank, Ledger};
-use std::sync::{Mutex, Wait};
-
-/// One table and its lock, which any number of threads share by reference.
-///
-/// Each call takes the lock once, and may wait for it. The lock covers one [`Table::apply`], one look, or one copy, and
-/// nothing else: lists are made before it is taken, and dropped after it is released. Whenever it is free, the laws of
-/// [`Locked`] hold of the table.
-///
-/// Which table a call meets is up to the threads. So contracts say that it met one of which the laws hold, and what
-/// came of the call there. They see a runtime as its limits.
-#[derive(Drop)]
-pub struct Runtime<Regions: Ledger, Tickets: Ledger, Events: Ledger> {
-    lock: Mutex<Locked<Regions, Tickets, Events>>,
-    // A copy of the table's, to be read without the lock.
-    config: Config,
-}
-
-impl<Regions: Ledger, Tickets: Ledger, Events: Ledger> Model for Runtime<Regions, Tickets, Events> {
-    ghost use Rattle.acc_base.specs.Limits.{Limits};
-
-    ghost Value = { Limits };
-
-    ghost view = { λ runtime. runtime.config };
-}
 
 impl<Regions: Ledger, Tickets: Ledger, Events: Ledger> Runtime<Regions, Tickets, Events> {
     /// A runtime with a new table: nothing is mapped, no region is open, and host memory is zero. And its first caller,
@@ -77,15 +54,7 @@ impl<Regions: Ledger, Tickets: Ledger, Events: Ledger> Runtime<Regions, Tickets,
         ensures err { IfErr result (λ fault. fault ≡ Memory) }
     {
         let (locked, caller) = Locked::new(rt.alloc(), config, blanks)?;
-        let lock = Mutex::new(locked);
-        Ok((Runtime { lock, config }, caller))
-    }
-
-    /// The limits.
-    pub fn config(&self) -> Config
-        ensures { result ≡ self.now }
-    {
-        self.config
+        Ok((Runtime::of(locked), caller))
     }
 
     /// Makes one call, with the lock held for no longer.
@@ -100,7 +69,7 @@ impl<Regions: Ledger, Tickets: Ledger, Events: Ledger> Runtime<Regions, Tickets,
         ensures refused { IfErr result (λ back. WasRefused caller.old call back.1) }
         ensures same { IfErr result (λ back. (back.0 ≡ call) × (caller.new ≡ caller.old)) }
     {
-        let mut locked = self.lock.lock(rt);
+        let mut locked = self.lock(rt);
         locked.laws();
         let outcome = locked.act(caller, call);
         locked.laws();
@@ -123,8 +92,7 @@ impl<Regions: Ledger, Tickets: Ledger, Events: Ledger> Runtime<Regions, Tickets,
         ensures refused { IfErr result (WasRefused caller.old (Do (Enter device items.items))) }
         ensures same { OnErr result (caller.new ≡ caller.old) }
     {
-        let items = List::from_vec(items);
-        entered(self.act(rt, caller, Call::Do(Directive::Enter { device, items })))
+        entered(self.act(rt, caller, calls::enter(device, items)))
     }
 
     /// Exits from an open data region, which is spent, on its own device (OpenACC 3.3, section 2.6.5, data construct).
@@ -142,11 +110,8 @@ impl<Regions: Ledger, Tickets: Ledger, Events: Ledger> Runtime<Regions, Tickets,
         ensures refused { IfErr result (λ back. WasRefused caller.old (Do (Exit region)) back.1) }
         ensures same { IfErr result (λ back. (back.0 ≡ region) × (caller.new ≡ caller.old)) }
     {
-        let number = region.number();
-        exited(
-            self.act(rt, caller, Call::Do(Directive::Exit { number })),
-            region,
-        )
+        let outcome = self.act(rt, caller, calls::exit(&region));
+        exited(outcome, region)
     }
 
     /// Carries out an `enter data` directive on a device, with an `async` clause where a queue is named (OpenACC 3.3,
@@ -167,16 +132,7 @@ impl<Regions: Ledger, Tickets: Ledger, Events: Ledger> Runtime<Regions, Tickets,
         ensures refused { IfErr result (WasRefused caller.old (Do (EnterData device items.items queue))) }
         ensures same { OnErr result (caller.new ≡ caller.old) }
     {
-        let items = List::from_vec(items);
-        done(self.act(
-            rt,
-            caller,
-            Call::Do(Directive::EnterData {
-                device,
-                items,
-                queue,
-            }),
-        ))
+        done(self.act(rt, caller, calls::enter_data(device, items, queue)))
     }
 
     /// Carries out an `exit data` directive on a device, with a `finalize` clause or without, and with an `async`
@@ -198,17 +154,7 @@ impl<Regions: Ledger, Tickets: Ledger, Events: Ledger> Runtime<Regions, Tickets,
         ensures refused { IfErr result (WasRefused caller.old (Do (ExitData device items.items finalize queue))) }
         ensures same { OnErr result (caller.new ≡ caller.old) }
     {
-        let items = List::from_vec(items);
-        done(self.act(
-            rt,
-            caller,
-            Call::Do(Directive::ExitData {
-                device,
-                items,
-                finalize,
-                queue,
-            }),
-        ))
+        done(self.act(rt, caller, calls::exit_data(device, items, finalize, queue)))
     }
 
     /// Carries out an `update` directive on a device, with an `if_present` clause or without, and with an `async`
@@ -230,17 +176,7 @@ impl<Regions: Ledger, Tickets: Ledger, Events: Ledger> Runtime<Regions, Tickets,
         ensures refused { IfErr result (WasRefused caller.old (Do (Update device items.items if_present queue))) }
         ensures same { OnErr result (caller.new ≡ caller.old) }
     {
-        let items = List::from_vec(items);
-        done(self.act(
-            rt,
-            caller,
-            Call::Do(Directive::Update {
-                device,
-                items,
-                if_present,
-                queue,
-            }),
-        ))
+        done(self.act(rt, caller, calls::update(device, items, if_present, queue)))
     }
 
     /// Makes the transfers that wait in a queue of a device, or in all its queues, and answers how many they were
@@ -260,7 +196,7 @@ impl<Regions: Ledger, Tickets: Ledger, Events: Ledger> Runtime<Regions, Tickets,
         ensures refused { IfErr result (WasRefused caller.old (Do (WaitFor device queue))) }
         ensures same { OnErr result (caller.new ≡ caller.old) }
     {
-        drained(self.act(rt, caller, Call::Do(Directive::Wait { device, queue })))
+        drained(self.act(rt, caller, calls::wait(device, queue)))
     }
 
     /// Makes the next transfer of a queue of a device, and answers whether there was one (OpenACC 3.3, section 2.16,
@@ -280,7 +216,7 @@ impl<Regions: Ledger, Tickets: Ledger, Events: Ledger> Runtime<Regions, Tickets,
         ensures refused { IfErr result (WasRefused caller.old (Do (Step device queue))) }
         ensures same { OnErr result (caller.new ≡ caller.old) }
     {
-        stepped(self.act(rt, caller, Call::Do(Directive::Step { device, queue })))
+        stepped(self.act(rt, caller, calls::step(device, queue)))
     }
 
     /// Writes bytes into host memory, from a host address on.
@@ -299,8 +235,7 @@ impl<Regions: Ledger, Tickets: Ledger, Events: Ledger> Runtime<Regions, Tickets,
         ensures refused { IfErr result (WasRefused caller.old (HostWrite addr bytes.items)) }
         ensures same { OnErr result (caller.new ≡ caller.old) }
     {
-        let bytes = List::from_vec(bytes);
-        done(self.act(rt, caller, Call::HostWrite { addr, bytes }))
+        done(self.act(rt, caller, calls::host_write(addr, bytes)))
     }
 
     /// Lends the block of a section that is mapped on the device of an open data region, and answers its lease (OpenACC
@@ -320,8 +255,7 @@ impl<Regions: Ledger, Tickets: Ledger, Events: Ledger> Runtime<Regions, Tickets,
         ensures refused { IfErr result (WasRefused caller.old (Lend region.now section)) }
         ensures same { OnErr result (caller.new ≡ caller.old) }
     {
-        let region = region.number();
-        leased(self.act(rt, caller, Call::Lend { region, section }))
+        leased(self.act(rt, caller, calls::lend(region, section)))
     }
 
     /// Brings a lease back, which is spent, to its own device (OpenACC 3.3, section 2.5, compute constructs).
@@ -357,11 +291,11 @@ impl<Regions: Ledger, Tickets: Ledger, Events: Ledger> Runtime<Regions, Tickets,
         ensures bytes { IfOk result (λ bytes. WasRead section bytes.items) }
         ensures err { IfErr result (λ fault. MatchResult (in_host self.now 0 section) (λ _. fault ≡ Memory) (λ outside. fault ≡ outside)) }
     {
-        check_host(&self.config, section)?;
+        check_host(self.config(), section)?;
         let copy = Vec::with_capacity(rt.alloc(), section.len as usize)?;
         match self.copied(rt, section, copy) {
             Some(bytes) => Ok(bytes),
-            // The table has the size that the configuration says, which no type tells.
+            // Its host memory is as large as the limits say. That is so since the runtime was made, and no type tells it.
             None => Err(Fault::Memory),
         }
     }
@@ -372,14 +306,14 @@ impl<Regions: Ledger, Tickets: Ledger, Events: Ledger> Runtime<Regions, Tickets,
         requires room { section.len ≤ vec_capacity copy }
         ensures { IfSome result (λ bytes. WasRead section bytes.items) }
     {
-        let locked = self.lock.lock(rt);
+        let locked = self.lock(rt);
         locked.laws();
         locked.host_read(section, copy)
     }
 
     /// Makes what the table has its base, and answers how many events were stored, as [`Table::rebase`] does. It is no
     /// event and takes no caller. A program that runs for long calls it now and then, so that the trace never gets full
-    /// and its memory is used again.
+    /// and its memory is used again. The old base and the events are freed while the lock is held.
     ///
     /// # Errors
     ///
@@ -388,15 +322,17 @@ impl<Regions: Ledger, Tickets: Ledger, Events: Ledger> Runtime<Regions, Tickets,
         ensures folded { IfOk result WasRebased }
         ensures err { IfErr result (λ fault. fault ≡ Memory) }
     {
-        let mut locked = self.lock.lock(rt);
+        let mut locked = self.lock(rt);
         locked.laws();
-        locked.rebase()
+        let outcome = locked.rebase();
+        locked.laws();
+        outcome
     }
 
     /// Calls `look` once on the table, and answers what it answers. The table is as it was when the lock was taken. All
     /// laws of [`Locked`] hold of it, and all that [`Locked::settled`] tells of this caller: with the whole allowance no
     /// region is open there, and every structured counter of each device is zero. Until `look` returns, no other thread
-    /// gets on.
+    /// gets on, and a call that it makes itself on the same runtime waits for ever.
     pub fn look<R: Wait, T, F: FnOnce(&Table) -> T>(
         &self,
         rt: &R,
@@ -407,7 +343,7 @@ impl<Regions: Ledger, Tickets: Ledger, Events: Ledger> Runtime<Regions, Tickets,
         ensures same { caller.new ≡ caller.old }
         ensures called { (w : World) × IsSettled Regions.parts Tickets.parts caller.old w × FnOnceReturnsAt F.FnOnce look w result }
     {
-        self.lock.lock(rt).look(caller, look)
+        self.lock(rt).look(caller, look)
     }
 }
 
@@ -426,8 +362,8 @@ pub fn blanks(config: &Config) -> Blanks
 }
 
 /// The section is empty, or lies in host memory.
-fn check_host(config: &Config, section: Section) -> Result<(), Fault>
-    ensures { result ≡ in_host config.now 0 section }
+fn check_host(config: Config, section: Section) -> Result<(), Fault>
+    ensures { result ≡ in_host config 0 section }
 {
     let inside = match section.start.checked_sub(HOST_BASE) {
         Some(offset) => section.len <= config.host() && offset <= config.host() - section.len,

@@ -1,14 +1,12 @@
 //! A worker that makes the transfers of the queues that it is told of.
 
-ghost use Rattle.std.specs.Prelude.{◌≡◌, ◌≤◌, ◌+◌, ◌/◌, ◌%◌, if◌then◌else◌, IfOk, IfErr, OnErr};
-ghost use Rattle.acc_base.specs.declared.calls.Call.TheVariants.{Do};
-ghost use Rattle.acc_base.specs.declared.directives.Directive.TheVariants.{Step};
-ghost use Rattle.acc_base.specs.declared.transfers.TheConstants.{QUEUE_COUNT};
+ghost use Rattle.std.specs.Prelude.{◌≡◌, ◌≤◌, ◌+◌, ◌⊎◌, true, false, if◌then◌else◌, IfOk, IfErr, OnErr};
+ghost use Rattle.acc_base.specs.declared.faults.Fault.{Fault as Refusal};
 ghost use Rattle.acc_table.specs.declared.calls.Reply.TheVariants.{Done, Idle};
-ghost use Rattle.acc_runtime.specs.Shared.{WasAccepted, WasRefused};
+ghost use Rattle.acc_runtime.specs.Shared.{WasAccepted, WasRefused, step_of};
 
 use crate::callers::Caller;
-use crate::runtime::Runtime;
+use crate::lock::Runtime;
 use acc_base::{Fault, QUEUE_COUNT};
 use acc_lend::Gate;
 use crossbeam_channel::Receiver;
@@ -20,7 +18,7 @@ use std::sync::ledger::Ledger;
 pub struct Served {
     /// How many transfers it made.
     pub steps: u64,
-    /// How often a step was refused, where more than 2^64 are not counted.
+    /// How often a step was refused, of which no more than 2^64 - 1 are counted.
     pub refusals: u64,
 }
 
@@ -31,8 +29,8 @@ fn step_of<Regions: Ledger, Tickets: Ledger, Events: Ledger, R: Wait>(
     caller: &mut Caller<Regions, Tickets, Events>,
     word: u64,
 ) -> Result<bool, Fault>
-    ensures accepted { IfOk result (λ made. WasAccepted caller.old (Do (Step (word / QUEUE_COUNT) (word % QUEUE_COUNT))) (if made then Done else Idle) caller.new) }
-    ensures refused { IfErr result (WasRefused caller.old (Do (Step (word / QUEUE_COUNT) (word % QUEUE_COUNT)))) }
+    ensures accepted { IfOk result (λ made. WasAccepted caller.old (step_of word) (if made then Done else Idle) caller.new) }
+    ensures refused { IfErr result (WasRefused caller.old (step_of word)) }
     ensures same { OnErr result (caller.new ≡ caller.old) }
 {
     runtime.step(rt, caller, word / QUEUE_COUNT, word % QUEUE_COUNT)
@@ -49,6 +47,9 @@ fn drain<Regions: Ledger, Tickets: Ledger, Events: Ledger, R: Wait>(
     ensures events { caller.new.made + caller.new.tickets ≡ caller.old.made + caller.old.tickets }
     ensures more { caller.old.made ≤ caller.new.made }
     ensures allowance { caller.new.allowance ≡ caller.old.allowance }
+    ensures most { caller.new.made ≤ caller.old.made + runtime.now.queue_cap }
+    ensures drained { result ≡ false → WasAccepted caller.new (step_of word) Idle caller.new ⊎ (caller.new.made ≡ caller.old.made + runtime.now.queue_cap) }
+    ensures refused { result ≡ true → (fault : Refusal) × WasRefused caller.new (step_of word) fault }
 {
     for _i in 0..runtime.config().queue_cap() {
         match step_of(rt, runtime, caller, word) {
@@ -66,7 +67,8 @@ fn drain<Regions: Ledger, Tickets: Ledger, Events: Ledger, R: Wait>(
 /// queue is empty, or a step was refused, or as many steps were made as a queue may have. The lock is free between two
 /// steps, and while the gate is called.
 ///
-/// A word of a device that is not there is a refusal, as every step is that the table or the caller's shares refuse.
+/// A word of a device that is not there is a refusal, as every step is that the table or the caller's shares refuse. The
+/// words behind it are served too. The numbers for the gate end at `usize::MAX`, which all later words get.
 pub fn serve<Regions: Ledger, Tickets: Ledger, Events: Ledger, R: Wait, G: Gate<R>>(
     rt: &R,
     runtime: &Runtime<Regions, Tickets, Events>,

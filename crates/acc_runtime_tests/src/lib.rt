@@ -1,23 +1,28 @@
 //! Tests of `acc_runtime`, and of the parts of kernels that run in threads: what no clause of them says. They stand in a
-//! crate of their own, so that those are proved once and not twice.
+//! crate of their own, so that those are proved once and not twice. A test with `growth` in its name passes where any one
+//! growth of memory, or any one start of a thread, is refused to its program, too.
 #![tactic(auto)]
 
 #[cfg(test)]
-mod calls;
+mod actors;
 #[cfg(test)]
-mod devices;
+mod crowd;
 #[cfg(test)]
-mod eight;
+mod drills;
 #[cfg(test)]
 mod example;
 #[cfg(test)]
-mod meetings;
+mod gates;
+#[cfg(test)]
+mod lives;
 #[cfg(test)]
 mod messages;
 #[cfg(test)]
 mod parts;
 #[cfg(test)]
 mod scenes;
+#[cfg(test)]
+mod serving;
 #[cfg(test)]
 mod shares;
 

@@ -1,10 +1,12 @@
-//! Threads that find what another did, and exit from what another entered.
+//! Threads that find what another did, that exit from what another entered, and that serve queues at the same time.
 
+use crate::actors::{Actor, Deed, Opened};
+use crate::gates::{Meeting, Numbered};
 use crate::same;
-use crate::scenes::{Scene, on_new_runtime};
-use acc_base::{Fault, RegionClause};
-use acc_runtime::{Caller, Gate, Region, Runtime};
-use acc_runtime_actors::{Actor, Meeting, limits};
+use crate::scenes::{Scene, limits, on_a_new_runtime};
+use crate::serving::bells;
+use acc_base::{Fault, RegionClause, UpdateClause};
+use acc_runtime::{Caller, Gate, Runtime, Served, serve};
 use std::process::Abort;
 use std::rt::Clock;
 use std::sync::Wait;
@@ -17,11 +19,16 @@ const TELLER: usize = 0;
 
 const TOLD: usize = 1;
 
-/// What a thread found: open regions, events, and whether the array is present; whether its bytes are those that were
-/// written; and what a mapping was refused for.
-type Finding = ((u64, u64, bool), Result<bool, Fault>, Result<(), Fault>);
+/// What the one thread does.
+const DONE: [(Deed, Result<u64, Fault>); 2] = [(Deed::EnterData, Ok(0)), (Deed::Write(7), Ok(0))];
 
-/// Looks at the array once it is told, with a caller that has no shares.
+/// What the other finds, with a caller that has no shares.
+const FOUND: [(Deed, Result<u64, Fault>); 3] = [
+    (Deed::IsPresent, Ok(1)),
+    (Deed::Reads(7), Ok(1)),
+    (Deed::EnterData, Err(Fault::NoTickets { left: 0 })),
+];
+
 fn find_when_told<
     Regions: Ledger,
     Tickets: Ledger,
@@ -32,33 +39,25 @@ fn find_when_told<
     runtime: &Runtime<Regions, Tickets, Events>,
     caller: Caller<Regions, Tickets, Events>,
     meeting: &Meeting,
-) -> (Caller<Regions, Tickets, Events>, Finding) {
-    let mut actor = Actor {
-        rt,
-        runtime,
-        caller,
-        device: 0,
-    };
+) -> Caller<Regions, Tickets, Events> {
+    let mut actor = Actor::new(rt, runtime, caller);
     meeting.before(rt, TOLD);
-    let finding = (actor.state(), actor.has_everywhere(7), actor.enter_data());
+    actor.make_all(&FOUND);
     let Actor { caller, .. } = actor;
-    (caller, finding)
+    caller
 }
 
-/// Maps the array and writes it, and tells the other thread.
-fn map_and_tell<
+fn do_and_tell<
     Regions: Ledger,
     Tickets: Ledger,
     Events: Ledger,
     R: Abort + Wait + Clock + AllocGlobal,
 >(actor: &mut Actor<Regions, Tickets, Events, R>, meeting: &Meeting) {
-    let mapped = actor.enter_data();
-    let written = actor.write(7);
+    actor.make_all(&DONE);
     meeting.after(actor.rt, TELLER);
-    same(actor.rt, (mapped, written), (Ok(()), Ok(())));
 }
 
-/// One thread maps the array and writes it. The other, which may make no event, finds that when it is told.
+/// One thread maps the array and writes it. The other finds that when it is told.
 pub fn tell<
     Regions: Ledger + Send + Sync,
     Tickets: Ledger + Send + Sync,
@@ -67,23 +66,21 @@ pub fn tell<
 >(actor: &mut Actor<Regions, Tickets, Events, R>) -> Result<(), Fault> {
     let other = actor.caller.split(0, 0)?;
     let (rt, runtime) = (actor.rt, actor.runtime);
-    let meeting = Meeting::new(TOLD, TELLER);
+    let meeting = Meeting::new(TELLER);
     let meeting = &meeting;
-    let ((other, finding), ()) = join(
+    let (other, ()) = join(
         rt,
         move || find_when_told(rt, runtime, other, meeting),
-        || map_and_tell(actor, meeting),
+        || do_and_tell(actor, meeting),
     );
     actor.caller.merge(other);
-    let refused = Err(Fault::NoTickets { left: 0 });
-    same(rt, finding, ((0, 2, true), Ok(true), refused));
     same(rt, actor.shares(), (64, 98, 2));
     Ok(())
 }
 
 #[test]
 fn a_thread_finds_what_another_tells_it_of(rt: HostRuntime) -> Result<(), Fail> {
-    on_new_runtime(&rt, Scene::Tell, limits(64, 100)?)?;
+    on_a_new_runtime(&rt, Scene::Tell, limits(64, 100)?)?;
     Ok(())
 }
 
@@ -92,15 +89,10 @@ fn enter<Regions: Ledger, Tickets: Ledger, Events: Ledger, R: Abort + Wait + All
     rt: &R,
     runtime: &Runtime<Regions, Tickets, Events>,
     caller: Caller<Regions, Tickets, Events>,
-) -> (Caller<Regions, Tickets, Events>, Result<Region, Fault>) {
-    let mut actor = Actor {
-        rt,
-        runtime,
-        caller,
-        device: 0,
-    };
-    let region = actor.enter(RegionClause::Copy);
-    let Actor { caller, .. } = actor;
+) -> (Caller<Regions, Tickets, Events>, Option<Opened>) {
+    let mut actor = Actor::new(rt, runtime, caller);
+    actor.make_as(Deed::Enter(RegionClause::Copy), Ok(1));
+    let Actor { caller, region, .. } = actor;
     (caller, region)
 }
 
@@ -118,20 +110,83 @@ pub fn hand_over<
         move || enter(rt, runtime, other),
         || actor.caller.allowance(),
     );
-    let exited = match region {
-        Ok(region) => actor.exit_or_leave(region),
-        Err(fault) => Err(fault),
-    };
-    same(rt, (left, exited), (63, Ok(())));
-    same(rt, (other.allowance(), actor.caller.allowance()), (0, 64));
+    actor.region = region;
+    actor.make_as(Deed::Exit, Ok(0));
+    same(
+        rt,
+        (left, other.allowance(), actor.caller.allowance()),
+        (63, 0, 64),
+    );
     actor.caller.merge(other);
-    same(rt, actor.state(), (0, 2, false));
+    same(rt, actor.state(), (0, 2, 0));
     same(rt, actor.shares(), (64, 98, 2));
     Ok(())
 }
 
 #[test]
 fn a_thread_exits_from_what_another_entered(rt: HostRuntime) -> Result<(), Fail> {
-    on_new_runtime(&rt, Scene::HandOver, limits(64, 100)?)?;
+    on_a_new_runtime(&rt, Scene::HandOver, limits(64, 100)?)?;
+    Ok(())
+}
+
+/// What is done before two workers serve: a copy waits for each.
+const QUEUED: [(Deed, Result<u64, Fault>); 3] = [
+    (Deed::EnterData, Ok(0)),
+    (Deed::Update(UpdateClause::ToSelf, false, Some(3)), Ok(0)),
+    (Deed::Update(UpdateClause::ToSelf, false, Some(4)), Ok(0)),
+];
+
+/// What each of them does.
+const SERVED: Served = Served {
+    steps: 1,
+    refusals: 0,
+};
+
+/// Serves a queue under the number of a worker, who takes part in a meeting, and gives its caller back.
+fn serve_own<Regions: Ledger, Tickets: Ledger, Events: Ledger, R: Clock + Wait + AllocGlobal>(
+    rt: &R,
+    runtime: &Runtime<Regions, Tickets, Events>,
+    mut caller: Caller<Regions, Tickets, Events>,
+    meeting: &Meeting,
+    number: usize,
+) -> (Caller<Regions, Tickets, Events>, Result<Served, Fault>) {
+    let gate = Numbered { meeting, number };
+    let served = match bells(rt, rt.alloc(), &[3 + number as u64 % 2]) {
+        Ok(from) => Ok(serve(rt, runtime, &mut caller, from, &gate)),
+        Err(fault) => Err(fault),
+    };
+    (caller, served)
+}
+
+/// Both workers serve, and have to meet.
+pub fn serve_both<
+    Regions: Ledger + Send + Sync,
+    Tickets: Ledger + Send + Sync,
+    Events: Ledger + Send + Sync,
+    R: Abort + Clock + Threads + Wait + AllocGlobal + Sync,
+>(actor: &mut Actor<Regions, Tickets, Events, R>, first: usize) -> Result<(), Fault> {
+    actor.make_all(&QUEUED);
+    let one = actor.caller.split(0, 10)?;
+    let two = actor.caller.split(0, 10)?;
+    let (rt, runtime) = (actor.rt, actor.runtime);
+    let meeting = Meeting::new(first);
+    let meeting = &meeting;
+    let ((one, served), (two, other)) = join(
+        rt,
+        move || serve_own(rt, runtime, one, meeting, 0),
+        move || serve_own(rt, runtime, two, meeting, 1),
+    );
+    actor.caller.merge(one);
+    actor.caller.merge(two);
+    same(rt, (served, other), (Ok(SERVED), Ok(SERVED)));
+    same(rt, (actor.caller.made(), meeting.took_place(2)), (5, true));
+    Ok(())
+}
+
+#[test]
+fn either_worker_waits_for_the_other(rt: HostRuntime) -> Result<(), Fail> {
+    for first in [0, 1] {
+        on_a_new_runtime(&rt, Scene::Workers(first), limits(64, 100)?)?;
+    }
     Ok(())
 }

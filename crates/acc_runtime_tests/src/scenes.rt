@@ -2,10 +2,11 @@
 
 ghost use Rattle.std.specs.Prelude.{◌≡◌};
 
-use crate::{calls, devices, eight, meetings, messages, shares};
+use crate::actors::Actor;
+use crate::{crowd, drills, lives, messages, same, serving, shares};
 use acc_base::{Config, Fault};
-use acc_runtime::{Blanks, Caller, Runtime, blanks};
-use acc_runtime_actors::Actor;
+use acc_runtime::{Blanks, Runtime, blanks};
+use acc_table::Table;
 use std::marker::Brand;
 use std::process::Abort;
 use std::rt::Clock;
@@ -16,28 +17,39 @@ use std::thread::Threads;
 /// What is tried on a new runtime.
 #[derive(Clone, Copy)]
 pub enum Scene {
-    /// Reads of host memory at its ends.
-    Reads,
-    /// Queued transfers.
-    Queues,
-    /// A region that is not exited while its block is lent.
-    Loans,
-    /// Eight threads over one array.
-    Eight,
+    /// A life of an array.
+    Life(lives::Mode),
+    /// A worker that is told which queues to serve.
+    Bells { retries: bool },
+    /// A drill, and what it leaves.
+    Drill(drills::Drilling),
     /// Callers that are split and merged, and refused by their own shares.
     Shares,
-    /// A drill of two threads, of which one is held until the other is done.
-    Drill { held: usize, first: usize },
-    /// Two workers, of which one is held until the other is done.
-    Workers { held: usize, first: usize },
+    /// Regions of two devices.
+    Devices,
+    /// Two workers, of which one is held until that of the number is done.
+    Workers(usize),
     /// A thread that is told of what another did.
     Tell,
     /// A thread that exits from what another entered.
     HandOver,
-    /// Regions of two devices.
-    Settled,
-    /// A worker that serves the queues of two devices.
-    Words,
+    /// Eight threads over one array, and each over one of its own.
+    Crowd,
+}
+
+/// The limits of most runtimes.
+pub fn limits(regions: u64, tickets: u64) -> Result<Config, Fault> {
+    Config::new(4_096, 4_096, regions, tickets, 4_294_967_295, 4, 262_144)
+}
+
+/// Full traces, and limits of which none is that of other runtimes.
+pub fn other_limits() -> Result<Config, Fault> {
+    Ok(Config::new(8_192, 2_048, 7, 40, 5, 2, 30)?.with_full_trace())
+}
+
+/// The limits of most runtimes, of two devices.
+pub fn two_devices() -> Result<Config, Fault> {
+    limits(64, 100)?.with_devices(2)
 }
 
 /// Plays a scene on a new runtime.
@@ -52,58 +64,58 @@ fn play_on_new<
     requires events { (blanks.events.name ≡ Events.name) × (blanks.events.parts ≡ Events.parts) × (config.tickets ≡ Events.parts) }
 {
     let (runtime, caller) = Runtime::<Regions, Tickets, Events>::new(rt, config, blanks)?;
-    play_with(rt, &runtime, caller, scene)
+    Actor::new(rt, &runtime, caller).play(scene, config)
 }
 
-/// Plays a scene with the first caller of a runtime.
-fn play_with<
+impl<
     Regions: Ledger + Send + Sync,
     Tickets: Ledger + Send + Sync,
     Events: Ledger + Send + Sync,
     R: Abort + Clock + Threads + Wait + AllocGlobal + Sync,
->(
-    rt: &R,
-    runtime: &Runtime<Regions, Tickets, Events>,
-    caller: Caller<Regions, Tickets, Events>,
-    scene: Scene,
-) -> Result<(), Fault> {
-    let mut actor = Actor {
-        rt,
-        runtime,
-        caller,
-        device: 0,
-    };
-    play(&mut actor, scene)
-}
+> Actor<'_, Regions, Tickets, Events, R> {
+    /// The runtime and its table have these limits.
+    fn has_limits(&mut self, config: Config) {
+        let table = self
+            .runtime
+            .look(self.rt, &mut self.caller, |table: &Table| table.config());
+        same(self.rt, (table, self.runtime.config()), (config, config));
+    }
 
-/// Plays a scene.
-fn play<
-    Regions: Ledger + Send + Sync,
-    Tickets: Ledger + Send + Sync,
-    Events: Ledger + Send + Sync,
-    R: Abort + Clock + Threads + Wait + AllocGlobal + Sync,
->(actor: &mut Actor<Regions, Tickets, Events, R>, scene: Scene) -> Result<(), Fault> {
-    match scene {
-        Scene::Reads => calls::read_ends(actor),
-        Scene::Queues => calls::map_and_queue(actor),
-        Scene::Loans => calls::enter_and_lend(actor),
-        Scene::Eight => eight::run_and_look(actor),
-        Scene::Shares => shares::split_and_merge(actor),
-        Scene::Drill { held, first } => meetings::meet_in_drill(actor, held, first),
-        Scene::Workers { held, first } => meetings::serve_both(actor, held, first),
-        Scene::Tell => messages::tell(actor),
-        Scene::HandOver => messages::hand_over(actor),
-        Scene::Settled => devices::settle(actor),
-        Scene::Words => devices::serve_words(actor),
+    /// Plays a scene.
+    fn play(&mut self, scene: Scene, config: Config) -> Result<(), Fault> {
+        self.has_limits(config);
+        match scene {
+            Scene::Life(mode) => lives::live(self, mode),
+            Scene::Bells { retries } => serving::ring(self, retries),
+            Scene::Drill(drilling) => self.run_drill(drilling),
+            Scene::Shares => shares::split_and_merge(self),
+            Scene::Devices => shares::enter_both(self),
+            Scene::Workers(first) => messages::serve_both(self, first),
+            Scene::Tell => messages::tell(self),
+            Scene::HandOver => messages::hand_over(self),
+            Scene::Crowd => crowd::run_and_look(self),
+        }
     }
 }
 
 /// Plays a scene on a new runtime with these limits.
-pub fn on_new_runtime<R: Abort + Clock + Threads + Wait + AllocGlobal + Sync>(
+pub fn on_a_new_runtime<R: Abort + Clock + Threads + Wait + AllocGlobal + Sync>(
     rt: &R,
     scene: Scene,
     config: Config,
 ) -> Result<(), Fault> {
     let blanks = blanks(&config);
     play_on_new::<Brand, Brand, Brand, R>(rt, scene, config, blanks)
+}
+
+/// Plays a scene on a new runtime, and on another one where memory was refused for the first.
+pub fn again_on_a_new_runtime<R: Abort + Clock + Threads + Wait + AllocGlobal + Sync>(
+    rt: &R,
+    scene: Scene,
+    config: Config,
+) -> Result<(), Fault> {
+    match on_a_new_runtime(rt, scene, config) {
+        Err(Fault::Memory) => on_a_new_runtime(rt, scene, config),
+        answer => answer,
+    }
 }

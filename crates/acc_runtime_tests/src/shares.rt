@@ -1,15 +1,14 @@
-//! Callers that are split and merged, and refused by their own shares.
+//! Callers that are split and merged, and refused by their own shares; and what a caller knows whose regions are of two
+//! devices.
 
+use crate::actors::{Actor, Deed};
 use crate::same;
-use crate::scenes::{Scene, on_new_runtime};
+use crate::scenes::{Scene, limits, on_a_new_runtime, two_devices};
 use acc_base::{Fault, RegionClause};
-use acc_runtime_actors::{Actor, limits};
 use std::process::Abort;
-use std::rt::Clock;
 use std::sync::Wait;
 use std::sync::ledger::Ledger;
 use std::test::Fail;
-use std::thread::Threads;
 
 /// What is split off a caller with 64 regions and 100 tickets in vain: regions, tickets, and the refusal.
 const REFUSED: [(u64, u64, Fault); 2] = [
@@ -17,35 +16,30 @@ const REFUSED: [(u64, u64, Fault); 2] = [
     (65, 1, Fault::NoAllowance { left: 64 }),
 ];
 
-/// What is split off, and what an entry is refused for by those shares.
-const SHORT: [(u64, u64, Fault); 2] = [
-    (0, 0, Fault::NoTickets { left: 0 }),
-    (0, 1, Fault::NoAllowance { left: 0 }),
+/// What is split off, and what an entry comes to by those shares.
+const SHARES: [(u64, u64, Result<u64, Fault>); 3] = [
+    (0, 0, Err(Fault::NoTickets { left: 0 })),
+    (0, 1, Err(Fault::NoAllowance { left: 0 })),
+    (1, 1, Ok(1)),
 ];
 
-/// What an entry of a caller with so many regions and tickets of an actor's comes to. They are merged again.
-fn entered<Regions: Ledger, Tickets: Ledger, Events: Ledger, R: Abort + Wait + AllocGlobal>(
+/// A caller with so many regions and tickets of an actor's enters, and both are merged again.
+fn enter_with<Regions: Ledger, Tickets: Ledger, Events: Ledger, R: Abort + Wait + AllocGlobal>(
     actor: &mut Actor<Regions, Tickets, Events, R>,
-    regions: u64,
-    tickets: u64,
+    shares: (u64, u64),
+    wanted: Result<u64, Fault>,
 ) -> Result<(), Fault> {
-    let caller = actor.caller.split(regions, tickets)?;
-    let mut other = Actor {
-        rt: actor.rt,
-        runtime: actor.runtime,
-        caller,
-        device: 0,
-    };
-    let outcome = match other.enter(RegionClause::Copy) {
-        Ok(region) => other.exit_or_leave(region),
-        Err(fault) => Err(fault),
-    };
-    let Actor { caller, .. } = other;
+    let caller = actor.caller.split(shares.0, shares.1)?;
+    let mut other = Actor::new(actor.rt, actor.runtime, caller);
+    other.make_as(Deed::Enter(RegionClause::Create { zero: true }), wanted);
+    let Actor { caller, region, .. } = other;
     actor.caller.merge(caller);
-    outcome
+    actor.region = region;
+    Ok(())
 }
 
-/// Splits callers off, lets them be refused, and merges them.
+/// Splits callers off, lets them be refused, and merges them. The region that is entered with shares of another caller
+/// gives its place to the one that exits.
 pub fn split_and_merge<
     Regions: Ledger,
     Tickets: Ledger,
@@ -56,16 +50,49 @@ pub fn split_and_merge<
         let refused = actor.caller.split(regions, tickets).err();
         same(actor.rt, refused, Some(fault));
     }
-    for &(regions, tickets, fault) in &SHORT {
-        same(actor.rt, entered(actor, regions, tickets), Err(fault));
+    for &(regions, tickets, wanted) in &SHARES {
+        enter_with(actor, (regions, tickets), wanted)?;
     }
-    same(actor.rt, entered(actor, 1, 2), Ok(()));
+    same(actor.rt, actor.shares(), (63, 99, 1));
+    actor.make_as(Deed::Exit, Ok(0));
     same(actor.rt, actor.shares(), (64, 98, 2));
     Ok(())
 }
 
 #[test]
 fn callers_are_refused_by_their_own_shares(rt: HostRuntime) -> Result<(), Fail> {
-    on_new_runtime(&rt, Scene::Shares, limits(64, 100)?)?;
+    on_a_new_runtime(&rt, Scene::Shares, limits(64, 100)?)?;
+    Ok(())
+}
+
+/// A region is entered on each of two devices, and the one that was entered last is exited first.
+const BOTH: [(Deed, Result<u64, Fault>); 13] = [
+    (Deed::On(1), Ok(0)),
+    (Deed::Enter(RegionClause::Copy), Ok(1)),
+    (Deed::Structured, Ok(1)),
+    (Deed::On(0), Ok(0)),
+    (Deed::Structured, Ok(0)),
+    (Deed::Enter(RegionClause::Copy), Ok(2)),
+    (Deed::Structured, Ok(1)),
+    (Deed::Exit, Ok(0)),
+    (Deed::Structured, Ok(0)),
+    (Deed::On(1), Ok(0)),
+    (Deed::Structured, Ok(1)),
+    (Deed::Exit, Ok(0)),
+    (Deed::Structured, Ok(0)),
+];
+
+/// Makes those calls. Behind them the caller has the whole allowance.
+pub fn enter_both<Regions: Ledger, Tickets: Ledger, Events: Ledger, R: Abort + Wait + AllocGlobal>(
+    actor: &mut Actor<Regions, Tickets, Events, R>,
+) -> Result<(), Fault> {
+    actor.make_all(&BOTH);
+    same(actor.rt, actor.shares(), (64, 96, 4));
+    Ok(())
+}
+
+#[test]
+fn no_structured_counter_counts_with_the_whole_allowance(rt: HostRuntime) -> Result<(), Fail> {
+    on_a_new_runtime(&rt, Scene::Devices, two_devices()?)?;
     Ok(())
 }

@@ -1,42 +1,41 @@
-//! What no clause says: that calls succeed, that the definitions say what is meant, and what is left where an end or
-//! memory fails. What a script prints is a row of a table, and one function runs a row.
-
-ghost use Rattle.std.specs.Prelude.{◌≤◌};
+//! What scripts print and how they end: worked examples, tables with small limits, and what is left where a source, a sink
+//! or memory fails. What the program does over sources, sinks and files in memory.
 
 use acc_base::{Config, Fault, ScriptFault};
-use acc_script::{MemorySink, MemorySource, Status, run};
-use faults::{FAULTS, INPUTS, LONG, Long, PIECES, TEXTS};
-use kernels::{KERNELS, SCARCE};
-use pointers::POINTERS;
-use queues::QUEUES;
-use rows::{REGIONS, SCRIPTS, SMALL, WIDE};
-use std::alloc::AllocError;
+use acc_command::{FileStore, tool};
+use acc_follow::Output;
+use acc_script::{MemorySink, MemorySource, Sink, Status};
+use std::alloc::{AllocError, Global};
+use std::cell::Cell;
 use std::fmt::Debug;
 use std::process::Abort;
 use std::sync::Wait;
 use std::test::Fail;
 use std::thread::Threads;
+use worked::{FAULTS, KERNELS, LIVES, REFUSALS};
 
+mod command_lines;
 mod cuts;
 mod ends;
-mod faults;
-mod kernels;
-mod pointers;
-mod queues;
-mod rows;
+mod growths;
+mod limits;
+mod outputs;
+mod pictures;
+mod programs;
 mod streams;
+mod worked;
+
+/// The options, a script, what it prints, what is told on standard error, and the status.
+type Row = (&'static str, &'static [u8], &'static str, &'static str, u8);
 
 /// The sizes of host and device, and the limits of regions, tickets, counters, queues and trace.
 type Limits = [u64; 7];
 
+/// The program's limits.
+const WIDE: Limits = [65_536, 65_536, 64, 1_048_576, 4_294_967_295, 256, 262_144];
+
 /// How a script ends: its status, or the line at fault and why.
 type End = Result<Status, (u64, ScriptFault)>;
-
-/// A script within wide limits, what it prints, and how it ends.
-type Row = (&'static str, &'static str, End);
-
-/// Limits, a script, what it prints, and how it ends.
-type SmallRow = (Limits, &'static str, &'static str, End);
 
 /// No line was refused.
 const CLEAN: End = Ok(Status::Clean);
@@ -44,26 +43,21 @@ const CLEAN: End = Ok(Status::Clean);
 /// Some line was refused.
 const REFUSED: End = Ok(Status::Refused);
 
+/// Limits, a script, what it prints, and how it ends.
+type LimitedRow = (Limits, &'static [u8], &'static str, End);
+
 /// The configuration of some limits.
 fn config(limits: &Limits) -> Result<Config, Fault> {
-    let [
-        host,
-        device,
-        regions,
-        tickets,
-        counter_max,
-        queue_cap,
-        trace_cap,
-    ] = *limits;
-    Config::new(
-        host,
-        device,
-        regions,
-        tickets,
-        counter_max,
-        queue_cap,
-        trace_cap,
-    )
+    let [host, device, regions, tickets, counters, queues, trace] = *limits;
+    Config::new(host, device, regions, tickets, counters, queues, trace)
+}
+
+/// The answer of a run that ends so.
+fn answer_of(end: End) -> Result<Status, Fault> {
+    match end {
+        Ok(status) => Ok(status),
+        Err((line, kind)) => Err(Fault::Script { line, kind }),
+    }
 }
 
 /// Compares what was found at a place with what is wanted there.
@@ -76,212 +70,165 @@ fn same<R: Abort, T: PartialEq + Debug + Copy, P: Debug + Copy>(
     assert_eq!(rt; found, wanted, "at {place:?}");
 }
 
-/// Runs a script within limits, each kernel in so many parts at most; compares what it prints and how it ends.
-fn check<R: Abort + Threads + Wait + Sync + AllocGlobal>(
-    rt: &R,
-    limits: &Limits,
-    parts: usize,
-    script: &[u8],
-    printed: &str,
-    end: End,
-) -> Result<(), Fault>
-    requires { (1 ≤ parts) × (parts ≤ 64) }
-{
-    let config = config(limits)?;
-    let mut reader = MemorySource::new(script);
-    let mut writer = MemorySink::new(rt.alloc());
-    let answer = run(rt, &mut reader, &mut writer, config, parts);
-    same(rt, writer.as_slice(), printed.as_bytes(), script);
-    same(rt, answer, answer_of(end), script);
-    Ok(())
+/// The words of a command line: the program's name, and the options between blanks.
+fn words(alloc: Global, options: &str) -> Result<Vec<String>, AllocError> {
+    let mut words = Vec::new(alloc);
+    add_words(&mut words, alloc, "accrun")?;
+    add_words(&mut words, alloc, options)?;
+    Ok(words)
 }
 
-/// The answer of a run that ends so.
-fn answer_of(end: End) -> Result<Status, Fault> {
-    match end {
-        Ok(status) => Ok(status),
-        Err((line, kind)) => Err(Fault::Script { line, kind }),
-    }
-}
-
-/// Runs the scripts of some rows, each kernel in so many parts at most.
-fn check_rows<R: Abort + Threads + Wait + Sync + AllocGlobal>(
-    rt: &R,
-    parts: usize,
-    rows: &[Row],
-) -> Result<(), Fault>
-    requires { (1 ≤ parts) × (parts ≤ 64) }
-{
-    for (script, printed, end) in rows {
-        check(rt, &WIDE, parts, script.as_bytes(), printed, *end)?;
+/// Adds the words between blanks.
+fn add_words(words: &mut Vec<String>, alloc: Global, text: &str) -> Result<(), AllocError> {
+    for word in text.split_whitespace() {
+        words.push(String::from_str(alloc, word)?)?;
     }
     Ok(())
 }
 
-/// Runs the scripts of some rows, each within its limits.
-fn check_small_rows<R: Abort + Threads + Wait + Sync + AllocGlobal>(
-    rt: &R,
-    rows: &[SmallRow],
-) -> Result<(), Fault> {
-    for (limits, script, printed, end) in rows {
-        check(rt, limits, 1, script.as_bytes(), printed, *end)?;
+/// A store that has no file. It takes pictures, and looks whether each has some texts.
+#[derive(Drop)]
+struct PictureStore {
+    /// What a picture has to have.
+    wanted: &'static [&'static str],
+    /// How many pictures were written that have all of it.
+    pictures: Cell<u64>,
+}
+
+impl FileStore for PictureStore {
+    fn read(&self, _name: &str) -> Result<Vec<u8>, Fault> {
+        Err(Fault::Read)
     }
-    Ok(())
-}
 
-#[test]
-fn scripts_print_and_end(rt: HostRuntime) -> Result<(), Fail> {
-    check_rows(&rt, 1, SCRIPTS)?;
-    Ok(())
-}
-
-#[test]
-fn regions_print_and_end(rt: HostRuntime) -> Result<(), Fail> {
-    check_rows(&rt, 1, REGIONS)?;
-    Ok(())
-}
-
-#[test]
-fn pointers_print_and_end(rt: HostRuntime) -> Result<(), Fail> {
-    check_rows(&rt, 1, POINTERS)?;
-    Ok(())
-}
-
-#[test]
-fn queues_print_and_end(rt: HostRuntime) -> Result<(), Fail> {
-    check_rows(&rt, 1, QUEUES)?;
-    Ok(())
-}
-
-#[test]
-fn kernels_print_and_end(rt: HostRuntime) -> Result<(), Fail> {
-    check_rows(&rt, 1, KERNELS)?;
-    check_rows(&rt, 3, KERNELS)?;
-    check_rows(&rt, 64, KERNELS)?;
-    Ok(())
-}
-
-#[test]
-fn small_tables_refuse(rt: HostRuntime) -> Result<(), Fail> {
-    check_small_rows(&rt, SMALL)?;
-    Ok(())
-}
-
-#[test]
-fn small_tables_refuse_kernels(rt: HostRuntime) -> Result<(), Fail> {
-    check_small_rows(&rt, SCARCE)?;
-    Ok(())
-}
-
-/// Some text, another so many times, and some text.
-#[derive(Clone, Copy)]
-pub struct Parts<'a> {
-    first: &'a str,
-    piece: &'a str,
-    count: usize,
-    last: &'a str,
-}
-
-/// Appends the parts to a script.
-fn join(script: &mut Vec<u8>, parts: Parts<'_>) -> Result<(), AllocError> {
-    script.extend_from_slice(parts.first.as_bytes())?;
-    for _ in 0..parts.count {
-        script.extend_from_slice(parts.piece.as_bytes())?;
-    }
-    script.extend_from_slice(parts.last.as_bytes())
-}
-
-/// Runs the script of some parts within wide limits, and compares what it prints and how it ends.
-fn check_joined<R: Abort + Threads + Wait + Sync + AllocGlobal>(
-    rt: &R,
-    parts: Parts<'_>,
-    printed: &str,
-    end: End,
-) -> Result<(), Fault> {
-    let mut script = Vec::new(rt.alloc());
-    join(&mut script, parts)?;
-    check(rt, &WIDE, 1, &script, printed, end)
-}
-
-/// Runs a script that is clean, and compares what it prints with the text of some parts.
-fn check_text<R: Abort + Threads + Wait + Sync + AllocGlobal>(
-    rt: &R,
-    script: &str,
-    parts: Parts<'_>,
-) -> Result<(), Fail> {
-    let mut printed = Vec::new(rt.alloc());
-    join(&mut printed, parts)?;
-    check(
-        rt,
-        &WIDE,
-        1,
-        script.as_bytes(),
-        str::from_utf8(&printed)?,
-        CLEAN,
-    )?;
-    Ok(())
-}
-
-/// Runs the scripts of some parts.
-fn check_long_rows<R: Abort + Threads + Wait + Sync + AllocGlobal>(
-    rt: &R,
-    rows: &[Long],
-) -> Result<(), Fault> {
-    for &(parts, printed, end) in rows {
-        check_joined(rt, parts, printed, end)?;
-    }
-    Ok(())
-}
-
-/// Runs a line at fault behind the declaration of an array.
-fn check_fault<R: Abort + Threads + Wait + Sync + AllocGlobal>(
-    rt: &R,
-    kind: ScriptFault,
-    line: &str,
-) -> Result<(), Fault> {
-    let parts = Parts {
-        first: "array a 16\n",
-        piece: line,
-        count: 1,
-        last: "",
-    };
-    check_joined(rt, parts, "", Err((2, kind)))
-}
-
-#[test]
-fn lines_at_fault_are_told(rt: HostRuntime) -> Result<(), Fail> {
-    for &(kind, lines) in &FAULTS {
-        for line in lines {
-            check_fault(&rt, kind, line)?;
+    fn write(&self, name: &str, bytes: &[u8]) -> bool {
+        if name.starts_with("none/") {
+            return false;
         }
+        if let Ok(text) = str::from_utf8(bytes) {
+            if self.wanted.iter().all(|part| has_part(name, text, part)) {
+                self.pictures.set(self.pictures.get().saturating_add(1));
+            }
+        }
+        true
+    }
+}
+
+/// Whether a picture of a name has a part.
+fn has_part(name: &str, text: &str, part: &str) -> bool {
+    name == part || text.contains(part)
+}
+
+/// A store whose pictures are looked at for these texts.
+fn pictures_with(wanted: &'static [&'static str]) -> PictureStore {
+    PictureStore {
+        wanted,
+        pictures: Cell::new(0),
+    }
+}
+
+/// Runs the program over memory, and answers the status.
+fn run_tool<R: Threads + Wait + Sync + AllocGlobal, O: Output, E: Sink>(
+    rt: &R,
+    options: &str,
+    script: &[u8],
+    out: &mut O,
+    err: &mut E,
+    store: &PictureStore,
+) -> Result<u8, AllocError> {
+    let words = words(rt.alloc(), options)?;
+    let mut reader = MemorySource::new(script);
+    Ok(tool(rt, words, &mut reader, out, err, store))
+}
+
+/// Compares what was told and the status with what is wanted at a place.
+fn check_status<R: Abort, P: Debug + Copy>(
+    rt: &R,
+    err: &MemorySink,
+    status: u8,
+    told: &str,
+    wanted: u8,
+    place: P,
+) {
+    same(rt, err.as_slice(), told.as_bytes(), place);
+    same(rt, status, wanted, place);
+}
+
+/// Runs the script of a row, and compares.
+fn check_row<R: Threads + Wait + Sync + AllocGlobal + Abort>(
+    rt: &R,
+    row: &Row,
+) -> Result<(), AllocError> {
+    let (options, script, printed, told, status) = *row;
+    let mut out = MemorySink::new(rt.alloc());
+    let mut err = MemorySink::new(rt.alloc());
+    let found = run_tool(rt, options, script, &mut out, &mut err, &pictures_with(&[]))?;
+    check_status(rt, &err, found, told, status, script);
+    same(rt, out.as_slice(), printed.as_bytes(), script);
+    Ok(())
+}
+
+/// Runs the scripts of all rows, and compares.
+fn check_rows<R: Threads + Wait + Sync + AllocGlobal + Abort>(
+    rt: &R,
+    rows: &[Row],
+) -> Result<(), AllocError> {
+    for row in rows {
+        check_row(rt, row)?;
     }
     Ok(())
 }
 
 #[test]
-fn inputs_at_fault_are_told(rt: HostRuntime) -> Result<(), Fail> {
-    for &(input, end) in &INPUTS {
-        check(&rt, &WIDE, 1, input, "", end)?;
+fn lives_of_arrays_print_and_end(rt: HostRuntime) -> Result<(), Fail> {
+    check_rows(&rt, LIVES)?;
+    Ok(())
+}
+
+#[test]
+fn kernels_and_drills_print_and_end(rt: HostRuntime) -> Result<(), Fail> {
+    check_rows(&rt, KERNELS)?;
+    Ok(())
+}
+
+#[test]
+fn refusals_are_printed(rt: HostRuntime) -> Result<(), Fail> {
+    check_rows(&rt, REFUSALS)?;
+    Ok(())
+}
+
+#[test]
+fn faults_are_told(rt: HostRuntime) -> Result<(), Fail> {
+    for &(script, told) in FAULTS {
+        check_row(&rt, &("", script, "", told, 2))?;
     }
     Ok(())
 }
 
-#[test]
-fn long_lines_are_read(rt: HostRuntime) -> Result<(), Fail> {
-    check_long_rows(&rt, LONG)?;
+/// Runs a line of so many bytes, which is a comment, and compares.
+fn check_comment<R: Threads + Wait + Sync + AllocGlobal + Abort>(
+    rt: &R,
+    len: usize,
+    told: &str,
+    status: u8,
+) -> Result<(), AllocError> {
+    let line = "#".repeat(rt.alloc(), len)?;
+    let mut out = MemorySink::new(rt.alloc());
+    let mut err = MemorySink::new(rt.alloc());
+    let found = run_tool(
+        rt,
+        "",
+        line.as_bytes(),
+        &mut out,
+        &mut err,
+        &pictures_with(&[]),
+    )?;
+    check_status(rt, &err, found, told, status, len);
     Ok(())
 }
 
 #[test]
-fn scripts_of_many_pieces_are_read(rt: HostRuntime) -> Result<(), Fail> {
-    check_long_rows(&rt, PIECES)?;
-    Ok(())
-}
-
-#[test]
-fn long_texts_are_printed(rt: HostRuntime) -> Result<(), Fail> {
-    for &(script, parts) in &TEXTS {
-        check_text(&rt, script, parts)?;
-    }
+fn a_line_has_4096_bytes_at_most(rt: HostRuntime) -> Result<(), Fail> {
+    check_comment(&rt, 4_096, "", 0)?;
+    check_comment(&rt, 4_097, "accrun: line 1: TooLong\n", 2)?;
     Ok(())
 }

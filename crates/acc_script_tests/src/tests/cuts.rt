@@ -1,8 +1,7 @@
 //! Scripts that are cut: each front of one ends with a status or a fault, and prints a front of what the whole prints.
 
-use super::queues::ENDED_BLOCK;
-use super::rows::WIDE;
-use super::{config, same};
+use super::worked::ENDED_BLOCK;
+use super::{WIDE, config, same};
 use acc_base::Fault;
 use acc_script::{MemorySink, MemorySource, run};
 use std::process::Abort;
@@ -49,7 +48,7 @@ fn check_cut<R: Abort + Threads + Wait + Sync + AllocGlobal>(
     let mut writer = MemorySink::new(rt.alloc());
     let answer = run(rt, &mut reader, &mut writer, config(&WIDE)?, 1);
     same(rt, is_end(&answer), true, cut);
-    let whole = ENDED_BLOCK.1.as_bytes();
+    let whole = ENDED_BLOCK.2.as_bytes();
     same(
         rt,
         is_front(writer.as_slice(), whole, shown_by(cut)),
@@ -61,9 +60,8 @@ fn check_cut<R: Abort + Threads + Wait + Sync + AllocGlobal>(
 
 #[test]
 fn each_front_of_a_script_prints_a_front(rt: HostRuntime) -> Result<(), Fail> {
-    let script = ENDED_BLOCK.0.as_bytes();
-    for (len, _) in script.iter().enumerate() {
-        check_cut(&rt, &script[..len])?;
+    for (len, _) in ENDED_BLOCK.1.iter().enumerate() {
+        check_cut(&rt, &ENDED_BLOCK.1[..len])?;
     }
     Ok(())
 }

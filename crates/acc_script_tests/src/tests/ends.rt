@@ -1,56 +1,32 @@
-//! What is left where a source, a sink or memory fails, and that the ends of std can be used.
+//! What is left where the source or the sink of a script fails, or gives too much.
 
-use super::queues::ENDED_BLOCK;
-use super::rows::WIDE;
-use super::{Limits, REFUSED, Row, answer_of, config, same};
-use acc_base::{Config, Fault};
-use acc_script::{FromRead, MemorySink, MemorySource, Sink, Source, Status, ToWrite, report, run};
+use super::worked::ENDED_BLOCK;
+use super::{Limits, Row, WIDE, config, same};
+use acc_base::Fault;
+use acc_follow::Output;
+use acc_script::{MemorySink, MemorySource, Sink, Source, Status, report, run};
 use acc_table::Table;
-use std::io::{self, ErrorKind, Write};
 use std::process::Abort;
 use std::sync::Wait;
 use std::test::Fail;
 use std::thread::Threads;
 
-/// What a report says of a small table on which nothing was done.
-const SMALL_REPORT: &[u8; 44] = b"host 64 device 32 used 0\nregions 0 events 0\n";
-
-/// The limits of such a table.
+/// The limits of a small table.
 pub const SMALL_LIMITS: Limits = [64, 32, 1, 1, 1, 1, 1];
 
-/// Reports a table, and compares.
+/// Reports a small table on which nothing was done, and compares.
 fn check_report<R: Abort + AllocGlobal>(rt: &R, table: &Table) {
     let mut writer = MemorySink::new(rt.alloc());
     let reported = report(table, &mut writer);
+    let text = b"host 64 device 32 used 0\nregions 0 events 0\n";
     same(rt, reported, Ok(()), "report");
-    same(rt, writer.as_slice(), SMALL_REPORT.as_slice(), "report");
+    same(rt, writer.as_slice(), text.as_slice(), "report");
 }
 
 #[test]
 fn reports_a_table(rt: HostRuntime) -> Result<(), Fail> {
     let table = Table::new(rt.alloc(), config(&SMALL_LIMITS)?)?;
     check_report(&rt, &table);
-    Ok(())
-}
-
-/// Runs a script over a reader and a writer of std, and compares the answer.
-fn check_over_std<R: Abort + Threads + Wait + Sync + AllocGlobal>(
-    rt: &R,
-    config: Config,
-    printed: &mut [u8],
-) {
-    let mut reader = FromRead::new(b"report".as_slice());
-    let mut writer = ToWrite::new(printed);
-    let got = run(rt, &mut reader, &mut writer, config, 64);
-    same(rt, writer.flush(), true, "flush");
-    same(rt, got, Ok(Status::Clean), "run");
-}
-
-#[test]
-fn runs_over_readers_and_writers(rt: HostRuntime) -> Result<(), Fail> {
-    let mut printed = [0u8; 44];
-    check_over_std(&rt, config(&SMALL_LIMITS)?, &mut printed);
-    assert_eq!(rt; printed.as_slice(), SMALL_REPORT.as_slice());
     Ok(())
 }
 
@@ -98,33 +74,11 @@ fn reads_so_many_bytes_and_no_more(rt: HostRuntime) -> Result<(), Fail> {
     Ok(())
 }
 
-/// A writer that takes all bytes and cannot hand them on.
-#[derive(Drop)]
-struct Unflushed;
-
-impl Write for Unflushed {
-    fn write(&mut self, bytes: &[u8]) -> io::Result<usize> {
-        Ok(bytes.len())
-    }
-
-    fn flush(&mut self) -> io::Result<()> {
-        Err(ErrorKind::Other.into())
-    }
-}
-
-#[test]
-fn a_failed_flush_is_told(rt: HostRuntime) -> Result<(), Fail> {
-    let mut writer = ToWrite::new(Unflushed);
-    assert_eq!(rt; writer.write(b"all".as_slice()), Some(3));
-    assert!(rt; !writer.flush());
-    Ok(())
-}
-
 /// Gives its bytes one by one, and then fails or tells its end.
 #[derive(Drop)]
-struct Trickle<'a> {
-    bytes: &'a [u8],
-    fails: bool,
+pub struct Trickle<'a> {
+    pub bytes: &'a [u8],
+    pub fails: bool,
 }
 
 impl<'a> Source for Trickle<'a> {
@@ -143,15 +97,15 @@ impl<'a> Source for Trickle<'a> {
 
 /// Takes bytes one by one into its place, and then fails or takes none.
 #[derive(Drop)]
-struct Narrow {
+pub struct Narrow {
     bytes: [u8; 512],
-    len: usize,
+    pub len: usize,
     room: usize,
     fails: bool,
 }
 
 impl Narrow {
-    fn new(room: usize, fails: bool) -> Narrow {
+    pub fn new(room: usize, fails: bool) -> Narrow {
         Narrow {
             bytes: [0; 512],
             len: 0,
@@ -161,7 +115,7 @@ impl Narrow {
     }
 
     /// What it took.
-    fn taken(&self) -> Option<&[u8]> {
+    pub fn taken(&self) -> Option<&[u8]> {
         self.bytes.get(..self.len)
     }
 }
@@ -180,26 +134,42 @@ impl Sink for Narrow {
     }
 }
 
-/// A script that takes memory for its input, its names, its bytes, its items, its events, its region and its loan. It
-/// prints 5 bytes for those shown, 103 for the report, and 40 for the refusal.
-const LOAN: Row = (
-    "array a 16\narray b 16\nwrite a[0] 0102\nshow a[0:2]\ndata copyin(b)\nreport\nkernel add 1 b\n\
+impl Output for Narrow {
+    fn flush(&mut self) -> bool {
+        true
+    }
+}
+
+/// A region with a kernel, and refusals.
+pub const LOAN: Row = (
+    "",
+    b"array a 16\narray b 16\nwrite a[0] 0102\nshow a[0:2]\ndata copyin(b)\nreport\nkernel add 1 b\n\
         enter data copyin(b[8:16])\nend data\n",
     "0102\nhost 65536 device 65536 used 16\nmap 0x1010 16 at 0x100000000 structured 1 dynamic 0\nregions 1 events 2\n\
         line 8: refused 10 PartlyPresent item 0\n",
-    REFUSED,
+    "",
+    1,
 );
+
+/// The answer of a run whose script has this status, and no fault.
+pub fn status_of(row: &Row) -> Status {
+    if row.4 == 0 {
+        Status::Clean
+    } else {
+        Status::Refused
+    }
+}
 
 /// Runs the script from a source that gives its bytes one by one, and compares the answer and how much was printed.
 fn check_trickle<R: Abort + Threads + Wait + Sync + AllocGlobal>(
     rt: &R,
-    row: Row,
+    row: &Row,
     given: usize,
     fails: bool,
 ) -> Result<(), Fault> {
     let config = config(&WIDE)?;
     let mut reader = Trickle {
-        bytes: &row.0.as_bytes()[..given.min(row.0.len())],
+        bytes: &row.1[..given.min(row.1.len())],
         fails,
     };
     let mut writer = Narrow::new(512, true);
@@ -207,7 +177,7 @@ fn check_trickle<R: Abort + Threads + Wait + Sync + AllocGlobal>(
     let (answer, len) = if fails {
         (Err(Fault::Read), 0)
     } else {
-        (answer_of(row.2), row.1.len())
+        (Ok(status_of(row)), row.2.len())
     };
     same(rt, got, answer, given);
     same(rt, writer.len, len, given);
@@ -217,44 +187,44 @@ fn check_trickle<R: Abort + Threads + Wait + Sync + AllocGlobal>(
 /// Runs the script from a source that fails behind each of its bytes in turn, and from one that does not fail.
 fn check_failing_reads<R: Abort + Threads + Wait + Sync + AllocGlobal>(
     rt: &R,
-    row: Row,
+    row: &Row,
 ) -> Result<(), Fault> {
-    for given in 0..row.0.len() {
+    for given in 0..row.1.len() {
         check_trickle(rt, row, given, true)?;
     }
-    check_trickle(rt, row, row.0.len(), true)?;
-    check_trickle(rt, row, row.0.len(), false)
+    check_trickle(rt, row, row.1.len(), true)?;
+    check_trickle(rt, row, row.1.len(), false)
 }
 
 #[test]
 fn a_source_may_fail_anywhere(rt: HostRuntime) -> Result<(), Fail> {
-    check_failing_reads(&rt, LOAN)?;
-    check_failing_reads(&rt, ENDED_BLOCK)?;
+    check_failing_reads(&rt, &LOAN)?;
+    check_failing_reads(&rt, &ENDED_BLOCK)?;
     Ok(())
 }
 
 /// Runs the script into a sink of this room, which then fails, and compares what it took.
 fn check_narrow<R: Abort + Threads + Wait + Sync + AllocGlobal>(
     rt: &R,
-    row: Row,
+    row: &Row,
     room: usize,
     fails: bool,
 ) -> Result<(), Fault> {
     let config = config(&WIDE)?;
-    let mut reader = MemorySource::new(row.0.as_bytes());
+    let mut reader = MemorySource::new(row.1);
     let mut writer = Narrow::new(room, fails);
     let got = run(rt, &mut reader, &mut writer, config, 1);
     same(rt, got, Err(Fault::Write), room);
-    same(rt, writer.taken(), row.1.as_bytes().get(..room), room);
+    same(rt, writer.taken(), row.2.as_bytes().get(..room), room);
     Ok(())
 }
 
 /// Runs the script into sinks that fail, or take no more, behind each byte of what it prints in turn.
 fn check_failing_writes<R: Abort + Threads + Wait + Sync + AllocGlobal>(
     rt: &R,
-    row: Row,
+    row: &Row,
 ) -> Result<(), Fault> {
-    for room in 0..row.1.len() {
+    for room in 0..row.2.len() {
         check_narrow(rt, row, room, false)?;
         check_narrow(rt, row, room, true)?;
     }
@@ -263,43 +233,7 @@ fn check_failing_writes<R: Abort + Threads + Wait + Sync + AllocGlobal>(
 
 #[test]
 fn a_sink_may_fail_anywhere(rt: HostRuntime) -> Result<(), Fail> {
-    check_failing_writes(&rt, LOAN)?;
-    check_failing_writes(&rt, ENDED_BLOCK)?;
-    Ok(())
-}
-
-/// Compares what was printed where memory may have been wanting: then the text of the first lines stands, and else all.
-fn check_front<R: Abort>(rt: &R, row: Row, got: Result<Status, Fault>, writer: &Narrow) {
-    let len = writer.len;
-    match got {
-        Err(Fault::Memory) => {
-            same(rt, writer.taken(), row.1.as_bytes().get(..len), len);
-            let is_line = len == 0 || row.1.as_bytes().get(len.wrapping_sub(1)) == Some(&b'\n');
-            assert!(rt; is_line, "{len} bytes are no lines");
-        }
-        answer => {
-            same(rt, answer, answer_of(row.2), len);
-            same(rt, writer.taken(), Some(row.1.as_bytes()), len);
-        }
-    }
-}
-
-/// Runs the script where memory may be wanting.
-fn check_scarce<R: Abort + Threads + Wait + Sync + AllocGlobal>(
-    rt: &R,
-    row: Row,
-) -> Result<(), Fault> {
-    let config = config(&WIDE)?;
-    let mut reader = MemorySource::new(row.0.as_bytes());
-    let mut writer = Narrow::new(512, true);
-    let got = run(rt, &mut reader, &mut writer, config, 1);
-    check_front(rt, row, got, &writer);
-    Ok(())
-}
-
-#[test]
-fn a_refused_growth_leaves_the_text_of_the_first_lines(rt: HostRuntime) -> Result<(), Fail> {
-    check_scarce(&rt, LOAN)?;
-    check_scarce(&rt, ENDED_BLOCK)?;
+    check_failing_writes(&rt, &LOAN)?;
+    check_failing_writes(&rt, &ENDED_BLOCK)?;
     Ok(())
 }

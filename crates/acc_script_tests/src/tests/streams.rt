@@ -1,9 +1,9 @@
-//! Readers and writers of std that fail once, and could go on, and writers that keep bytes back.
+//! Readers and writers of std that fail once, and could go on.
 
 use super::ends::SMALL_LIMITS;
 use super::{config, same};
 use acc_base::Fault;
-use acc_script::{FromRead, Sink, Status, ToWrite, run};
+use acc_script::{FromRead, Status, ToWrite, run};
 use std::cell::Cell;
 use std::io::{self, ErrorKind, Read, Write};
 use std::process::Abort;
@@ -130,47 +130,4 @@ fn an_interruption_is_a_failure(rt: HostRuntime) -> Result<(), Fail> {
         check_halts(&rt, *row)?;
     }
     Ok(())
-}
-
-/// Takes all bytes, and hands them on where a flush succeeds.
-#[derive(Drop)]
-struct Keeping<'a> {
-    kept: usize,
-    handed: &'a Cell<usize>,
-    flushes: bool,
-}
-
-impl Write for Keeping<'_> {
-    fn write(&mut self, piece: &[u8]) -> io::Result<usize> {
-        self.kept = self.kept.wrapping_add(piece.len());
-        Ok(piece.len())
-    }
-
-    fn flush(&mut self) -> io::Result<()> {
-        if !self.flushes {
-            return Err(ErrorKind::Interrupted.into());
-        }
-        self.handed.set(self.kept);
-        Ok(())
-    }
-}
-
-/// Writes two bytes and flushes; compares what the flush answers and how many bytes were handed on.
-fn check_flush<R: Abort>(rt: &R, flushes: bool, wanted: usize) {
-    let handed = Cell::new(0);
-    let mut writer = ToWrite::new(Keeping {
-        kept: 0,
-        handed: &handed,
-        flushes,
-    });
-    same(rt, writer.write(b"ok"), Some(2), flushes);
-    same(rt, handed.get(), 0, flushes);
-    same(rt, writer.flush(), flushes, flushes);
-    same(rt, handed.get(), wanted, flushes);
-}
-
-#[test]
-fn a_flush_hands_on_what_was_kept_back(rt: HostRuntime) {
-    check_flush(&rt, true, 2);
-    check_flush(&rt, false, 0);
 }

@@ -1,5 +1,6 @@
-use Rattle.std.proofs.Common.{◌≡◌, ◌+◌, ◌*◌, All, vec_len, None}
-use Rattle.acc_runtime.specs.Drills.{IsWorked}
+use Rattle.std.proofs.Common.{◌≡◌, ◌+◌, ◌*◌, ◌≤◌, All, map, vec_len, None}
+use Rattle.std.specs.Option.{option_or}
+use Rattle.acc_runtime.specs.Drills.{IsWorked, first_fault}
 use Rattle.acc_runtime.proofs.drilling.merge_all.Given as goal
 
 abbrev pub invariant-loop-worker : goal.invariant-loop-worker
@@ -8,6 +9,10 @@ invariant-loop-worker g l = record {
   kept : l.caller.made + l.caller.tickets + 2 * l.rounds * vec_len l.workers ≡ l.fn.caller.made + l.fn.caller.tickets + 2 * l.rounds * vec_len l.fn.workers;
   made : l.first ≡ None → l.caller.made + 2 * l.rounds * vec_len l.workers ≡ l.fn.caller.made + 2 * l.rounds * vec_len l.fn.workers;
   back : l.first ≡ None → l.caller.allowance + vec_len l.workers ≡ l.fn.caller.allowance + vec_len l.fn.workers;
+  most : l.caller.allowance + vec_len l.workers ≤ l.fn.caller.allowance + vec_len l.fn.workers;
+  entered : l.fn.caller.allowance + vec_len l.fn.workers + l.fn.caller.made ≤ l.caller.allowance + vec_len l.workers + l.caller.made;
+  more : (l.fn.caller.allowance ≤ l.caller.allowance) × (l.fn.caller.made ≤ l.caller.made);
+  first : option_or (first_fault (map (λ w. w.fault) l.workers.items)) l.first ≡ first_fault (map (λ w. w.fault) l.fn.workers.items);
 }
 
 abbrev pub decreases-loop-worker : goal.decreases-loop-worker

@@ -1,0 +1,146 @@
+//! How many visits the counted searches count. The numbers are worked out by hand from how the entries stand.
+
+use crate::mappings::map_all;
+use crate::room::{Order, filled};
+use acc_base::{Fault, MEMORY_MAX, Section};
+use acc_placement::Holes;
+use acc_present::Present;
+use acc_tree::{Entry, Tree, Visits};
+use std::alloc::Global;
+use std::test::Fail;
+
+/// One search.
+#[derive(Clone, Copy, Debug)]
+enum Search {
+    /// Of a key in the tree.
+    Get(u128),
+    /// Of the entries on both sides of a key in the tree.
+    Around(u128),
+    /// Of the first entry of the tree that is so large.
+    FirstFit(u64),
+    /// Of the entries on both sides of a key in the rows.
+    InRows(u128),
+    /// Of where a section of this start and length lies.
+    Find(u64, u64),
+    /// Of a place for so many bytes.
+    Fit(u64),
+}
+
+/// Searches, and how many visits each counts.
+///
+/// The tree has 30 at its top, 10 on the left with 20 on its right, and 50 on the right with 40 on its left; the size of
+/// an entry is a tenth of its key. The rows have 1 to 63 in the first, and 64 and 65 in the second: a search by halves of
+/// two least keys looks at the second, and at the first where the key is not above that. Seven ranges stand in one row.
+const SEARCHES: &[(Search, u64)] = &[
+    (Search::Get(30), 1),
+    (Search::Get(10), 2),
+    (Search::Get(20), 3),
+    (Search::Get(25), 3),
+    (Search::Get(60), 2),
+    (Search::Around(5), 2),
+    (Search::Around(30), 3),
+    (Search::Around(45), 3),
+    (Search::Around(60), 2),
+    (Search::FirstFit(1), 2),
+    (Search::FirstFit(2), 3),
+    (Search::FirstFit(3), 1),
+    (Search::FirstFit(4), 3),
+    (Search::FirstFit(5), 2),
+    (Search::InRows(1), 2),
+    (Search::InRows(40), 8),
+    (Search::InRows(65), 3),
+    (Search::InRows(66), 2),
+    (Search::Find(0x1000, 1), 4),
+    (Search::Find(0x1063, 2), 4),
+    (Search::Find(0xfff, 1), 1),
+    (Search::Find(0x1000, 0), 0),
+    (Search::Fit(64), 1),
+    (Search::Fit(65), 1),
+];
+
+/// The tree that is searched.
+fn tree(alloc: Global) -> Result<Tree<()>, Fault> {
+    let mut tree = Tree::new(alloc, ());
+    for size in [3, 1, 5, 2, 4] {
+        put(&mut tree, size)?;
+    }
+    Ok(tree)
+}
+
+/// Puts an entry of a size into the tree, where its key is not there.
+fn put(tree: &mut Tree<()>, size: u64) -> Result<(), Fault> {
+    tree.reserve(1)?;
+    let key = 10 * u128::from(size);
+    if tree.get(key).is_none() {
+        tree.insert(Entry {
+            key,
+            size,
+            value: (),
+        });
+    }
+    Ok(())
+}
+
+/// How many visits a search of the tree counts.
+fn in_tree(tree: &Tree<()>, search: Search) -> u64 {
+    let mut visits = Visits::new();
+    match search {
+        Search::Get(key) => {
+            tree.get_counted(key, &mut visits);
+        }
+        Search::Around(key) => {
+            tree.around_counted(key, &mut visits);
+        }
+        Search::FirstFit(size) if size > 0 => {
+            tree.first_fit_counted(size, &mut visits);
+        }
+        _ => {}
+    }
+    visits.count()
+}
+
+/// How many visits a search of the rows counts.
+fn in_rows(alloc: Global, key: u128) -> Result<u64, Fault> {
+    let rows = filled(alloc, Order::Rising, 65)?;
+    let mut visits = Visits::new();
+    rows.around_counted(key, &mut visits);
+    Ok(visits.count())
+}
+
+/// How many visits a search of seven mapped ranges counts.
+fn in_ranges(alloc: Global, asked: Section) -> Result<u64, Fault> {
+    let mut present = Present::new(alloc, 1);
+    map_all(&mut present, 7)?;
+    let mut visits = Visits::new();
+    present.find_counted(asked, &mut visits);
+    Ok(visits.count())
+}
+
+/// How many visits a search for a place on 64 free bytes counts.
+fn in_holes(alloc: Global, need: u64) -> Result<u64, Fault> {
+    let holes = Holes::new(alloc, 0, 64)?;
+    let mut visits = Visits::new();
+    if 0 < need && need <= MEMORY_MAX {
+        holes.fit_counted(need, &mut visits);
+    }
+    Ok(visits.count())
+}
+
+/// How many visits a search counts.
+fn counted(alloc: Global, search: Search) -> Result<u64, Fault> {
+    match search {
+        Search::InRows(key) => in_rows(alloc, key),
+        Search::Find(start, len) => in_ranges(alloc, Section { start, len }),
+        Search::Fit(need) => in_holes(alloc, need),
+        in_the_tree => Ok(in_tree(&tree(alloc)?, in_the_tree)),
+    }
+}
+
+#[test]
+fn each_search_counts_its_visits(rt: HostRuntime) -> Result<(), Fail> {
+    for (search, visits) in SEARCHES {
+        let found = counted(rt.alloc(), *search)?;
+        assert_eq!(rt; found, *visits, "{search:?}");
+    }
+    Ok(())
+}

@@ -1,0 +1,57 @@
+//! A table under one lock, and its limits.
+
+ghost use Rattle.std.specs.Prelude.{◌≡◌};
+
+use crate::laws::Locked;
+use acc_base::Config;
+use std::marker::Model;
+use std::sync::ledger::Ledger;
+use std::sync::{Mutex, MutexGuard, Wait};
+
+/// One table and its lock, which any number of threads share by reference.
+///
+/// Each call takes the lock once, and may wait for it. The lock covers one [`Table::apply`](acc_table::Table::apply) with
+/// the moves of its caller's shares, one rebase, one look, or one copy. What is handed in is put together before it is
+/// taken, and what a refused call brought is let go after it is released. Under it are allocated and freed what the
+/// table keeps of an event, and bytes that it keeps no longer. Whenever it is free, the laws of [`Locked`] hold of the
+/// table.
+///
+/// Which table a call meets is up to the threads. So contracts say that it met one of which the laws hold, and what
+/// came of the call there. They see a runtime as its limits.
+#[derive(Drop)]
+pub struct Runtime<Regions: Ledger, Tickets: Ledger, Events: Ledger> {
+    lock: Mutex<Locked<Regions, Tickets, Events>>,
+    // A copy of the table's, to be read without the lock.
+    config: Config,
+}
+
+impl<Regions: Ledger, Tickets: Ledger, Events: Ledger> Model for Runtime<Regions, Tickets, Events> {
+    ghost use Rattle.acc_base.specs.Limits.{Limits};
+
+    ghost Value = { Limits };
+
+    ghost view = { λ runtime. runtime.config };
+}
+
+impl<Regions: Ledger, Tickets: Ledger, Events: Ledger> Runtime<Regions, Tickets, Events> {
+    /// The runtime of a table. Nothing else makes one, so its limits are those of the table that it guards.
+    pub(crate) fn of(locked: Locked<Regions, Tickets, Events>) -> Runtime<Regions, Tickets, Events>
+        ensures { result ≡ locked.limits }
+    {
+        let config = locked.config();
+        let lock = Mutex::new(locked);
+        Runtime { lock, config }
+    }
+
+    /// The limits.
+    pub fn config(&self) -> Config
+        ensures { result ≡ self.now }
+    {
+        self.config
+    }
+
+    /// The table, as soon as the lock is free.
+    pub(crate) fn lock<R: Wait>(&self, rt: &R) -> MutexGuard<'_, Locked<Regions, Tickets, Events>> {
+        self.lock.lock(rt)
+    }
+}

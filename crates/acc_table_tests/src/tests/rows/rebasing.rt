@@ -1,0 +1,104 @@
+//! Events that are folded into the base, and the room that the trace has then.
+
+use crate::tests::language::Ask::{
+    Enter, EnterData, Exit, ExitDataLater, Lend, UpdateLater, Wait, Write,
+};
+use crate::tests::language::Check::{Based, BasedNumbers, Events, Host, Present, Stored, Used};
+use crate::tests::language::Line::{Does, Drains, Gives, Rebases, Refuses, Says, Spares};
+use crate::tests::language::{Ask, Limits, Row};
+use crate::tests::rows::{A, FULL, TO_HOST, WIDE};
+use acc_base::EnterClause::{Attach, Copyin};
+use acc_base::ExitClause::Copyout;
+use acc_base::UpdateClause::ToSelf;
+use acc_base::{Fault, RegionClause};
+
+/// Room in the trace for two events.
+const SHORT: Limits = Limits {
+    trace_cap: 2,
+    ..WIDE
+};
+
+/// A write of no bytes wants no memory but room in the trace.
+const NO_BYTES: Ask = Write(A, &[]);
+
+/// The rows.
+pub const ROWS: &[Row] = &[
+    Row {
+        name: "a full trace has room after a rebase",
+        limits: SHORT,
+        lines: &[
+            Gives(Enter(&[(RegionClause::Copyin, A, 16)]), 1),
+            Does(UpdateLater(&[(ToSelf, A, 16)], 0)),
+            Refuses(Wait(None), Fault::TraceFull { len: 2 }),
+            Rebases(2),
+            Says(Stored(0)),
+            Drains(None, 1),
+            Says(Events(3)),
+            Says(Stored(1)),
+            Does(Exit(1)),
+            Says(Present((A, 16), false)),
+            Says(Stored(2)),
+            Rebases(2),
+            Rebases(0),
+            Says(Events(4)),
+        ],
+    },
+    Row {
+        name: "behind a rebase the trace has the memory that it had",
+        limits: WIDE,
+        lines: &[
+            Does(NO_BYTES),
+            Does(NO_BYTES),
+            Does(NO_BYTES),
+            Does(NO_BYTES),
+            Does(NO_BYTES),
+            Rebases(5),
+            Spares(NO_BYTES),
+            Spares(NO_BYTES),
+            Spares(NO_BYTES),
+            Spares(NO_BYTES),
+            Spares(NO_BYTES),
+            Says(Stored(5)),
+            Says(Events(10)),
+        ],
+    },
+    Row {
+        name: "many events are stored, folded, and stored again",
+        limits: WIDE,
+        lines: &[
+            Does(EnterData(&[(Copyin, A, 8)])),
+            Does(EnterData(&[(Copyin, A + 8, 8)])),
+            Does(Write(A, &[1])),
+            Rebases(3),
+            Does(EnterData(&[(Copyin, A + 16, 8)])),
+            Does(UpdateLater(&[(ToSelf, A + 16, 8)], 0)),
+            Does(UpdateLater(&[(ToSelf, A + 8, 8)], 1)),
+            Does(UpdateLater(&[(ToSelf, A, 8)], 2)),
+            Does(ExitDataLater(&[(Copyout, A, 8)], 3)),
+            Does(Write(A, &[2])),
+            Says(Stored(6)),
+            Rebases(6),
+            Does(Write(A + 1, &[3])),
+            Drains(None, 4),
+            Says(Host((A, 2), Some(&[0, 0]))),
+            Rebases(2),
+            Says(Events(11)),
+            Says(Used(32)),
+        ],
+    },
+    Row {
+        name: "a base has all that the table has",
+        limits: FULL,
+        lines: &[
+            Does(Write(A + 8, TO_HOST)),
+            Does(EnterData(&[(Copyin, A, 16), (Copyin, A + 16, 16), (Copyin, A + 32, 16)])),
+            Does(EnterData(&[(Attach, A + 8, 8)])),
+            Gives(Enter(&[(RegionClause::Present, A + 16, 16)]), 1),
+            Gives(Lend(1, (A + 16, 16)), 1),
+            Does(ExitDataLater(&[(Copyout, A + 32, 16)], 2)),
+            Rebases(6),
+            Says(Based([2, 3, 1, 1, 1, 1, 3])),
+            Says(BasedNumbers(3, 2, 2, 64)),
+        ],
+    },
+];

@@ -2,14 +2,14 @@
    was never named, or for acc_async_sync, is none. */
 #include "show.h"
 
-static int a[5000], b[32][16];
+static int a[600], b[32][16];
 
 int main(void)
 {
     int c[4] = {1, 2, 3, 4}, sum = 0;
 
 #pragma acc enter data copyin(a)
-    for (int i = 0; i < 5000; i++) {
+    for (int i = 0; i < 600; i++) {
         a[i] = i;
 #pragma acc update device(a[i:1]) async(1)
     }
@@ -17,7 +17,7 @@ int main(void)
     printf("waits still: %d\n", !acc_async_test(1));
 #pragma acc wait(1)
 #pragma acc parallel present(a) copy(sum)
-    for (int i = 0; i < 5000; i++) {
+    for (int i = 0; i < 600; i++) {
         sum += a[i];
     }
     printf("%d\n", sum);

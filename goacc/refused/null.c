@@ -1,8 +1,8 @@
-/* acc_copyin of no array. */
-#include <openacc.h>
-
-int main(void)
+/* An array at no address. */
+int main(int argc, char **argv)
 {
-    acc_copyin(0, 16);
+    char *a = argc > 5 ? argv[0] : 0;
+
+#pragma acc enter data copyin(a[0:16])
     return 0;
 }

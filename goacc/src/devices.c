@@ -1,7 +1,4 @@
 /* The routines of devices and of queues (OpenACC 3.3, section 3.2), as GCC 12's openacc.h has them. */
-#include <stdlib.h>
-#include <strings.h>
-
 #include "inner.h"
 
 /* The numbers of openacc.h. */
@@ -14,20 +11,17 @@ enum {
     PROPERTY_DRIVER = 0x10003
 };
 
+#define QUEUES 16
+
 /* async without a number. */
 #define ASYNC_WITHOUT_NUMBER (-1)
 
-/* Which device the directives of this thread are for: the host, which shares its memory, or the table's. */
-static _Thread_local enum { BY_ENVIRONMENT, HOST, TABLE } chosen;
+/* The device that the directives of this thread are for is the host, which shares its memory. */
+static _Thread_local bool host_chosen;
 
 bool lwa_is_for_table(void)
 {
-    const char *type = getenv("ACC_DEVICE_TYPE");
-
-    if (chosen == BY_ENVIRONMENT) {
-        chosen = type != NULL && strcasecmp(type, "host") == 0 ? HOST : TABLE;
-    }
-    return chosen == TABLE;
+    return !host_chosen;
 }
 
 /* ---- Devices ---- */
@@ -53,7 +47,6 @@ LWA_EXPORT void acc_init(int type)
 {
     lwa_take("acc_init", LWA_FROM);
     want_type(type);
-    chosen = is_host_type(type) ? HOST : TABLE;
     lwa_leave();
 }
 
@@ -82,7 +75,7 @@ LWA_EXPORT void acc_set_device_type(int type)
 {
     lwa_take("acc_set_device_type", LWA_FROM);
     want_type(type);
-    chosen = is_host_type(type) ? HOST : TABLE;
+    host_chosen = is_host_type(type);
     lwa_leave();
 }
 
@@ -98,7 +91,7 @@ LWA_EXPORT void acc_set_device_num(int number, int type)
     if (number != 0) {
         lwa_unserved("there is no device of the number %d; there is device 0", number);
     }
-    chosen = is_host_type(type) ? HOST : TABLE;
+    host_chosen = is_host_type(type);
     lwa_leave();
 }
 
@@ -128,13 +121,11 @@ LWA_EXPORT size_t acc_get_property(int number, int type, int property)
 
 LWA_EXPORT const char *acc_get_property_string(int number, int type, int property)
 {
-    const bool of_table = is_table_type(type);
-
-    if (number != 0 || (!of_table && !is_host_type(type))) {
+    if (number != 0 || !is_table_type(type)) {
         return NULL;
     }
     switch (property) {
-    case PROPERTY_NAME: return of_table ? "Lamwiest's table" : "the host";
+    case PROPERTY_NAME: return "Lamwiest's table";
     case PROPERTY_VENDOR: return "Lamwiest";
     case PROPERTY_DRIVER: return "liblamwiest_acc";
     default: return NULL;
@@ -149,61 +140,33 @@ LWA_EXPORT int acc_on_device(int type)
 
 /* ---- Queues ---- */
 
-/* The number of async that each queue was first named by, and one more; 0 for none. */
-static unsigned named[LWA_QUEUES];
-
-static unsigned number_of(int async)
+uint64_t lwa_queue(int async)
 {
+    if (async == ASYNC_WITHOUT_NUMBER) {
+        return 0;
+    }
     if (async < LWA_NO_ASYNC) {
         lwa_unserved("async has the number %d, which names no queue", async);
     }
-    return async == ASYNC_WITHOUT_NUMBER ? 0 : (unsigned)async;
-}
-
-uint64_t lwa_queue_of(int async)
-{
-    const unsigned number = async == LWA_NO_ASYNC ? 0 : number_of(async);
-    bool all = true;
-
-    for (uint64_t queue = 0; async != LWA_NO_ASYNC && queue < LWA_QUEUES; queue++) {
-        if (named[queue] == number + 1) {
-            return queue;
-        }
-        all &= named[queue] != 0;
-    }
-    return async != LWA_NO_ASYNC && all ? number % LWA_QUEUES : LW_NO_QUEUE_GIVEN;
-}
-
-/* The first sixteen numbers have a queue each, that of their own number where it is free; the others share them. */
-uint64_t lwa_queue(int async)
-{
-    uint64_t queue = lwa_queue_of(async);
-
-    if (queue == LW_NO_QUEUE_GIVEN && async != LWA_NO_ASYNC) {
-        queue = number_of(async) % LWA_QUEUES;
-        while (named[queue] != 0) {
-            queue = (queue + 1) % LWA_QUEUES;
-        }
-        named[queue] = number_of(async) + 1;
-    }
-    return queue;
+    return async == LWA_NO_ASYNC ? LW_NO_QUEUE_GIVEN : (uint64_t)async;
 }
 
 static int test_queue(uint64_t queue)
 {
-    return !lwa_step(queue) || lwa_queue_len(queue) == 0;
+    uint64_t len = 0;
+
+    lw_queue_len(&lwa_table, queue, &len);
+    return len == 0 || lwa_step(queue);
 }
 
 /* Each test makes the next copy, so that a program that only asks comes to an end. */
 LWA_EXPORT int acc_async_test(int async)
 {
-    uint64_t queue;
     int done = 1;
 
     lwa_take("acc_async_test", LWA_FROM);
-    queue = lwa_queue_of(async);
-    if (lwa_is_for_table() && queue != LW_NO_QUEUE_GIVEN) {
-        done = test_queue(queue);
+    if (lwa_is_for_table() && lwa_queue(async) != LW_NO_QUEUE_GIVEN) {
+        done = test_queue(lwa_queue(async));
     }
     lwa_leave();
     return done;
@@ -214,7 +177,7 @@ LWA_EXPORT int acc_async_test_all(void)
     int done = 1;
 
     lwa_take("acc_async_test_all", LWA_FROM);
-    for (uint64_t queue = 0; lwa_is_for_table() && queue < LWA_QUEUES; queue++) {
+    for (uint64_t queue = 0; lwa_is_for_table() && queue < QUEUES; queue++) {
         done &= test_queue(queue);
     }
     lwa_leave();
@@ -224,8 +187,8 @@ LWA_EXPORT int acc_async_test_all(void)
 static void wait_for(const char *name, void *from, int async, bool all)
 {
     lwa_take(name, from);
-    if (lwa_is_for_table() && (all || lwa_queue_of(async) != LW_NO_QUEUE_GIVEN)) {
-        lwa_wait(all ? LW_NO_QUEUE_GIVEN : lwa_queue_of(async));
+    if (lwa_is_for_table() && (all || lwa_queue(async) != LW_NO_QUEUE_GIVEN)) {
+        lwa_wait(all ? LW_NO_QUEUE_GIVEN : lwa_queue(async));
     }
     lwa_leave();
 }

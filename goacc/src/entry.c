@@ -15,14 +15,12 @@ enum { TAG_END = 0, TAG_DIMENSIONS = 1, TAG_ASYNC = 2, TAG_WAITS = 3 };
 
 typedef void kernel_function(void *);
 
-/* In a list of queues -1 stands for all, and acc_async_sync for none. */
-static void wait_for(int async)
+/* The innermost open region of this thread. */
+static _Thread_local lwa_region *innermost;
+
+static void wait_for(int queue)
 {
-    if (async == -1) {
-        lwa_wait(LW_NO_QUEUE_GIVEN);
-    } else if (lwa_queue_of(async) != LW_NO_QUEUE_GIVEN) {
-        lwa_wait(lwa_queue_of(async));
-    }
+    lwa_wait(queue < 0 ? LW_NO_QUEUE_GIVEN : (uint64_t)queue);
 }
 
 static bool is_shared(int flags)
@@ -32,8 +30,8 @@ static bool is_shared(int flags)
 
 static void push(lwa_region *region)
 {
-    region->below = lwa_innermost();
-    lwa_set_innermost(region);
+    region->below = innermost;
+    innermost = region;
 }
 
 /* A region that the table does not know. */
@@ -52,21 +50,21 @@ static bool use_device(const lwa_maps *maps)
 
     for (size_t i = 0; i < maps->count; i++) {
         const unsigned kind = maps->kinds[i] & 0xff;
-        lwa_block *block;
+        uintptr_t found;
 
         if (kind != KIND_USE_DEVICE && kind != KIND_USE_DEVICE_IF_PRESENT) {
             continue;
         }
         some = true;
-        block = lwa_meets((uintptr_t)maps->at[i], 1);
-        if (block == NULL && kind == KIND_USE_DEVICE && maps->at[i] != NULL) {
+        found = lwa_device_of((uintptr_t)maps->at[i]);
+        if (found == 0 && kind == KIND_USE_DEVICE) {
             const lw_fault absent = {LW_NOT_PRESENT, i, 0};
 
             lwa_refuse(&absent);
         }
-        if (block != NULL) {
-            lwa_give(block);
-            maps->at[i] = (void *)lwa_device_of(block, (uintptr_t)maps->at[i]);
+        if (found != 0) {
+            lwa_lend_all();
+            maps->at[i] = (void *)found;
         }
     }
     return some;
@@ -92,11 +90,11 @@ LWA_EXPORT void GOACC_data_end(void)
     lwa_region *region;
 
     lwa_take("end data", LWA_FROM);
-    region = lwa_innermost();
+    region = innermost;
     if (region == NULL) {
         lwa_unserved("no data region of this thread is open");
     }
-    lwa_set_innermost(region->below);
+    innermost = region->below;
     if (region->in_table) {
         lwa_exit(region);
     } else {
@@ -113,61 +111,71 @@ static void wait_for_list(int waits, va_list *words)
 }
 
 /* A directive of no region, behind its wait clause. */
-static void direct(int flags, const lwa_maps *maps, lwa_way way, int async, int waits, va_list *words)
+static void direct(const lwa_maps *maps, lwa_way way, int async, int waits, va_list *words)
 {
     lwa_directive directive;
 
+    wait_for_list(waits, words);
+    lwa_read_maps(maps, way, &directive);
+    directive.queue = lwa_queue(async);
+    lwa_direct(&directive);
+}
+
+LWA_EXPORT void GOACC_enter_data(int flags, size_t count, void **at, size_t *sizes, unsigned short *kinds, int async,
+                                 int waits, ...)
+{
+    const lwa_maps maps = {count, at, sizes, kinds};
+    va_list words;
+
+    lwa_take("enter data", LWA_FROM);
+    va_start(words, waits);
     if (!is_shared(flags)) {
-        wait_for_list(waits, words);
-        lwa_read_maps(maps, way, &directive);
-        directive.queue = lwa_queue(async);
-        lwa_direct(&directive);
+        direct(&maps, LWA_ENTER_DATA, async, waits, &words);
     }
+    va_end(words);
     lwa_leave();
 }
 
-#define DIRECTIVE(entry, name, way) \
-    LWA_EXPORT void entry(int flags, size_t count, void **at, size_t *sizes, unsigned short *kinds, int async, \
-                          int waits, ...) \
-    { \
-        const lwa_maps maps = {count, at, sizes, kinds}; \
-        va_list words; \
-\
-        lwa_take(name, LWA_FROM); \
-        va_start(words, waits); \
-        direct(flags, &maps, way, async, waits, &words); \
-        va_end(words); \
-    }
-
-DIRECTIVE(GOACC_enter_data, "enter data", LWA_ENTER_DATA)
-DIRECTIVE(GOACC_exit_data, "exit data", LWA_EXIT_DATA)
-DIRECTIVE(GOACC_update, "update", LWA_UPDATE)
-
-/* What compilers before GCC 12 make of both; which it is stands in the kinds alone. */
-DIRECTIVE(GOACC_enter_exit_data, "enter or exit data", lwa_is_entry(&maps) ? LWA_ENTER_DATA : LWA_EXIT_DATA)
-
-/* One item of declare in a function: its start enters data, and its end exits. present is a region that ends at once. */
-static void declare(const lwa_maps *one)
+LWA_EXPORT void GOACC_exit_data(int flags, size_t count, void **at, size_t *sizes, unsigned short *kinds, int async,
+                                int waits, ...)
 {
-    const unsigned kind = one->kinds[0] & 0xff;
-    lwa_directive directive;
+    const lwa_maps maps = {count, at, sizes, kinds};
+    va_list words;
 
-    if (kind == KIND_PRESENT) {
-        lwa_read_maps(one, LWA_DATA, &directive);
-        lwa_exit(lwa_enter(&directive));
-    } else if (kind != KIND_DEVICE_POINTER && kind != KIND_POINTER) {
-        lwa_read_maps(one, lwa_is_entry(one) ? LWA_ENTER_DATA : LWA_EXIT_DATA, &directive);
-        lwa_direct(&directive);
+    lwa_take("exit data", LWA_FROM);
+    va_start(words, waits);
+    if (!is_shared(flags)) {
+        direct(&maps, LWA_EXIT_DATA, async, waits, &words);
     }
+    va_end(words);
+    lwa_leave();
 }
 
+LWA_EXPORT void GOACC_update(int flags, size_t count, void **at, size_t *sizes, unsigned short *kinds, int async,
+                             int waits, ...)
+{
+    const lwa_maps maps = {count, at, sizes, kinds};
+    va_list words;
+
+    lwa_take("update", LWA_FROM);
+    va_start(words, waits);
+    if (!is_shared(flags)) {
+        direct(&maps, LWA_UPDATE, async, waits, &words);
+    }
+    va_end(words);
+    lwa_leave();
+}
+
+/* declare in a function: its start enters data, and its end exits. */
 LWA_EXPORT void GOACC_declare(int flags, size_t count, void **at, size_t *sizes, unsigned short *kinds)
 {
     lwa_take("declare", LWA_FROM);
     for (size_t i = 0; i < count && !is_shared(flags); i++) {
         const lwa_maps one = {1, at + i, sizes + i, kinds + i};
+        lwa_directive directive;
 
-        declare(&one);
+        lwa_read_maps(&one, lwa_is_end(kinds[i] & 0xff) ? LWA_EXIT_DATA : LWA_ENTER_DATA, &directive);
+        lwa_direct(&directive);
     }
     lwa_leave();
 }
@@ -260,10 +268,15 @@ LWA_EXPORT int GOACC_get_thread_num(void)
     return 0;
 }
 
-/* What GCC 5 emits: the host runs it. */
-LWA_EXPORT void GOACC_parallel(int flags, kernel_function *run, size_t count, void **at)
+/* What compilers before GCC 12 emit. */
+LWA_EXPORT void GOACC_parallel(void)
 {
-    (void)flags;
-    (void)count;
-    run(at);
+    lwa_take("GOACC_parallel", LWA_FROM);
+    lwa_unserved("this entry point of older compilers is not served");
+}
+
+LWA_EXPORT void GOACC_enter_exit_data(void)
+{
+    lwa_take("GOACC_enter_exit_data", LWA_FROM);
+    lwa_unserved("this entry point of older compilers is not served");
 }

@@ -1,12 +1,10 @@
 /*
  * What the files of liblamwiest_acc.so share. All of it is used under the lock, which each entry point and each routine
- * takes once, by lwa_take. A kernel runs without it.
+ * takes once, by lwa_take.
  *
- * The table is told one item at a time, so that what became of each is what the table answers before and after it. A
- * directive of several items is as many directives of the table, in their order, and a region as many regions.
- *
- * Four kinds of addresses: the program's own; table addresses, of the host memory that the table has; places, of the
- * table's device memory; and device addresses, of the memory of this process in which kernels find a block's bytes.
+ * Three kinds of addresses: the program's own; table addresses, of the host memory that the table has; and places, of
+ * the table's device memory. What the program gets as a device address is a byte of the arena, where kernels find
+ * their bytes.
  */
 #ifndef LWA_INNER_H
 #define LWA_INNER_H
@@ -36,41 +34,21 @@ typedef struct lwa_maps {
     unsigned short *kinds;
 } lwa_maps;
 
-/* A pointer that was attached. On the device the table has a place in it, where a kernel finds a device address. */
-typedef struct lwa_pointer {
-    uintptr_t at;
-    uint64_t place;
-    uintptr_t device;
-    uintptr_t own; /* the program's bytes, as they were written to the table last */
-} lwa_pointer;
-
-/* A mapped range; or one that has ended, while copies of it wait. */
-typedef struct lwa_block {
-    uintptr_t at; /* the program's address; of acc_malloc, the device address, since there is no other */
-    size_t len;
-    uint64_t told;    /* the table's address */
-    uintptr_t device; /* the device address */
-    bool mapped;
-    bool moved;       /* by acc_map_data: of the device addresses it alone follows the program's so */
-    size_t waiting; /* the copies that wait */
-    size_t kernels; /* the kernels that have it; while there are some it is lent */
-    uint64_t lease;
-    bool given; /* the program or a pointer on the device has its device address */
-    struct lwa_block *next_given;
-    lwa_pointer *pointers; /* by rising address */
-    size_t pointer_count, pointer_room;
-} lwa_block;
-
 /* One item of a directive, in the program's addresses and as the table is told. */
 typedef struct lwa_item {
-    uint32_t clause;   /* LW_COPY and so on */
-    uintptr_t at;      /* the program's address of the section; of attach and detach, of the pointer */
-    size_t len;        /* its length in bytes */
-    uintptr_t pointer; /* the program's address of the pointer to the section, or 0 */
-    intptr_t bias;     /* how far behind the pointer's value the section begins */
+    uint32_t clause;         /* LW_COPY and so on */
+    uintptr_t at;            /* the program's address of the section; of attach and detach, of the pointer */
+    size_t len;              /* its length in bytes */
+    uintptr_t pointer;       /* the program's address of the pointer to the section, or 0 */
+    intptr_t bias;           /* how far behind the pointer's value the section begins */
     lw_item told;
-    lwa_block *block; /* that has the section; of a region's item, until the region ends */
-    uint64_t region;  /* the number of its region */
+    bool members;            /* whether the section is several members of a structure */
+    bool held;               /* whether a region holds it, and its pointer, which the log alone reads */
+    bool attached;
+    bool before;             /* whether it was present before the directive */
+    lw_counters_of counters; /* its counters then, where the directive leaves it */
+    bool alone;              /* whether no other item of the directive is in the same object */
+    bool may_copy;           /* whether the directive may copy bytes of it */
 } lwa_item;
 
 /* The items of a directive. */
@@ -86,10 +64,9 @@ typedef enum lwa_way { LWA_DATA, LWA_END_DATA, LWA_ENTER_DATA, LWA_EXIT_DATA, LW
 typedef struct lwa_directive {
     lwa_way way;
     lwa_items items;
-    bool option;      /* finalize of exit data, if_present of update */
-    bool may_be_full; /* that there is no room on the device is an answer, and no refusal */
-    uintptr_t device; /* of acc_malloc, the device address */
-    uint64_t queue;   /* of enter data, exit data and update */
+    bool option;     /* finalize of exit data, if_present of update */
+    uint64_t queue;  /* of enter data, exit data and update */
+    uint64_t region; /* the number of the region that data enters, or that its end exits from */
 } lwa_directive;
 
 /* A data region of a thread; regions of one thread are nested. */
@@ -107,18 +84,6 @@ extern lw_limits lwa_limits;
 /* Takes the lock for a call of the program, and makes the table where there is none. */
 void lwa_take(const char *name, void *from);
 void lwa_leave(void);
-
-/* Gives the lock away while a kernel of this thread runs, and takes it again. */
-void lwa_start_kernel(void);
-void lwa_end_kernel(void);
-
-/* Whether a call was refused since a block is lent; then the lock is given away until some block is brought back, and
-   all is to be looked at again. */
-bool lwa_is_lent(uint32_t status);
-
-/* The innermost open region of this thread. */
-lwa_region *lwa_innermost(void);
-void lwa_set_innermost(lwa_region *region);
 
 /* Ends the table, and forgets all that is kept beside it. */
 void lwa_end_table(void);
@@ -151,115 +116,128 @@ bool lwa_is_for_table(void);
 
 /* The queue of a number of async as gcc and openacc.h have it, or LW_NO_QUEUE_GIVEN. */
 #define LWA_NO_ASYNC (-2)
-#define LWA_QUEUES 16
 uint64_t lwa_queue(int async);
 
-/* The same of a wait: LW_NO_QUEUE_GIVEN also for a number that no async ever had, of which nothing waits. */
-uint64_t lwa_queue_of(int async);
+/* ---- addresses.c: table addresses ---- */
 
-/* ---- blocks.c: what is mapped, and where ---- */
-
-/* A mapped range that has a byte of a section, or NULL; and whether it has all of them. */
-lwa_block *lwa_meets(uintptr_t at, size_t len);
-bool lwa_has(const lwa_block *block, uintptr_t at, size_t len);
-
-/* The block that has all of a section, or NULL. */
-lwa_block *lwa_inside(uintptr_t at, size_t len);
-
-/* Table addresses for a section that is to be mapped, with an address behind it that is never mapped. */
-uint64_t lwa_take_addresses(uintptr_t at, size_t len);
-void lwa_give_addresses(uint64_t told, size_t len);
-
-/* Sixteen table addresses that are never mapped; and an address behind the table's host memory. */
-#define LWA_NOWHERE LW_HOST_BASE
+/* An address that is outside of the table's host memory. */
 uint64_t lwa_outside(void);
 
-/* A section that is mapped now, at table addresses that were taken for it. */
-lwa_block *lwa_born(uintptr_t at, size_t len, uint64_t told, uintptr_t device);
+/* Takes table addresses for a section, with one more before and behind it. 0 where there is no room. */
+uint64_t lwa_take_addresses(uintptr_t at, size_t len);
 
-/* Gives a block of acc_malloc, which has all of its bytes, another address of the program; its device address for none. */
-void lwa_move(lwa_block *block, uintptr_t at);
+/* Table addresses without bytes of the program, for acc_malloc. 0 where there is no room. */
+uint64_t lwa_reserve(size_t len);
+void lwa_unreserve(uint64_t told);
 
-/* It is mapped no more; and a copy of it waits no more. */
-void lwa_ended(lwa_block *block);
-void lwa_made(lwa_block *block);
+/* A range of addresses: the first, and behind the last. */
+typedef struct lwa_taken {
+    uint64_t start, end;
+} lwa_taken;
 
-/* The program has a block's device address from now on, or a pointer on the device has: so each kernel is lent it. */
-void lwa_give(lwa_block *block);
-lwa_block *lwa_first_given(void);
+/* Says which addresses objects have, so that all others, but those that are reserved, can be taken again. */
+void lwa_set_taken(const lwa_taken *list, size_t count);
+void lwa_forget_addresses(void);
 
-/* The same of the blocks whose device addresses a kernel has left in one, where pointers stand. */
-void lwa_give_found(const lwa_block *block);
+/* ---- objects.c: where the program's bytes lie in the table's host memory ---- */
 
-/* The device address of a byte of a block. */
-uintptr_t lwa_device_of(const lwa_block *block, uintptr_t at);
+/* Gives table addresses to the sections and pointers of a directive, and says what the table is told. */
+void lwa_place_items(lwa_items *items);
 
-/* The block of a device address; at: the program's address of that byte. */
-lwa_block *lwa_on_device(uintptr_t device, uintptr_t *at);
+/* The table address of a byte of the program, and the first one of its object. 0 where it has none. */
+uint64_t lwa_told(uintptr_t at);
+uint64_t lwa_first_of(uintptr_t at);
 
-void lwa_each_block(void (*act)(lwa_block *));
-void lwa_forget_blocks(void);
+/* The program's address of a table address, or 0. */
+uintptr_t lwa_untold(uint64_t told);
+
+/* The mapped range that has a byte of the program. */
+bool lwa_range_of(uintptr_t at, lw_mapped_range *range);
+
+/* Says whether the object of an address is several members of a structure; and whether it is, and is mapped. */
+void lwa_mark_members(uintptr_t at, bool members);
+bool lwa_is_members(uintptr_t at, uint64_t *object);
+
+/* Drops the objects that need not stay, so that their table addresses can be taken again. */
+void lwa_sweep(void);
+void lwa_forget_objects(void);
 
 /* ---- mirror.c: bytes between the program and the table's host memory ---- */
 
 /* Whether all addresses of a section can be read. */
 bool lwa_is_memory(uintptr_t at, size_t len);
 
+/* Ends the program where a section that is to be copied cannot be read any more. */
+void lwa_want_memory(uintptr_t at, size_t len);
+
 /* Writes bytes to table addresses. */
 void lwa_write(uint64_t told, const void *bytes, size_t len);
 
-/* Copies a section to the table, or what the table copied out of a block to the program. */
+/* Copies a section that is known to be memory to the table, or from it. */
 void lwa_mirror_in(uintptr_t at, uint64_t told, size_t len);
-void lwa_mirror_out(const lwa_block *block, uintptr_t at, size_t len);
+void lwa_mirror_out(uintptr_t at, uint64_t told, size_t len);
 
-/* One more copy that waits in a queue. */
-void lwa_put_waiting(uint64_t queue, lwa_block *block, uintptr_t at, size_t len, bool out);
+/* Copies that may wait in a queue: one more; before some are made, and after it. */
+void lwa_put_waiting(uint64_t queue, const lwa_item *item, bool out);
+void lwa_before_copies(uint64_t queue);
+void lwa_after_copies(uint64_t queue, bool all_made);
 
-/* The device makes the next copy of a queue. No: none waits. Where its block is lent that is waited for. */
-bool lwa_step(uint64_t queue);
-
-/* Makes what waits in a queue, or in all. */
-void lwa_wait(uint64_t queue);
-
-/* How many copies wait in a queue. */
-uint64_t lwa_queue_len(uint64_t queue);
+/* How many there are, and the table addresses of one. */
+size_t lwa_waiting_count(void);
+lwa_taken lwa_waiting_at(size_t i);
 void lwa_forget_waiting(void);
 
 /* ---- pointers.c: pointers that were attached ---- */
 
-/* What the table is told of the pointer of an item. */
-uint64_t lwa_told_pointer(const lwa_item *item);
+/* Writes the targets of the pointers that a directive attaches, as table addresses. */
+void lwa_aim_pointers(const lwa_items *items);
 
-/* Before an item may attach its pointer: writes the target as a table address. After it: keeps what both are. */
-void lwa_aim(const lwa_item *item);
-void lwa_aimed(const lwa_item *item);
+/* Writes the program's own bytes of the attached pointers in a section. */
+void lwa_mirror_pointers(uintptr_t at, size_t len);
+bool lwa_any_attached(void);
 
-/* Writes the program's own bytes of the pointers in a section of a block, which the table's copies leave out. */
-void lwa_mirror_pointers(lwa_block *block, uintptr_t at, size_t len);
-
-/* Changes pointers in the bytes that the device has of a section: places to device addresses, or back. */
-void lwa_translate(const lwa_block *block, uintptr_t at, uint8_t *bytes, size_t len, bool to_device);
+/* Changes attached pointers in bytes that the device has of a section: places to addresses of the arena, or back. */
+void lwa_translate(uint64_t start, uint8_t *bytes, size_t len, bool to_arena);
+void lwa_forget_pointers(void);
 
 /* ---- directives.c ---- */
 
-/* enter data, exit data or update. What the items take is given back. No: there was no room on the device. */
-bool lwa_direct(lwa_directive *directive);
+/* enter data, exit data or update. What the items take is given back. */
+void lwa_direct(lwa_directive *directive);
 
 /* The start of a data region, which keeps the items, and its end. */
 lwa_region *lwa_enter(lwa_directive *directive);
 void lwa_exit(lwa_region *region);
 
+/* One call of the table, with its lines of the script and the log. No: it was refused, where that is an answer. */
+bool lwa_call(lwa_directive *directive, bool may_be_refused);
+
+/* Makes what waits in a queue, or in all; or the next copy of a queue, and answers whether the queue is empty then. */
+void lwa_wait(uint64_t queue);
+bool lwa_step(uint64_t queue);
+
 /* ---- items.c: what gcc passes, as items ---- */
 
 void lwa_add_item(lwa_items *items, uint32_t clause, uintptr_t at, size_t len);
+void lwa_drop_items(lwa_items *items);
 
 /* The items and the option of a directive of this kind. */
 void lwa_read_maps(const lwa_maps *maps, lwa_way way, lwa_directive *directive);
 
-/* Whether maps that say no more than that are of enter data, and not of exit data. */
-bool lwa_is_entry(const lwa_maps *maps);
+/* Whether a map of declare is of its end. */
+bool lwa_is_end(unsigned kind);
 
 /* ---- kernels.c ---- */
+
+/* The device address that the program gets of a place, and back. 0 for none. */
+uintptr_t lwa_arena_of(uint64_t place);
+uint64_t lwa_place_of(uintptr_t address);
+
+/* The device address of a byte of the program, or 0. */
+uintptr_t lwa_device_of(uintptr_t at);
+
+/* From now on kernels are lent all blocks, since the program has device addresses of its own. */
+void lwa_lend_all(void);
 
 /* Runs the compiled function in a region. */
 void lwa_kernel(void (*run)(void *), const lwa_maps *maps, const lwa_region *region);
@@ -268,8 +246,9 @@ void lwa_kernel(void (*run)(void *), const lwa_maps *maps, const lwa_region *reg
 void lwa_device_write(uintptr_t to, const void *bytes, size_t len);
 void lwa_device_read(uintptr_t from, void *bytes, size_t len);
 
-/* In a child of the program no kernel runs: what was lent is brought back. */
-void lwa_gather_all(void);
+/* The mapped range that a place lies in. */
+bool lwa_range_at(uint64_t place, lw_mapped_range *range);
+void lwa_forget_kernels(void);
 
 /* ---- script.c: what the program did as a script, and the report ---- */
 
@@ -277,13 +256,10 @@ void lwa_gather_all(void);
 extern bool lwa_scripted;
 void lwa_start_script(void);
 
-/* A child of the program writes neither. */
-void lwa_forget_script(void);
-
-/* The lines of a script: an item that is done, or is the program's last; and the other statements. */
-void lwa_script_item(const lwa_directive *directive, const lwa_item *item, bool done);
+/* The lines of a script: a directive that is done, or is the program's last; and the other statements. */
+void lwa_script_directive(const lwa_directive *directive, bool done);
 void lwa_script_write(uint64_t told, const uint8_t *bytes, size_t len);
-void lwa_script_kernel(const lwa_block *block);
+void lwa_script_kernel(const lw_mapped_range *range);
 void lwa_script_copies(const char *statement, uint64_t queue);
 
 /* Writes the report, and ends the script. */
@@ -295,27 +271,17 @@ const char *lwa_clause_name(uint32_t clause);
 
 /* ---- log.c: a line on standard error for each thing done ---- */
 
-/* What became of an item, as the table told it. */
-typedef struct lwa_done {
-    bool born, ended;
-    bool copied; /* at once */
-    bool put;    /* into the queue */
-    bool out;
-} lwa_done;
-
 void lwa_start_log(void);
 
-/* The head line of a directive; before each of its items, and after it; and the region's line. */
-void lwa_log_directive(const lwa_directive *directive);
-void lwa_log_before(const lwa_item *item);
-void lwa_log_item(const lwa_directive *directive, size_t i, const lwa_done *done);
-void lwa_log_region(const lwa_directive *directive);
+/* Before a directive, and after it. */
+void lwa_log_before(const lwa_directive *directive);
+void lwa_log_after(lwa_directive *directive);
 
 /* wait and step, and the copies that they made. */
 void lwa_log_copies(const char *statement, uint64_t queue);
-void lwa_log_made(uint64_t queue);
+void lwa_log_made(uint64_t queue, uint64_t made);
 
-void lwa_log_loan(const char *what, const lwa_block *block);
+void lwa_log_loan(const char *what, const lw_mapped_range *range, uint64_t lease);
 void lwa_log_refused(const lw_fault *fault);
 void lwa_finish_log(void);
 

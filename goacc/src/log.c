@@ -10,6 +10,8 @@
 #include "inner.h"
 #include "log.h"
 
+#define QUEUES 16
+
 bool lwa_logged;
 
 /* The copies that wait, in the order in which they were put. */
@@ -87,8 +89,8 @@ void lwa_log_copies(const char *statement, uint64_t queue)
     }
 }
 
-/* The copy of a queue that was put first is made. */
-void lwa_log_made(uint64_t queue)
+/* Says the next copy of a queue. No: the queue is empty. */
+static bool say_made(uint64_t queue)
 {
     size_t i = 0;
     lwa_copy copy;
@@ -97,7 +99,7 @@ void lwa_log_made(uint64_t queue)
         i++;
     }
     if (i == count) {
-        return;
+        return false;
     }
     copy = waiting[i];
     count_copy(&copy);
@@ -105,18 +107,36 @@ void lwa_log_made(uint64_t queue)
             copy.place, copy.queue);
     count--;
     memmove(&waiting[i], &waiting[i + 1], (count - i) * sizeof copy);
+    return true;
+}
+
+void lwa_log_made(uint64_t queue, uint64_t made)
+{
+    if (!lwa_logged) {
+        return;
+    }
+    if (made == 0) {
+        lwa_say("  idle");
+    }
+    for (uint64_t q = 0; q < QUEUES; q++) {
+        if (queue != LW_NO_QUEUE_GIVEN && queue != q) {
+            continue;
+        }
+        while (made != 0 && say_made(q)) {
+            made--;
+        }
+    }
 }
 
 /* ---- Kernels, refusals, the end ---- */
 
-void lwa_log_loan(const char *what, const lwa_block *block)
+void lwa_log_loan(const char *what, const lw_mapped_range *range, uint64_t lease)
 {
-    uint64_t place = 0;
+    uintptr_t at = lwa_logged ? lwa_untold(range->start) : 0;
 
     if (lwa_logged) {
-        lw_device_address(&lwa_table, block->told, &place);
-        lwa_say("  %s %#" PRIxPTR " %zu at %#" PRIx64 " serial %" PRIu64, what, block->at, block->len, place,
-                block->lease);
+        lwa_say("  %s %#" PRIxPTR " %" PRIu64 " at %#" PRIx64 " serial %" PRIu64, what,
+                at != 0 ? at : (uintptr_t)range->start, range->len, range->place, lease);
     }
 }
 

@@ -1,8 +1,10 @@
 /*
- * Bytes between the program and the table's host memory, and the copies that wait.
+ * Bytes between the program and the table's host memory.
  *
- * The bytes of a copy to the device are written to the table before it, and those of a copy from it are read behind it.
- * A copy that waits takes its bytes when it is made: so copies are made one by one, each with its bytes.
+ * Before a directive the bytes that it may copy in are written to the table, and after it those that it copied out are
+ * read. A copy that waits takes its bytes when it is made. So this keeps a list of the copies that may wait. Before
+ * copies of a queue are made the program's bytes of all of them are written, of those that go out too: so an entry of
+ * the list that the table has no copy for changes no byte.
  */
 #define _GNU_SOURCE
 #include <stdlib.h>
@@ -16,17 +18,15 @@
 #define SCRIPT_WRITE 64
 
 typedef struct waiting {
-    lwa_block *block;
+    uint64_t queue;
     uintptr_t at;
+    uint64_t told;
     size_t len;
     bool out;
 } waiting;
 
-/* The copies of a queue that wait, in the order in which they were put. */
-static struct {
-    waiting *list;
-    size_t first, end, room;
-} queues[LWA_QUEUES];
+static waiting *list;
+static size_t count, room;
 
 /* msync tells of pages that are mapped nowhere, and does nothing to the others. */
 bool lwa_is_memory(uintptr_t at, size_t len)
@@ -38,6 +38,9 @@ bool lwa_is_memory(uintptr_t at, size_t len)
         page = (uintptr_t)sysconf(_SC_PAGESIZE);
     }
     from = at / page * page;
+    if (len == 0) {
+        return true;
+    }
     if (at + len < at || from == 0) {
         return false;
     }
@@ -61,7 +64,7 @@ void lwa_write(uint64_t told, const void *bytes, size_t len)
     }
 }
 
-static void want_memory(uintptr_t at, size_t len)
+void lwa_want_memory(uintptr_t at, size_t len)
 {
     if (!lwa_is_memory(at, len)) {
         lwa_unserved("the %zu bytes of host memory at %#zx are to be copied, and are there no more", len, (size_t)at);
@@ -70,131 +73,66 @@ static void want_memory(uintptr_t at, size_t len)
 
 void lwa_mirror_in(uintptr_t at, uint64_t told, size_t len)
 {
-    want_memory(at, len);
     lwa_write(told, (const void *)at, len);
 }
 
-static void read_out(const lwa_block *block, uintptr_t at, void *to, size_t len)
+void lwa_mirror_out(uintptr_t at, uint64_t told, size_t len)
 {
     lw_fault fault;
 
-    lwa_must(lw_host_read(&lwa_table, block->told + (at - block->at), to, len, &fault), &fault);
+    lwa_must(lw_host_read(&lwa_table, told, (uint8_t *)at, len, &fault), &fault);
 }
 
-/* A pointer that the table left out has the bytes that were written there before, and so stays as it is. */
-void lwa_mirror_out(const lwa_block *block, uintptr_t at, size_t len)
+void lwa_put_waiting(uint64_t queue, const lwa_item *item, bool out)
 {
-    const uintptr_t end = at + len;
-
-    want_memory(at, len);
-    for (size_t i = 0; i < block->pointer_count && at < end; i++) {
-        const lwa_pointer *p = &block->pointers[i];
-        uintptr_t bytes;
-
-        if (p->at + LWA_POINTER <= at || p->at >= end) {
-            continue;
-        }
-        read_out(block, p->at, &bytes, LWA_POINTER);
-        if (bytes == p->own) {
-            read_out(block, at, (void *)at, p->at > at ? p->at - at : 0);
-            at = p->at + LWA_POINTER;
-        }
+    if (item->len == 0) {
+        return;
     }
-    read_out(block, at, (void *)at, at < end ? end - at : 0);
+    list = lwa_grown(list, count, &room, sizeof *list);
+    list[count++] = (waiting){queue, item->at, item->told.start, item->len, out};
 }
 
-/* ---- Queues ---- */
-
-void lwa_put_waiting(uint64_t queue, lwa_block *block, uintptr_t at, size_t len, bool out)
+static bool is_of(const waiting *w, uint64_t queue)
 {
-    queues[queue].list = lwa_grown(queues[queue].list, queues[queue].end, &queues[queue].room, sizeof(waiting));
-    queues[queue].list[queues[queue].end++] = (waiting){block, at, len, out};
-    block->waiting++;
+    return queue == LW_NO_QUEUE_GIVEN || w->queue == queue;
 }
 
-/* The first copy of a queue waits no more. */
-static waiting take_first(uint64_t queue)
+void lwa_before_copies(uint64_t queue)
 {
-    const waiting first = queues[queue].list[queues[queue].first++];
-
-    if (queues[queue].first == queues[queue].end) {
-        queues[queue].first = queues[queue].end = 0;
-    }
-    return first;
-}
-
-uint64_t lwa_queue_len(uint64_t queue)
-{
-    uint64_t len = 0;
-
-    lw_queue_len(&lwa_table, queue, &len);
-    return len;
-}
-
-/* The bytes of a copy that goes out are those that the device has then, but for attached pointers. */
-static void before_copy(const waiting *w)
-{
-    if (w->out) {
-        lwa_mirror_pointers(w->block, w->at, w->len);
-    } else {
-        lwa_mirror_in(w->at, w->block->told + (w->at - w->block->at), w->len);
-    }
-}
-
-bool lwa_step(uint64_t queue)
-{
-    uint64_t made = 0;
-    uint32_t status;
-    lw_fault fault;
-    waiting w;
-
-    do {
-        if (lwa_queue_len(queue) == 0) {
-            return false;
-        }
-        before_copy(&queues[queue].list[queues[queue].first]);
-        lwa_room();
-        status = lw_step(&lwa_table, queue, &made, &fault);
-    } while (lwa_is_lent(status));
-    lwa_must(status, &fault);
-    lwa_script_copies("step", queue);
-    w = take_first(queue);
-    if (w.out) {
-        lwa_mirror_out(w.block, w.at, w.len);
-    }
-    lwa_log_made(queue);
-    lwa_made(w.block);
-    return true;
-}
-
-/* Behind its copies, which are made before, the table is told of the wait itself. */
-void lwa_wait(uint64_t queue)
-{
-    bool idle = true;
-    uint64_t made;
-    lw_fault fault;
-    uint32_t status;
-
-    lwa_log_copies("wait", queue);
-    for (uint64_t q = 0; q < LWA_QUEUES; q++) {
-        while ((queue == LW_NO_QUEUE_GIVEN || queue == q) && lwa_step(q)) {
-            idle = false;
+    for (size_t i = 0; i < count; i++) {
+        if (is_of(&list[i], queue)) {
+            lwa_want_memory(list[i].at, list[i].len);
+            lwa_mirror_in(list[i].at, list[i].told, list[i].len);
         }
     }
-    if (idle) {
-        lwa_log_copies("  idle", LW_NO_QUEUE_GIVEN);
+}
+
+void lwa_after_copies(uint64_t queue, bool all_made)
+{
+    size_t kept = 0;
+
+    for (size_t i = 0; i < count; i++) {
+        if (is_of(&list[i], queue) && list[i].out) {
+            lwa_mirror_out(list[i].at, list[i].told, list[i].len);
+        }
+        if (!all_made || !is_of(&list[i], queue)) {
+            list[kept++] = list[i];
+        }
     }
-    lwa_script_copies("wait", queue);
-    lwa_room();
-    status = lw_wait(&lwa_table, queue, &made, &fault);
-    lwa_must(status, &fault);
+    count = kept;
+}
+
+size_t lwa_waiting_count(void)
+{
+    return count;
+}
+
+lwa_taken lwa_waiting_at(size_t i)
+{
+    return (lwa_taken){list[i].told, list[i].told + list[i].len};
 }
 
 void lwa_forget_waiting(void)
 {
-    for (uint64_t queue = 0; queue < LWA_QUEUES; queue++) {
-        while (queues[queue].first < queues[queue].end) {
-            lwa_made(take_first(queue).block);
-        }
-    }
+    count = 0;
 }

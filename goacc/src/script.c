@@ -10,12 +10,15 @@
 
 #include "inner.h"
 
+/* accrun takes lines of at most 4,096 bytes. */
+#define LINE 4096
+
+/* The most bytes of one item. */
+#define ITEM 160
+
 bool lwa_scripted;
 
 static FILE *script;
-
-/* In a child of the program neither is written, since they are the program's. */
-static bool is_child;
 
 /* The open regions by their numbers, the innermost last. */
 static uint64_t *open_regions;
@@ -61,7 +64,7 @@ void lwa_start_script(void)
     const char *name = getenv("LAMWIEST_SCRIPT");
 
     open_count = 0;
-    if (name == NULL || once || is_child) {
+    if (name == NULL || once) {
         return;
     }
     once = true;
@@ -69,17 +72,9 @@ void lwa_start_script(void)
     if (script == NULL) {
         lwa_unserved("the file of LAMWIEST_SCRIPT cannot be written");
     }
-    setvbuf(script, NULL, _IOLBF, BUFSIZ);
     lwa_scripted = true;
     fprintf(script, "# options: --host %" PRIu64 " --device %" PRIu64 "\n", lwa_limits.host, lwa_limits.device);
     fprintf(script, "array m %" PRIu64 "\n", lwa_limits.host);
-}
-
-void lwa_forget_script(void)
-{
-    is_child = true;
-    script = NULL;
-    lwa_scripted = false;
 }
 
 static void stop_script(const char *why)
@@ -95,20 +90,46 @@ static uint64_t offset(uint64_t told)
     return told - LW_HOST_BASE;
 }
 
-/* Writes the clause of an item, with places in m. */
-static void write_item(const lwa_item *item)
+/* Writes an item with places in m. Answers its length. */
+static size_t write_item(char *text, const lwa_item *item)
 {
+    const char *name = lwa_clause_name(item->clause);
     const lw_item *told = &item->told;
 
-    fprintf(script, " %s(m[%" PRIu64, lwa_clause_name(item->clause), offset(told->start));
-    if (item->clause != LW_ATTACH && item->clause != LW_DETACH) {
-        fprintf(script, ":%" PRIu64, told->len);
+    if (item->clause == LW_ATTACH || item->clause == LW_DETACH) {
+        return snprintf(text, ITEM, " %s(m[%" PRIu64 "])", name, offset(told->start));
     }
-    fputc(']', script);
     if (told->pointer != 0) {
-        fprintf(script, " via m[%" PRIu64 "]", offset(told->pointer));
+        return snprintf(text, ITEM, " %s(m[%" PRIu64 ":%" PRIu64 "] via m[%" PRIu64 "])", name, offset(told->start),
+                        told->len, offset(told->pointer));
     }
-    fputc(')', script);
+    return snprintf(text, ITEM, " %s(m[%" PRIu64 ":%" PRIu64 "])", name, offset(told->start), told->len);
+}
+
+/* Writes a directive and its options. No: it is longer than a line may be. A script wants one clause at least. */
+static bool write_directive(char *text, const lwa_directive *d)
+{
+    static const char *const of_none[] = {
+        [LWA_DATA] = " create(m[0:0])",
+        [LWA_ENTER_DATA] = " create(m[0:0])",
+        [LWA_EXIT_DATA] = " delete(m[0:0])",
+        [LWA_UPDATE] = " self(m[0:0])",
+    };
+    size_t len = sprintf(text, "%s%s", lwa_name_of(d->way), d->items.count == 0 ? of_none[d->way] : "");
+
+    for (size_t i = 0; i < d->items.count; i++) {
+        if (len + 2 * ITEM > LINE) {
+            return false;
+        }
+        len += write_item(text + len, &d->items.at[i]);
+    }
+    if (d->option) {
+        len += sprintf(text + len, d->way == LWA_UPDATE ? " if_present" : " finalize");
+    }
+    if (d->queue != LW_NO_QUEUE_GIVEN) {
+        sprintf(text + len, " async(%" PRIu64 ")", d->queue);
+    }
+    return true;
 }
 
 static void open_region(uint64_t region)
@@ -128,26 +149,24 @@ static void close_region(uint64_t region)
     fputs("end data\n", script);
 }
 
-void lwa_script_item(const lwa_directive *d, const lwa_item *item, bool done)
+void lwa_script_directive(const lwa_directive *d, bool done)
 {
+    char text[LINE];
+
     if (script == NULL) {
         return;
     }
     if (d->way == LWA_END_DATA) {
-        close_region(item->region);
+        close_region(d->region);
         return;
     }
-    fputs(lwa_name_of(d->way), script);
-    write_item(item);
-    if (d->option) {
-        fputs(d->way == LWA_UPDATE ? " if_present" : " finalize", script);
+    if (!write_directive(text, d)) {
+        stop_script("a directive is longer than a line may be");
+        return;
     }
-    if (d->queue != LW_NO_QUEUE_GIVEN) {
-        fprintf(script, " async(%" PRIu64 ")", d->queue);
-    }
-    fputc('\n', script);
+    fprintf(script, "%s\n", text);
     if (d->way == LWA_DATA && done) {
-        open_region(item->region);
+        open_region(d->region);
     }
 }
 
@@ -164,10 +183,10 @@ void lwa_script_write(uint64_t told, const uint8_t *bytes, size_t len)
 }
 
 /* A script knows nothing of what was compiled, so its kernel changes nothing. */
-void lwa_script_kernel(const lwa_block *block)
+void lwa_script_kernel(const lw_mapped_range *range)
 {
     if (script != NULL) {
-        fprintf(script, "kernel add 0 m[%" PRIu64 ":%zu]\n", offset(block->told), block->len);
+        fprintf(script, "kernel add 0 m[%" PRIu64 ":%" PRIu64 "]\n", offset(range->start), range->len);
     }
 }
 
@@ -215,7 +234,7 @@ void lwa_finish_script(void)
 {
     const char *name = getenv("LAMWIEST_REPORT");
 
-    if (name != NULL && !is_child) {
+    if (name != NULL) {
         finish_report(name);
     }
     if (script != NULL) {

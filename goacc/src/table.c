@@ -7,7 +7,6 @@
 #include <stdio.h>
 #include <stdlib.h>
 #include <string.h>
-#include <unistd.h>
 
 #include "inner.h"
 
@@ -17,22 +16,12 @@
 lw_table lwa_table = LW_NO_TABLE;
 lw_limits lwa_limits;
 
-static pthread_mutex_t lock = PTHREAD_ERRORCHECK_MUTEX_INITIALIZER_NP;
-static pthread_cond_t gathered = PTHREAD_COND_INITIALIZER;
+static pthread_mutex_t lock = PTHREAD_MUTEX_INITIALIZER;
 static uint64_t stored;
 
-/* The thread that ends the program, of which it is the only one that goes on. */
-static bool ending;
-static pthread_t ender;
-
-/* What ends with a thread: its open regions, the innermost first. */
-static pthread_key_t regions_key;
-
-/* The call of the program that this thread is in. */
-static _Thread_local const char *caller_name;
-static _Thread_local void *caller_from;
-static _Thread_local int cancel_state;
-static _Thread_local bool in_kernel;
+/* The call of the program that has the lock. */
+static const char *caller_name;
+static void *caller_from;
 
 /* A size in bytes from the environment, of digits alone. */
 static uint64_t size_of(const char *word, uint64_t otherwise)
@@ -72,30 +61,11 @@ static bool has_table(void)
     return lwa_table.at != NULL;
 }
 
-/* ---- The lock ---- */
-
-static void sleep_for_good(void)
-{
-    pthread_mutex_unlock(&lock);
-    while (true) {
-        pause();
-    }
-}
-
 void lwa_take(const char *name, void *from)
 {
+    pthread_mutex_lock(&lock);
     caller_name = name;
     caller_from = from;
-    pthread_setcancelstate(PTHREAD_CANCEL_DISABLE, &cancel_state);
-    if (pthread_mutex_lock(&lock) != 0) {
-        lwa_unserved("this thread is in a directive already");
-    }
-    if (ending && !pthread_equal(ender, pthread_self())) {
-        sleep_for_good();
-    }
-    if (in_kernel) {
-        lwa_unserved("it is called in a kernel");
-    }
     if (!has_table()) {
         start_table();
     }
@@ -104,95 +74,18 @@ void lwa_take(const char *name, void *from)
 void lwa_leave(void)
 {
     pthread_mutex_unlock(&lock);
-    pthread_setcancelstate(cancel_state, NULL);
 }
-
-void lwa_start_kernel(void)
-{
-    in_kernel = true;
-    pthread_mutex_unlock(&lock);
-}
-
-/* Blocks are brought back also where another thread ends the program, which may wait for them. */
-void lwa_end_kernel(void)
-{
-    pthread_mutex_lock(&lock);
-    in_kernel = false;
-    if (!has_table()) {
-        sleep_for_good();
-    }
-    pthread_cond_broadcast(&gathered);
-}
-
-bool lwa_is_lent(uint32_t status)
-{
-    if (status != LW_LENT) {
-        return false;
-    }
-    pthread_cond_wait(&gathered, &lock);
-    if (!has_table()) {
-        sleep_for_good();
-    }
-    return true;
-}
-
-/* ---- Threads and children of the program ---- */
-
-lwa_region *lwa_innermost(void)
-{
-    return pthread_getspecific(regions_key);
-}
-
-void lwa_set_innermost(lwa_region *region)
-{
-    pthread_setspecific(regions_key, region);
-}
-
-static void end_thread(void *innermost)
-{
-    size_t open = 0;
-
-    for (const lwa_region *region = innermost; region != NULL; region = region->below) {
-        open++;
-    }
-    lwa_take("end of a thread", NULL);
-    lwa_unserved("%zu of its data regions are open", open);
-}
-
-static void before_fork(void)
-{
-    pthread_mutex_lock(&lock);
-}
-
-static void after_fork(void)
-{
-    pthread_mutex_unlock(&lock);
-}
-
-/* A child has the table as it was, and no other thread of it. */
-static void in_child(void)
-{
-    lock = (pthread_mutex_t)PTHREAD_ERRORCHECK_MUTEX_INITIALIZER_NP;
-    gathered = (pthread_cond_t)PTHREAD_COND_INITIALIZER;
-    lwa_forget_script();
-    lwa_gather_all();
-}
-
-__attribute__((constructor)) static void at_start(void)
-{
-    pthread_key_create(&regions_key, end_thread);
-    pthread_atfork(before_fork, after_fork, in_child);
-}
-
-/* ---- The table ---- */
 
 void lwa_end_table(void)
 {
     lwa_finish_script();
     lwa_finish_log();
     lw_table_end(&lwa_table);
+    lwa_forget_addresses();
+    lwa_forget_objects();
     lwa_forget_waiting();
-    lwa_forget_blocks();
+    lwa_forget_pointers();
+    lwa_forget_kernels();
 }
 
 void lwa_room(void)
@@ -221,21 +114,11 @@ static void print_source(void)
     }
 }
 
-/* Handlers of the end of the program run, but not a second time, and not in a kernel, which may have what they want. */
 _Noreturn static void end_program(const char *text)
 {
     fflush(stdout);
     fprintf(stderr, "lamwiest: %s: %s", caller_name, text);
     print_source();
-    if (ending || in_kernel) {
-        if (has_table()) {
-            lwa_end_table();
-        }
-        fflush(NULL);
-        _exit(1);
-    }
-    ending = true;
-    ender = pthread_self();
     lwa_leave();
     exit(1);
 }
@@ -297,14 +180,13 @@ void *lwa_grown(void *list, size_t count, size_t *room, size_t size)
     return lwa_memory(list, *room * size);
 }
 
-/* At the end of the program the script, the log and the report are ended. */
+/* At the end of the program the script, the log and the report are ended. Where a kernel ends it, or another thread is
+   in a directive, they are not. */
 __attribute__((destructor)) static void at_end(void)
 {
-    if (pthread_mutex_lock(&lock) != 0) {
+    if (pthread_mutex_trylock(&lock) != 0) {
         return;
     }
-    ending = true;
-    ender = pthread_self();
     if (has_table()) {
         lwa_end_table();
     }

@@ -9,18 +9,7 @@ use Rattle.acc_base.specs.Devices.{OneDevice, Whole, new_device, new_whole}
 use Rattle.acc_clauses.specs.Contents.{Contents, AreNew}
 use Rattle.acc_clauses.specs.Spares.{Parked}
 use Rattle.acc_table.specs.declared.devices.Devices.{Devices}
-use Rattle.acc_table.specs.Devices.{device_or, whole_with, IsOnlyNone, AreSet}
-
--- a device of a new table while another is in use
-abbrev pub new_parked : Limits → ℕ → Parked
-new_parked l d = record { limits = limits_on d l; device = new_device; next = 1; serial = 1 }
-
--- these are the first so many devices of a new table, the first of all in use
-pub record AreNewUpTo (l : Limits) (n : ℕ) (xs : List (Option Parked)) : Type 0 where
-  pub count : length xs ≡ n
-  pub only : IsOnlyNone 0 xs
-  pub apart : (d : ℕ) (p : Parked) → slice_index_or xs d None ≡ Some p → p ≡ new_parked l d
-  pub devices : map (device_or new_device) xs ≡ replicate n new_device
+use Rattle.acc_table.specs.Devices.{device_or, whole_with, IsOnlyNone, AreSet, new_parked, AreNewUpTo}
 
 pub new_first : (l : Limits) → AreNewUpTo l 1 (None ∷ [])
 new_first l = record { count = refl; only = (refl, tt); apart = none; devices = refl }

@@ -1,9 +1,9 @@
 -- What the devices of a table have: that of one stands in a store, with host memory and the numbers of all, and the others stand apart.
-use Rattle.std.specs.Prelude.{ℕ, zero, suc, ◌≡◌, ◌≤◌, List, [], ◌∷◌, length, map, Option, None, Some, IsSome, slice_index_or}
+use Rattle.std.specs.Prelude.{ℕ, zero, suc, ◌≡◌, ◌≤◌, List, [], ◌∷◌, length, map, replicate, Option, None, Some, IsSome, slice_index_or}
 use Rattle.std.specs.List.{AllByRecursion}
 use Rattle.acc_base.specs.Limits.{Limits, limits_on}
 use Rattle.acc_base.specs.Records.{State}
-use Rattle.acc_base.specs.Devices.{OneDevice, Whole}
+use Rattle.acc_base.specs.Devices.{OneDevice, Whole, new_device}
 use Rattle.acc_clauses.specs.Views.{device_in_view}
 use Rattle.acc_clauses.specs.Spares.{Parked}
 use Rattle.acc_table.specs.declared.devices.Devices.{Devices}
@@ -38,3 +38,14 @@ pub record AreSet (l : Limits) (x : Devices) : Type 0 where
   pub only : IsOnlyNone x.current x.spares.items
   pub used : x.store.limits ≡ limits_on x.current l
   pub apart : (d : ℕ) (p : Parked) → slice_index_or x.spares.items d None ≡ Some p → IsParkedFor l d x.store.state p
+
+-- a device of a new table while another is in use
+abbrev pub new_parked : Limits → ℕ → Parked
+new_parked l d = record { limits = limits_on d l; device = new_device; next = 1; serial = 1 }
+
+-- these are the first so many devices of a new table, the first of all in use
+pub record AreNewUpTo (l : Limits) (n : ℕ) (xs : List (Option Parked)) : Type 0 where
+  pub count : length xs ≡ n
+  pub only : IsOnlyNone 0 xs
+  pub apart : (d : ℕ) (p : Parked) → slice_index_or xs d None ≡ Some p → p ≡ new_parked l d
+  pub devices : map (device_or new_device) xs ≡ replicate n new_device

@@ -6,7 +6,7 @@ ghost use Rattle.acc_base.specs.Limits.{Limits, limits_on};
 ghost use Rattle.acc_base.specs.Register.{region_at};
 ghost use Rattle.acc_base.specs.Calls.{base_of};
 ghost use Rattle.acc_base.specs.Devices.{device_at, new_whole, open_regions, device_of_region};
-ghost use Rattle.acc_table.specs.Devices.{whole_of, AreSet};
+ghost use Rattle.acc_table.specs.Devices.{whole_of, AreSet, AreNewUpTo};
 
 use acc_base::{Config, Fault};
 use acc_clauses::{Base, Spare, Store, View};
@@ -24,6 +24,21 @@ pub(crate) struct Devices {
     pub(crate) spares: Vec<Option<Spare>>,
 }
 
+/// What all devices but the first have on a new table. The store is made behind it, since what owns a store takes long to
+/// check.
+fn new_spares(alloc: Global, config: &Config) -> Result<Vec<Option<Spare>>, Fault>
+    ensures ok { IfOk result (λ spares. AreNewUpTo config.now config.now.devices spares.items) }
+    ensures only { IfErr result (λ fault. fault ≡ Memory) }
+{
+    config.laws();
+    let mut spares = Vec::new(alloc);
+    spares.push(None)?;
+    for device in 1..config.devices() {
+        spares.push(Some(Spare::new(alloc, config, device)?))?;
+    }
+    Ok(spares)
+}
+
 impl Devices {
     /// Nothing is mapped on any device, no region is open, and host memory is zero.
     pub(crate) fn new(alloc: Global, config: &Config) -> Result<Devices, Fault>
@@ -32,12 +47,8 @@ impl Devices {
         ensures only { IfErr result (λ fault. fault ≡ Memory) }
     {
         config.laws();
+        let spares = new_spares(alloc, config)?;
         let store = Store::new(alloc, config, 0)?;
-        let mut spares = Vec::new(alloc);
-        spares.push(None)?;
-        for device in 1..config.devices() {
-            spares.push(Some(Spare::new(alloc, config, device)?))?;
-        }
         Ok(Devices {
             store,
             current: 0,

@@ -1,31 +1,20 @@
-//! Rows, in each way to play them; and stored events that are replayed.
+//! Rows, in each way to play them.
 
+use crate::language::Row;
+use crate::same;
 use acc_base::{Config, Fault};
-use language::Row;
 use listing::play_in_lists;
 use playing::play_alone;
-use rows::{
-    SUBJECTS, arrays, bytes, devices, limits, loans, memory, pointers, queues, rebasing, regions,
-};
-use std::fmt::Debug;
+use rows::{SUBJECTS, Subject, rows_of};
 use std::process::Abort;
 use std::test::Fail;
 
 mod checks;
 mod example;
-mod language;
 mod leasing;
 mod listing;
 mod playing;
-mod random;
-mod replay;
 mod rows;
-mod turns;
-
-/// Ends the test where what was found is not what is wanted.
-fn same<T: PartialEq + Debug + Copy>(rt: &impl Abort, row: &str, found: T, wanted: T) {
-    assert_eq!(rt; found, wanted, "{row}");
-}
 
 fn play_each_in_lists(rt: &(impl Abort + AllocGlobal), rows: &[Row]) -> Result<(), Fault> {
     for row in rows {
@@ -48,8 +37,8 @@ fn play_each_alone(
 /// Calls that stand one behind the other are made as a list of turns.
 #[test]
 fn each_row_holds_for_lists_of_turns(rt: HostRuntime) -> Result<(), Fail> {
-    for rows in SUBJECTS {
-        play_each_in_lists(&rt, rows)?;
+    for subject in SUBJECTS {
+        play_each_in_lists(&rt, rows_of(subject))?;
     }
     Ok(())
 }
@@ -57,8 +46,8 @@ fn each_row_holds_for_lists_of_turns(rt: HostRuntime) -> Result<(), Fail> {
 /// Each call is made by itself, with a rebase behind it.
 #[test]
 fn each_row_holds_with_a_rebase_behind_each_call(rt: HostRuntime) -> Result<(), Fail> {
-    for rows in SUBJECTS {
-        play_each_alone(&rt, rows, true)?;
+    for subject in SUBJECTS {
+        play_each_alone(&rt, rows_of(subject), true)?;
     }
     Ok(())
 }
@@ -66,63 +55,73 @@ fn each_row_holds_with_a_rebase_behind_each_call(rt: HostRuntime) -> Result<(), 
 /// Each call is made by itself, and once more where memory is refused for it, which changed nothing.
 #[test]
 fn a_refused_growth_changes_no_row_of_limits(rt: HostRuntime) -> Result<(), Fail> {
-    play_each_alone(&rt, limits::ROWS, false)
+    play_each_alone(&rt, rows_of(Subject::Limits), false)
 }
 
 #[test]
 fn a_refused_growth_changes_no_row_of_arrays(rt: HostRuntime) -> Result<(), Fail> {
-    play_each_alone(&rt, arrays::ROWS, false)
+    play_each_alone(&rt, rows_of(Subject::Arrays), false)
 }
 
 #[test]
 fn a_refused_growth_changes_no_row_of_regions(rt: HostRuntime) -> Result<(), Fail> {
-    play_each_alone(&rt, regions::ROWS, false)
+    play_each_alone(&rt, rows_of(Subject::Regions), false)
 }
 
 #[test]
 fn a_refused_growth_changes_no_row_of_pointers(rt: HostRuntime) -> Result<(), Fail> {
-    play_each_alone(&rt, pointers::ROWS, false)
+    play_each_alone(&rt, rows_of(Subject::Pointers), false)
 }
 
 #[test]
 fn a_refused_growth_changes_no_row_of_queues(rt: HostRuntime) -> Result<(), Fail> {
-    play_each_alone(&rt, queues::ROWS, false)
+    play_each_alone(&rt, rows_of(Subject::Queues), false)
 }
 
 #[test]
 fn a_refused_growth_changes_no_row_of_loans(rt: HostRuntime) -> Result<(), Fail> {
-    play_each_alone(&rt, loans::ROWS, false)
+    play_each_alone(&rt, rows_of(Subject::Loans), false)
+}
+
+#[test]
+fn a_refused_growth_changes_no_row_of_lent_blocks(rt: HostRuntime) -> Result<(), Fail> {
+    play_each_alone(&rt, rows_of(Subject::LentBlocks), false)
 }
 
 #[test]
 fn a_refused_growth_changes_no_row_of_bytes(rt: HostRuntime) -> Result<(), Fail> {
-    play_each_alone(&rt, bytes::ROWS, false)
+    play_each_alone(&rt, rows_of(Subject::Bytes), false)
 }
 
 #[test]
 fn a_refused_growth_changes_no_row_of_devices(rt: HostRuntime) -> Result<(), Fail> {
-    play_each_alone(&rt, devices::ROWS, false)
+    play_each_alone(&rt, rows_of(Subject::Devices), false)
+}
+
+#[test]
+fn a_refused_growth_changes_no_row_of_many_devices(rt: HostRuntime) -> Result<(), Fail> {
+    play_each_alone(&rt, rows_of(Subject::ManyDevices), false)
 }
 
 #[test]
 fn a_refused_growth_changes_no_row_of_rebases(rt: HostRuntime) -> Result<(), Fail> {
-    play_each_alone(&rt, rebasing::ROWS, false)
+    play_each_alone(&rt, rows_of(Subject::Rebases), false)
 }
 
 #[test]
 fn a_refused_growth_changes_no_row_of_large_blocks(rt: HostRuntime) -> Result<(), Fail> {
-    play_each_alone(&rt, memory::ROWS, false)
+    play_each_alone(&rt, rows_of(Subject::LargeBlocks), false)
 }
 
 /// The same, with a rebase behind each call, and once more where memory is refused for that.
 #[test]
 fn a_refused_growth_changes_no_row_of_bytes_with_rebases(rt: HostRuntime) -> Result<(), Fail> {
-    play_each_alone(&rt, bytes::ROWS, true)
+    play_each_alone(&rt, rows_of(Subject::Bytes), true)
 }
 
 #[test]
 fn a_refused_growth_changes_no_row_of_pointers_with_rebases(rt: HostRuntime) -> Result<(), Fail> {
-    play_each_alone(&rt, pointers::ROWS, true)
+    play_each_alone(&rt, rows_of(Subject::Pointers), true)
 }
 
 /// The number of devices is from 1 to 4.

@@ -1,7 +1,8 @@
 //! What a table says, beside what a row says.
 
-use crate::tests::language::{At, Check};
-use crate::tests::turns::section;
+use crate::language::{At, Check};
+use crate::tests::playing::Play;
+use crate::turns::section;
 use acc_base::{Aim, Counters, Did, Event, Step};
 use acc_table::{DeviceBase, Table};
 use std::process::Abort;
@@ -132,10 +133,11 @@ fn holds(table: &Table, device: u64, check: Check) -> bool {
     }
 }
 
-/// Ends the test where the table does not answer a query as a row says.
-pub fn check(rt: &impl Abort, row: &str, table: &Table, device: u64, check: Check) {
+/// Ends the test where the table of a row does not answer a query as the row says.
+pub fn check(rt: &impl Abort, play: &Play, check: Check) {
+    let Play { name, line, .. } = play;
     assert!(rt;
-        holds(table, device, check),
-        "{row}: not {check:?} on device {device}"
+        holds(&play.table, play.device, check),
+        "{name}: not as line {line} says"
     );
 }

@@ -1,9 +1,9 @@
 //! Leases of a row: kernels work on them, and they are brought back. A lease of another table is brought too.
 
-use crate::tests::language::{Ask, Limits};
+use crate::language::{Ask, Limits};
+use crate::same;
 use crate::tests::playing::{Play, apply_twice};
-use crate::tests::same;
-use crate::tests::turns::{table_of, turn_of};
+use crate::turns::{table_of, turn_of};
 use acc_base::Fault;
 use acc_lend::{Add, run_one};
 use acc_table::{Answer, Call, Lease, Table, Turn, abandon, abandon_all};

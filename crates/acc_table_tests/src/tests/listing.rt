@@ -1,9 +1,9 @@
 //! How a row is played with lists of turns: those that stand one behind the other are one list.
 
-use crate::tests::language::{Line, Row};
+use crate::language::{Line, Row};
+use crate::same;
 use crate::tests::playing::{Play, asked, play_other};
-use crate::tests::same;
-use crate::tests::turns::turn_of;
+use crate::turns::turn_of;
 use acc_base::Fault;
 use acc_table::{Answer, Turn};
 use std::alloc::{AllocError, Global};
@@ -47,6 +47,7 @@ fn play_line(
     list: &mut Vec<Line>,
     line: Line,
 ) -> Result<(), Fault> {
+    play.line = play.line.saturating_add(1);
     if asked(line).is_some() {
         list.push(line)?;
         return Ok(());

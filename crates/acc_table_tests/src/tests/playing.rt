@@ -1,11 +1,11 @@
 //! How a row is played, each call by itself: with ample memory, and where a growth is refused.
 
+use crate::language::{Ask, Check, Limits, Line, Row, WIDE};
+use crate::same;
 use crate::tests::checks::{check, is_of_trace};
-use crate::tests::language::{Ask, Check, Limits, Line, Row};
 use crate::tests::leasing::{adds, brings, gathers};
-use crate::tests::rows::{A, WIDE};
-use crate::tests::same;
-use crate::tests::turns::{call_of, table_of, turn_of};
+use crate::tests::rows::A;
+use crate::turns::{call_of, table_of, turn_of};
 use acc_base::{Ended, Fault, Hole, Section};
 use acc_table::{Answer, Call, Lease, Mapped, Reply, Table, Turn, abandon, abandon_all};
 use std::alloc::{AllocError, Global};
@@ -17,6 +17,8 @@ pub struct Play {
     pub name: &'static str,
     /// The limits of its table.
     pub limits: Limits,
+    /// The number of the line that is played, counted from 1.
+    pub line: usize,
     /// Its table.
     pub table: Box<Table>,
     /// The leases that are out.
@@ -33,6 +35,7 @@ impl Play {
         Ok(Play {
             name: row.name,
             limits: row.limits,
+            line: 0,
             table: table_twice(alloc, row.limits)?,
             leases: Vec::new(alloc),
             device: 0,
@@ -45,6 +48,7 @@ impl Play {
         let Play {
             name: _,
             limits: _,
+            line: _,
             table: _,
             leases,
             device: _,
@@ -261,7 +265,7 @@ fn rebase_behind(rt: &impl Abort, play: &mut Play) {
 
 fn says(rt: &impl Abort, play: &Play, wanted: Check) {
     if !(play.is_rebased && is_of_trace(wanted)) {
-        check(rt, play.name, &play.table, play.device, wanted);
+        check(rt, play, wanted);
     }
 }
 
@@ -286,6 +290,7 @@ pub fn play_other(
 
 /// Plays a line.
 fn play_line(rt: &(impl Abort + AllocGlobal), play: &mut Play, line: Line) -> Result<(), Fault> {
+    play.line = play.line.saturating_add(1);
     match asked(line) {
         Some((ask, wanted)) => {
             let found = take(rt, play, ask, matches!(line, Line::Spares(_)))?;

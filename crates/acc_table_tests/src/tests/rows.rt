@@ -1,47 +1,72 @@
 //! Rows: calls and queries of a new table with their answers, by their subject. Each value is worked out by hand from
 //! OpenACC 3.3, sections 2.6 and 2.7, and the documents of this project.
 
-use crate::tests::language::{Limits, Row};
+use crate::language::{Limits, Row, WIDE};
 use acc_base::{DEVICE_BASE, Fault, HOST_BASE, Step};
 
-pub mod arrays;
-pub mod bytes;
-pub mod devices;
-pub mod limits;
-pub mod loans;
-pub mod memory;
-pub mod pointers;
-pub mod queues;
-pub mod rebasing;
-pub mod regions;
+mod arrays;
+mod bytes;
+mod devices;
+mod limits;
+mod loans;
+mod memory;
+mod pointers;
+mod queues;
+mod rebasing;
+mod regions;
 
-/// The rows of each subject.
-pub const SUBJECTS: [&[Row]; 10] = [
-    limits::ROWS,
-    arrays::ROWS,
-    regions::ROWS,
-    pointers::ROWS,
-    queues::ROWS,
-    loans::ROWS,
-    bytes::ROWS,
-    devices::ROWS,
-    rebasing::ROWS,
-    memory::ROWS,
+/// What rows are about.
+#[derive(Clone, Copy)]
+pub enum Subject {
+    Limits,
+    Arrays,
+    Regions,
+    Pointers,
+    Queues,
+    Loans,
+    LentBlocks,
+    Bytes,
+    Devices,
+    ManyDevices,
+    Rebases,
+    LargeBlocks,
+}
+
+/// All subjects.
+pub const SUBJECTS: [Subject; 12] = [
+    Subject::Limits,
+    Subject::Arrays,
+    Subject::Regions,
+    Subject::Pointers,
+    Subject::Queues,
+    Subject::Loans,
+    Subject::LentBlocks,
+    Subject::Bytes,
+    Subject::Devices,
+    Subject::ManyDevices,
+    Subject::Rebases,
+    Subject::LargeBlocks,
 ];
 
-/// Limits that no turn reaches, but for room in a queue for one transfer.
-pub const WIDE: Limits = Limits {
-    size: 64,
-    regions: 2,
-    tickets: 100,
-    counter_max: 100,
-    queue_cap: 1,
-    trace_cap: 100,
-    full: false,
-    devices: 1,
-};
+/// The rows of a subject. No other function names them, since each that does is checked with all of them.
+pub fn rows_of(subject: Subject) -> &'static [Row] {
+    match subject {
+        Subject::Limits => limits::ROWS,
+        Subject::Arrays => arrays::ROWS,
+        Subject::Regions => regions::ROWS,
+        Subject::Pointers => pointers::ROWS,
+        Subject::Queues => queues::ROWS,
+        Subject::Loans => loans::ROWS,
+        Subject::LentBlocks => loans::LENT,
+        Subject::Bytes => bytes::ROWS,
+        Subject::Devices => devices::ROWS,
+        Subject::ManyDevices => devices::MANY_ROWS,
+        Subject::Rebases => rebasing::ROWS,
+        Subject::LargeBlocks => memory::ROWS,
+    }
+}
 
-/// The same, with full traces.
+/// Limits that no turn reaches, with full traces.
 pub const FULL: Limits = Limits { full: true, ..WIDE };
 
 /// The first address of host memory.

@@ -1,13 +1,13 @@
 //! The life of an array, and what the queries tell of it.
 
-use crate::tests::language::Ask::{EnterData, ExitData, Update, UpdateIfPresent, Write};
-use crate::tests::language::Check::{
+use crate::language::Ask::{EnterData, ExitData, Update, UpdateIfPresent, Write};
+use crate::language::Check::{
     Address, Counted, Device, Events, Host, MappedFrom, Present, RegionBook, Regions, Steps,
     TicketBook, Used,
 };
-use crate::tests::language::Line::{Does, Refuses, Says};
-use crate::tests::language::{Check, Row};
-use crate::tests::rows::{A, BORN_1, COUNTED_1, DEVICE, DROPPED_1, ENDED_1, WIDE};
+use crate::language::Line::{Does, Refuses, Says};
+use crate::language::{Check, Row, WIDE};
+use crate::tests::rows::{A, BORN_1, COUNTED_1, DEVICE, DROPPED_1, ENDED_1};
 use acc_base::EnterClause::{Copyin, Create};
 use acc_base::ExitClause::{Copyout, Delete};
 use acc_base::UpdateClause::{ToDevice, ToSelf};

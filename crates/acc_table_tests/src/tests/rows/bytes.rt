@@ -1,10 +1,10 @@
 //! What full and counted traces store, and what stays of a lent block.
 
-use crate::tests::language::Ask::{Back, Enter, EnterData, Lend, Update, Write};
-use crate::tests::language::Check::{Bytes, Device, Events, Host};
-use crate::tests::language::Line::{Adds, Does, Gathers, Gives, Refuses, Says};
-use crate::tests::language::Row;
-use crate::tests::rows::{A, FULL, LENT_1, WIDE};
+use crate::language::Ask::{Back, Enter, EnterData, Lend, Update, Write};
+use crate::language::Check::{Bytes, Device, Events, Host};
+use crate::language::Line::{Adds, Does, Gathers, Gives, Refuses, Says};
+use crate::language::{Row, WIDE};
+use crate::tests::rows::{A, FULL, LENT_1};
 use acc_base::EnterClause::Copyin;
 use acc_base::RegionClause;
 use acc_base::UpdateClause::ToSelf;

@@ -1,16 +1,16 @@
 //! Several devices: each has a memory, mapped ranges, counters and queues of its own, and regions know their device.
 
-use crate::tests::language::Ask::{
+use crate::language::Ask::{
     Back, Enter, EnterData, EnterDataVia, Exit, ExitData, Lend, Step, Update, UpdateLater, Wait,
     Write,
 };
-use crate::tests::language::Check::{
+use crate::language::Check::{
     Address, Attached, Counted, Device, EndedFrom, Events, HoleFrom, Host, MappedFrom, Newest,
     Present, Queue, RegionBook, Regions, Used,
 };
-use crate::tests::language::Line::{Brings, Does, Drains, Gives, Idles, On, Refuses, Says};
-use crate::tests::language::{Ask, Check, Limits, Row};
-use crate::tests::rows::{A, DEVICE, LENT_1, TO_HOST, WIDE};
+use crate::language::Line::{Brings, Does, Drains, Gives, Idles, On, Refuses, Says};
+use crate::language::{Ask, Check, Limits, Row, WIDE};
+use crate::tests::rows::{A, DEVICE, LENT_1, TO_HOST};
 use acc_base::EnterClause::{Copyin, Create};
 use acc_base::ExitClause::Delete;
 use acc_base::UpdateClause::{ToDevice, ToSelf};
@@ -163,6 +163,10 @@ pub const ROWS: &[Row] = &[
             Says(Queue(3, 0)),
         ],
     },
+];
+
+/// What is counted over all devices, and what is told of one that is not there.
+pub const MANY_ROWS: &[Row] = &[
     Row {
         name: "a device that is not there is told behind too many items, and before an unknown queue and each item",
         limits: TWO,

@@ -1,10 +1,10 @@
 //! Limits: each holds to the last, and a refusal of the limit is told in its turn.
 
-use crate::tests::language::Ask::{Back, Enter, EnterData, Exit, ExitData, Lend, Update, Write};
-use crate::tests::language::Check::{Counted, Events, Host, Present, TicketBook, Used};
-use crate::tests::language::Line::{Does, Gives, Refuses, Says};
-use crate::tests::language::{Limits, Row};
-use crate::tests::rows::{A, WIDE};
+use crate::language::Ask::{Back, Enter, EnterData, Exit, ExitData, Lend, Update, Write};
+use crate::language::Check::{Counted, Events, Host, Present, TicketBook, Used};
+use crate::language::Line::{Does, Gives, Refuses, Says};
+use crate::language::{Limits, Row, WIDE};
+use crate::tests::rows::A;
 use acc_base::EnterClause::{Copyin, Create};
 use acc_base::ExitClause::Delete;
 use acc_base::UpdateClause::ToSelf;

@@ -1,17 +1,13 @@
 //! Loans: what a lent block is refused, and how it comes back.
 
-use crate::tests::language::Ask::{
+use crate::language::Ask::{
     Back, Enter, EnterData, Exit, ExitData, ExitDataLater, Finalize, Lend, Step, Update,
     UpdateIfPresent, UpdateLater, Wait, Write,
 };
-use crate::tests::language::Check::{
-    Address, Counted, Device, Events, Host, MappedFrom, Present, Queue,
-};
-use crate::tests::language::Line::{
-    Adds, Brings, Does, Drains, Gathers, Gives, Idles, Refuses, Says,
-};
-use crate::tests::language::{Ask, Row};
-use crate::tests::rows::{A, DEVICE, FULL, LENT_1, WIDE};
+use crate::language::Check::{Address, Counted, Device, Events, Host, MappedFrom, Present, Queue};
+use crate::language::Line::{Adds, Brings, Does, Drains, Gathers, Gives, Idles, Refuses, Says};
+use crate::language::{Ask, Row, WIDE};
+use crate::tests::rows::{A, DEVICE, FULL, LENT_1};
 use acc_base::EnterClause::{Copyin, Create};
 use acc_base::ExitClause::{Copyout, Delete};
 use acc_base::UpdateClause::{ToDevice, ToSelf};
@@ -192,6 +188,10 @@ pub const ROWS: &[Row] = &[
             Says(Events(6)),
         ],
     },
+];
+
+/// What a lent block lets pass, and what it does not.
+pub const LENT: &[Row] = &[
     Row {
         name: "where a section lies is told before its block is found lent",
         limits: WIDE,

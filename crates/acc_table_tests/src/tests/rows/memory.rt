@@ -1,12 +1,10 @@
 //! Sizes and numbers that are not small: each call is done where memory is ample.
 
-use crate::tests::language::Ask::{
-    Enter, EnterData, EnterEach, Exit, ExitData, Lend, UpdateLater, Write,
-};
-use crate::tests::language::Check::{Address, Bytes, Counted, Device, Host, Present, Queue, Used};
-use crate::tests::language::Line::{Adds, Does, Drains, Gathers, Gives, On, Refuses, Says};
-use crate::tests::language::{Limits, Row};
-use crate::tests::rows::{A, DEVICE, WIDE};
+use crate::language::Ask::{Enter, EnterData, EnterEach, Exit, ExitData, Lend, UpdateLater, Write};
+use crate::language::Check::{Address, Bytes, Counted, Device, Host, Present, Queue, Used};
+use crate::language::Line::{Adds, Does, Drains, Gathers, Gives, On, Refuses, Says};
+use crate::language::{Limits, Row, WIDE};
+use crate::tests::rows::{A, DEVICE};
 use acc_base::EnterClause::{Attach, Copyin, Create};
 use acc_base::ExitClause::{Copyout, Delete, Detach};
 use acc_base::UpdateClause::ToSelf;

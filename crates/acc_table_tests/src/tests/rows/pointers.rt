@@ -1,12 +1,12 @@
 //! Pointers: where they are attached and detached, what that leaves of bytes, and what it is refused for.
 
-use crate::tests::language::Ask::{
+use crate::language::Ask::{
     Enter, EnterData, EnterDataVia, EnterVia, Exit, ExitData, FinalizeVia, Update, Write,
 };
-use crate::tests::language::Check::{Aims, Attached, Device, Events, Used};
-use crate::tests::language::Line::{Does, Gives, Refuses, Says};
-use crate::tests::language::{Ask, Limits, Row};
-use crate::tests::rows::{A, DEVICE, TO_HOST, WIDE};
+use crate::language::Check::{Aims, Attached, Device, Events, Used};
+use crate::language::Line::{Does, Gives, Refuses, Says};
+use crate::language::{Ask, Limits, Row, WIDE};
+use crate::tests::rows::{A, DEVICE, TO_HOST};
 use acc_base::EnterClause::Copyin;
 use acc_base::ExitClause::{Delete, Detach};
 use acc_base::UpdateClause::ToDevice;

@@ -1,12 +1,12 @@
 //! Queues: transfers that wait, and what makes them.
 
-use crate::tests::language::Ask::{EnterData, ExitDataLater, Step, UpdateLater, Wait, Write};
-use crate::tests::language::Check::{
+use crate::language::Ask::{EnterData, ExitDataLater, Step, UpdateLater, Wait, Write};
+use crate::language::Check::{
     Address, Device, EndedFrom, Events, HoleFrom, Host, Queue, TicketBook, Used,
 };
-use crate::tests::language::Line::{Does, Drains, Idles, Refuses, Says};
-use crate::tests::language::{Limits, Row};
-use crate::tests::rows::{A, DEVICE, WIDE};
+use crate::language::Line::{Does, Drains, Idles, Refuses, Says};
+use crate::language::{Limits, Row, WIDE};
+use crate::tests::rows::{A, DEVICE};
 use acc_base::EnterClause::{Copyin, Create};
 use acc_base::ExitClause::Copyout;
 use acc_base::UpdateClause::{ToDevice, ToSelf};

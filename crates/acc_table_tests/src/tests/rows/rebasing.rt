@@ -1,12 +1,10 @@
 //! Events that are folded into the base, and the room that the trace has then.
 
-use crate::tests::language::Ask::{
-    Enter, EnterData, Exit, ExitDataLater, Lend, UpdateLater, Wait, Write,
-};
-use crate::tests::language::Check::{Based, BasedNumbers, Events, Host, Present, Stored, Used};
-use crate::tests::language::Line::{Does, Drains, Gives, Rebases, Refuses, Says, Spares};
-use crate::tests::language::{Ask, Limits, Row};
-use crate::tests::rows::{A, FULL, TO_HOST, WIDE};
+use crate::language::Ask::{Enter, EnterData, Exit, ExitDataLater, Lend, UpdateLater, Wait, Write};
+use crate::language::Check::{Based, BasedNumbers, Events, Host, Present, Stored, Used};
+use crate::language::Line::{Does, Drains, Gives, Rebases, Refuses, Says, Spares};
+use crate::language::{Ask, Limits, Row, WIDE};
+use crate::tests::rows::{A, FULL, TO_HOST};
 use acc_base::EnterClause::{Attach, Copyin};
 use acc_base::ExitClause::Copyout;
 use acc_base::UpdateClause::ToSelf;

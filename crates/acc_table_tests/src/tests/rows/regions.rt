@@ -1,12 +1,12 @@
 //! Regions: their numbers, and what holds a mapping.
 
-use crate::tests::language::Ask::{Enter, EnterData, Exit, Finalize};
-use crate::tests::language::Check::{
+use crate::language::Ask::{Enter, EnterData, Exit, Finalize};
+use crate::language::Check::{
     Counted, Events, Host, Newest, Present, RegionBook, Regions, Steps, TicketBook, Used,
 };
-use crate::tests::language::Line::{Does, Gives, Refuses, Says};
-use crate::tests::language::{Limits, Row};
-use crate::tests::rows::{A, BORN_1, BORN_2, COUNTED_1, DROPPED_1, ENDED_1, ENDED_2, WIDE};
+use crate::language::Line::{Does, Gives, Refuses, Says};
+use crate::language::{Limits, Row, WIDE};
+use crate::tests::rows::{A, BORN_1, BORN_2, COUNTED_1, DROPPED_1, ENDED_1, ENDED_2};
 use acc_base::EnterClause::Copyin;
 use acc_base::ExitClause::Copyout;
 use acc_base::{Fault, RegionClause, Step};

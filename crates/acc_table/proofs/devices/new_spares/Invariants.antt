@@ -1,5 +1,5 @@
-use Rattle.acc_table.proofs.NewDevices.{AreNewUpTo}
-use Rattle.acc_table.proofs.devices.Devices.new.Given as goal
+use Rattle.acc_table.specs.Devices.{AreNewUpTo}
+use Rattle.acc_table.proofs.devices.new_spares.Given as goal
 
 -- the devices before this one are there
 abbrev pub invariant-loop-device : goal.invariant-loop-device

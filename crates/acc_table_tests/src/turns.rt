@@ -1,6 +1,6 @@
 //! The turns that a row asks of a table, and the table.
 
-use crate::tests::language::{Ask, At, Limits};
+use crate::language::{Ask, At, Limits};
 use acc_base::{
     Config, Directive, EnterClause, ExitClause, Fault, Item, List, RegionClause, Section,
     UpdateClause,

@@ -26,6 +26,18 @@ pub struct Limits {
     pub devices: u64,
 }
 
+/// Limits that no turn reaches, but for room in a queue for one transfer.
+pub const WIDE: Limits = Limits {
+    size: 64,
+    regions: 2,
+    tickets: 100,
+    counter_max: 100,
+    queue_cap: 1,
+    trace_cap: 100,
+    full: false,
+    devices: 1,
+};
+
 /// The items of one data clause each: the clause, the first host address and the length.
 pub type Items<C> = &'static [(C, u64, u64)];
 
@@ -74,7 +86,7 @@ pub enum Ask {
 }
 
 /// A query with its answer.
-#[derive(Clone, Copy, Debug)]
+#[derive(Clone, Copy)]
 pub enum Check {
     /// Where a section lies.
     Found(At, Found),

@@ -1,21 +1,20 @@
 //! Two thousand turns in no order on two devices, with full traces: a replay of the stored events alone has the bytes of all
 //! memories.
 
-use crate::tests::language::Ask::{
-    self, Back, Enter, EnterData, EnterDataVia, EnterVia, Exit, ExitData, ExitDataLater, Finalize,
-    FinalizeVia, Lend, Update, UpdateIfPresent, UpdateLater, Wait, Write,
-};
-use crate::tests::language::Limits;
-use crate::tests::replay::Replay;
-use crate::tests::rows::{A, WIDE};
-use crate::tests::same;
-use crate::tests::turns::{table_of, turn_of};
+use crate::replay::Replay;
 use acc_base::EnterClause::{self, Attach, Copyin};
 use acc_base::ExitClause::{Copyout, Delete, Detach};
 use acc_base::RegionClause::{self, Copy, Present};
 use acc_base::UpdateClause::{ToDevice, ToSelf};
-use acc_base::{Event, Fault, Section};
+use acc_base::{Event, Fault, HOST_BASE, Section};
 use acc_table::{Lease, Table, abandon_all};
+use acc_table_tests::language::Ask::{
+    self, Back, Enter, EnterData, EnterDataVia, EnterVia, Exit, ExitData, ExitDataLater, Finalize,
+    FinalizeVia, Lend, Update, UpdateIfPresent, UpdateLater, Wait, Write,
+};
+use acc_table_tests::language::{Limits, WIDE};
+use acc_table_tests::same;
+use acc_table_tests::turns::{table_of, turn_of};
 use std::alloc::{AllocError, Global};
 use std::process::Abort;
 use std::test::Fail;
@@ -39,6 +38,9 @@ const LIMITS: Limits = Limits {
     devices: DEVICES,
     ..WIDE
 };
+
+/// The first array.
+const A: u64 = HOST_BASE;
 
 /// A second array, behind the first one.
 const B: u64 = A + 16;

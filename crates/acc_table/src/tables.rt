@@ -13,6 +13,8 @@ ghost use Rattle.acc_base.specs.Calls.{ticket, allowance, trace_room, device_for
 ghost use Rattle.acc_base.specs.Accounts.{IsAccounted};
 ghost use Rattle.acc_table.specs.Calls.{IsDone, IsRefusal};
 ghost use Rattle.acc_clauses.specs.Lending.{IsLoanPlanned};
+ghost use Rattle.acc_table.specs.Devices.{whole_of, AreSet};
+ghost use Rattle.acc_table.specs.Kept.{IsKept, world_of};
 ghost use Rattle.acc_table.specs.Making.{admitted, write_admitted, IsLoanJudged, IsLeaseJudged};
 
 use crate::calls::{Call, Reply};
@@ -60,6 +62,24 @@ impl Model for Table {
     ghost invariant = { λ t. IsKept (world_of t.kept.value.config t.kept.value.base (whole_of t.kept.value.devices) t.kept.value.trace.items) × AreSet t.kept.value.config t.kept.value.devices };
 }
 
+/// What a new table keeps.
+fn new_kept(alloc: Global, config: Config) -> Result<Kept, Fault>
+    ensures kept { IfOk result (λ k. IsKept (world_of k.config k.base (whole_of k.devices) k.trace.items) × AreSet k.config k.devices) }
+    ensures new { IfOk result (λ k. world_of k.config k.base (whole_of k.devices) k.trace.items ≡ new_world config) }
+    ensures err { IfErr result (λ fault. fault ≡ Memory) }
+{
+    config.laws();
+    let devices = Devices::new(alloc, &config)?;
+    let base = devices.base(alloc, &config, 0)?;
+    Ok(Kept {
+        config,
+        devices,
+        base,
+        trace: Vec::new(alloc),
+        plan: Plan::new(),
+    })
+}
+
 impl Table {
     /// A new table: nothing is mapped, no region is open, and host memory is zero.
     ///
@@ -70,16 +90,7 @@ impl Table {
         ensures ok { IfOk result (λ table. table ≡ new_world config) }
         ensures err { IfErr result (λ fault. fault ≡ Memory) }
     {
-        config.laws();
-        let devices = Devices::new(alloc, &config)?;
-        let base = devices.base(alloc, &config, 0)?;
-        let kept = Kept {
-            config,
-            devices,
-            base,
-            trace: Vec::new(alloc),
-            plan: Plan::new(),
-        };
+        let kept = new_kept(alloc, config)?;
         Ok(Table {
             kept: Box::new(alloc, kept)?,
         })

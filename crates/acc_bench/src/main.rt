@@ -1,19 +1,16 @@
-//! Measures the crates of the runtime: `acc_bench placement` prints how long the calls of the placement take,
-//! `acc_bench device` those of device memory, `acc_bench present` those of the present table, `acc_bench clauses` how
-//! long directives of many items take, `acc_bench table` how long the calls of the table, and `acc_bench script` how long
-//! scripts.
+//! Measures the library: `acc_bench NAME` prints how long the calls of one crate take, and what threads that share a table
+//! come to. Without a name it prints a usage line, which lists the names.
 #![tactic(auto)]
 
-mod all_over;
-mod bases;
-mod clauses;
-mod copies;
-mod device;
-mod placement;
+mod lend;
+mod measuring;
 mod present;
 mod script;
 mod table;
+mod threads;
 
+use crate::measuring::run;
+use crate::threads::Work;
 use anyhow::Result;
 use std::env;
 use std::rt::Clock;
@@ -23,28 +20,29 @@ use std::thread::Threads;
 fn main(rt: HostRuntime) -> Result<()> {
     match env::args(&rt)?.nth(1) {
         Some(name) => measure(&rt, &name),
-        None => tell_usage(&rt),
+        None => measure(&rt, ""),
     }
 }
 
-/// Measures the crate of a name, without `acc_`.
+/// Measures what has this name.
 fn measure<R: Print + Clock + Threads + Wait + Sync + AllocGlobal>(
     rt: &R,
     name: &str,
 ) -> Result<()> {
     match name {
-        "placement" => placement::run(rt),
-        "device" => device::run(rt),
-        "present" => present::run(rt),
-        "clauses" => clauses::run(rt),
-        "table" => table::run(rt),
+        "present" => run::<present::Mapped, R>(rt),
+        "table" => run::<table::Ranges, R>(rt),
         "script" => script::run(rt),
+        "lend" => lend::run(rt),
+        "pairs" => threads::run(rt, "pairs, threads", Work::Pairs),
+        "drills" => threads::run(rt, "drills, threads", Work::Drills),
+        "crowd" => threads::run(rt, "all calls, threads", Work::Crowd),
         _ => tell_usage(rt),
     }
 }
 
 /// Prints how the program is called.
 fn tell_usage<R: Print>(rt: &R) -> Result<()> {
-    println!(rt; "usage: acc_bench placement|device|present|clauses|table|script")?;
+    println!(rt; "usage: acc_bench present|table|script|lend|pairs|drills|crowd")?;
     Ok(())
 }

@@ -244,6 +244,39 @@ uint32_t lw_regions(lw_table *table, uint64_t *regions);
    of an empty queue. */
 uint32_t lw_events(lw_table *table, uint64_t *events);
 
+/* What an item of a directive did to mappings, counters and bytes. */
+enum {
+    LW_COUNTED = 1,      /* a reference counter of a mapped range rose by one */
+    LW_BORN = 2,         /* its section was mapped to a new block, with a counter of one */
+    LW_DROPPED = 3,      /* a reference counter fell by one or was set to zero, and its range stays mapped */
+    LW_ENDED_RANGE = 4,  /* the same, and both counters are zero now: the range is mapped no more */
+    LW_MOVED = 5         /* an update copied its section, or put the copy into a queue */
+};
+
+/* What an item did to the pointer to its data (section 2.6.8). */
+enum {
+    LW_AIMED = 1,        /* it was aimed at another target: its attachment counter is one */
+    LW_AIMED_AGAIN = 2,  /* it was aimed at the same target: its counter rose by one */
+    LW_DETACHED = 3,     /* its counter fell by one; at zero it has the host's value again */
+    LW_CLEARED = 4       /* it was detached at once: its counter is zero */
+};
+
+/* What one item did. All numbers that do not apply are 0. */
+typedef struct lw_item_did {
+    uint32_t step;    /* LW_COUNTED to LW_MOVED, or 0 where the item took no action */
+    uint32_t aim;     /* LW_AIMED to LW_CLEARED, or 0 where no pointer was attached or detached */
+    uint64_t block;   /* the number of the block whose counter, mapping or bytes it was; from 1 on */
+    uint64_t place;   /* of LW_BORN: the device address of the block's first byte */
+    uint64_t pointer; /* the host address of the pointer */
+    uint64_t holder;  /* the number of the block that has the pointer's copy */
+    uint64_t target;  /* of LW_AIMED: the device address that the copy holds now */
+} lw_item_did;
+
+/* What an item of the last event did, counted from 0 in the order in which the items were written; of lw_exit, in that
+   of the entry. The copy of lw_step is one item, LW_MOVED. LW_ABSENT where the last event has no such item, and behind
+   lw_rebase. */
+uint32_t lw_did(lw_table *table, uint64_t item, lw_item_did *did);
+
 /* ---- Texts, in ASCII, without a zero at the end ---- */
 
 /* How long the text of a refusal is at most, in bytes. */

@@ -34,6 +34,10 @@
 
 #define NO_QUEUE LW_NO_QUEUE_GIVEN
 
+/* What an item did: its step, what was done to its pointer, their blocks, and a device address or 0. */
+#define DID(step, aim, block, holder, address) \
+    ((address) << 24 | (uint64_t)(holder) << 16 | (uint64_t)(block) << 8 | (aim) << 4 | (step))
+
 enum { LISTED = 2, ITEMS = 65, TEXT = 4096 };
 
 /* One call: its arguments, and what it has to answer. Bytes are those of a number, the highest first, and zeros behind
@@ -233,6 +237,28 @@ static uint32_t mapped(lw_table *table, const row *row, uint64_t *number, lw_fau
     return asked(status, fault);
 }
 
+/* What an item of the last event did, but for its pointer, as one number. */
+static uint32_t did(lw_table *table, const row *row, uint64_t *number, lw_fault *fault)
+{
+    lw_item_did told;
+    uint32_t status = lw_did(table, row->at, &told);
+
+    if (status == LW_DONE) {
+        *number = DID(told.step, told.aim, told.block, told.holder, told.place | told.target);
+    }
+    return asked(status, fault);
+}
+
+/* The pointer that it attached or detached. */
+static uint32_t did_to(lw_table *table, const row *row, uint64_t *number, lw_fault *fault)
+{
+    lw_item_did told = {.pointer = *number};
+    uint32_t status = lw_did(table, row->at, &told);
+
+    *number = told.pointer;
+    return asked(status, fault);
+}
+
 static uint32_t queue_len(lw_table *table, const row *row, uint64_t *number, lw_fault *fault)
 {
     return asked(lw_queue_len(table, row->at, number), fault);
@@ -282,7 +308,11 @@ static const row USUAL[] = {
     {"both writes are events", events, ANSWERS(2)},
 
     {"data", enter, {{LW_COPY, A, 16, 0}}, 1, ANSWERS(1)},
+    {"what it did", did, .at = 0, ANSWERS(DID(LW_BORN, 0, 1, 0, LW_DEVICE_BASE))},
+    {"with no pointer", did_to, .at = 0, ANSWERS(0)},
+    {"it has one item", did, .at = 1, REFUSED(LW_ABSENT, 0, 0)},
     {"data without items", enter, .count = 0, ANSWERS(2)},
+    {"which did nothing", did, .at = 0, REFUSED(LW_ABSENT, 0, 0)},
     {"data in as many regions as may be", enter, {{LW_PRESENT, A, 16, 0}}, 1, REFUSED(LW_NO_ALLOWANCE, 0, 0)},
     {"end data", leave, .at = 2, DONE},
     {"end data twice", leave, .at = 2, REFUSED(LW_NO_REGION, 0, 2)},
@@ -329,6 +359,8 @@ static const row USUAL[] = {
     {"enter data of more than the device has", enter_data, {{LW_CREATE_ZERO, C, 48, 0}}, 1, .queue = NO_QUEUE,
      REFUSED(LW_DEVICE_FULL, 0, 48)},
     {"step", step, .at = 3, ANSWERS(1)},
+    {"what it copied", did, .at = 0, ANSWERS(DID(LW_MOVED, 0, 2, 0, UINT64_C(0)))},
+    {"it copied once", did, .at = 1, REFUSED(LW_ABSENT, 0, 0)},
     {"step of an empty queue", step, .at = 3, ANSWERS(0)},
     {"step of no queue", step, .at = 16, REFUSED(LW_NO_QUEUE, 0, 16)},
     {"update async", update, {{LW_DEVICE, B, 16, 0}}, 1, .queue = 15, DONE},
@@ -336,22 +368,29 @@ static const row USUAL[] = {
     {"wait for an empty queue", wait_for, .at = 15, ANSWERS(0)},
     {"wait for no queue", wait_for, .at = 16, REFUSED(LW_NO_QUEUE, 0, 16)},
     {"update", update, {{LW_SELF, A, 8, 0}}, 1, .queue = NO_QUEUE, DONE},
+    {"what it did", did, .at = 0, ANSWERS(DID(LW_MOVED, 0, 1, 0, UINT64_C(0)))},
     {"update with a clause of data", update, {{LW_SELF, A, 8, 0}, {LW_COPYIN, A, 8, 0}}, 2, .queue = NO_QUEUE,
      REFUSED(LW_BAD_CLAUSE, 1, 0)},
     {"update of an absent section", update, {{LW_SELF, C, 8, 0}}, 1, .queue = NO_QUEUE, REFUSED(LW_NOT_PRESENT, 0, 0)},
     {"update of it if_present", update, {{LW_SELF, C, 8, 0}}, 1, .queue = NO_QUEUE, .option = true, DONE},
+    {"which did nothing", did, .at = 0, ANSWERS(0)},
 
     {"host write of a pointer to A", host_write, .at = C, .len = 8, .bytes = 0x0010000000000000, DONE},
     {"enter data of the pointer", enter_data, {{LW_COPYIN, C, 16, 0}}, 1, .queue = NO_QUEUE, DONE},
     {"attach", enter_data, {{LW_ATTACH, C, 0, 0}}, 1, .queue = NO_QUEUE, DONE},
+    {"what it did", did, .at = 0, ANSWERS(DID(0, LW_AIMED, 0, 3, LW_DEVICE_BASE))},
+    {"to the pointer", did_to, .at = 0, ANSWERS(C)},
     {"attachment counter", attachment, .at = C, ANSWERS(1)},
     {"the device has a pointer to A's place", device_read, .at = C, .len = 8, ANSWERS(0x0000000001000000)},
     {"detach", exit_data, {{LW_DETACH, C, 0, 0}}, 1, .queue = NO_QUEUE, DONE},
+    {"what it did", did, .at = 0, ANSWERS(DID(0, LW_DETACHED, 0, 3, UINT64_C(0)))},
     {"attachment counter of a detached pointer", attachment, .at = C, ANSWERS(0)},
     {"the device has the host's pointer", device_read, .at = C, .len = 8, ANSWERS(0x0010000000000000)},
     {"data of a section and its pointer", enter, {{LW_PRESENT, A, 16, C}}, 1, ANSWERS(3)},
+    {"what it did", did, .at = 0, ANSWERS(DID(LW_COUNTED, LW_AIMED, 1, 3, LW_DEVICE_BASE))},
     {"the pointer is attached", attachment, .at = C, ANSWERS(1)},
     {"the end of that data", leave, .at = 3, DONE},
+    {"what it did", did, .at = 0, ANSWERS(DID(LW_DROPPED, LW_DETACHED, 1, 3, UINT64_C(0)))},
     {"the pointer is detached", attachment, .at = C, ANSWERS(0)},
 
     {"enter data once more", enter_data, {{LW_CREATE, B, 16, 0}}, 1, .queue = NO_QUEUE, DONE},
@@ -363,9 +402,11 @@ static const row USUAL[] = {
      REFUSED(LW_PARTLY_PRESENT, 0, 0)},
     {"exit data async in no queue", exit_data, {{LW_DELETE, B, 16, 0}}, 1, .queue = 99, REFUSED(LW_NO_QUEUE, 0, 99)},
     {"exit data", exit_data, {{LW_DELETE, B, 16, 0}}, 1, .queue = NO_QUEUE, DONE},
+    {"what it did", did, .at = 0, ANSWERS(DID(LW_DROPPED, 0, 2, 0, UINT64_C(0)))},
     {"dynamic counter after one exit", dynamic, .at = B, .len = 16, ANSWERS(1)},
     {"enter data again", enter_data, {{LW_CREATE, B, 16, 0}}, 1, .queue = NO_QUEUE, DONE},
     {"exit data finalize", exit_data, {{LW_COPYOUT, B, 16, 0}}, 1, .queue = NO_QUEUE, .option = true, DONE},
+    {"what it did", did, .at = 0, ANSWERS(DID(LW_ENDED_RANGE, 0, 2, 0, UINT64_C(0)))},
     {"B is not present then", is_present, .at = B, .len = 16, ANSWERS(0)},
     {"A's and C's blocks are used", used, ANSWERS(32)},
 
@@ -429,6 +470,7 @@ static const row SEVERAL[] = {
     {"data of 24 bytes", enter, {{LW_COPY, ODD, ODD_SIZE, 0}}, 1, ANSWERS(3)},
     {"all five blocks are used", used, ANSWERS(16 + 16 + 16 + 8192 + 32)},
     {"rebase of four events", rebase, ANSWERS(4)},
+    {"what the last event did is not stored any more", did, .at = 0, REFUSED(LW_ABSENT, 0, 0)},
 
     {"the first lease", lend, .region = 1, .at = A, .len = 16, ANSWERS(1)},
     {"the second lease", lend, .region = 1, .at = B + 8, .len = 8, ANSWERS(2)},

@@ -5,5 +5,6 @@ pub mod Clauses
 pub mod Answers
 pub mod Leases
 pub mod Finds
+pub mod Dids
 pub mod Begins
 pub mod Shows

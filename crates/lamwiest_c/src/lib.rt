@@ -8,6 +8,7 @@
 //! Nothing here takes a lock: a handle is for one thread at a time.
 #![tactic(auto)]
 
+mod dids;
 mod directives;
 mod environments;
 mod handles;

@@ -78,7 +78,7 @@ fn raw_mapped(mapped: Mapped) -> RawMapped
 }
 
 /// Puts what was found into its place, and answers the status.
-fn found<T: Copy + Drop>(answer: Option<T>, place: &mut T) -> u32
+pub fn found<T: Copy + Drop>(answer: Option<T>, place: &mut T) -> u32
     ensures { IsFoundOrAbsent answer result place.old place.new }
 {
     match answer {

@@ -190,41 +190,41 @@ fn bare<'a>(alloc: Global) -> Command<'a> {
 }
 
 /// Adds the options of what runs, and within which limits.
-fn with_limits<'a>(alloc: Global, command: Command<'a>) -> Result<Command<'a>, Error> {
-    Ok(
-        command
-            .arg(size_option(alloc, "host", "Size of host memory"))?
-            .arg(size_option(alloc, "device", "Size of each device's memory"))?
-            .arg(devices_option(alloc))?
-            .arg(threads_option(alloc))?
-            .arg(drill_option(alloc))?
-            .arg(trace_option(alloc))?,
-    )
+fn with_limits<'a>(alloc: Global, command: Command<'a>) -> Result<Command<'a>, AllocError> {
+    command.args(vec![in alloc;
+        size_option(alloc, "host", "Size of host memory"),
+        size_option(alloc, "device", "Size of each device's memory"),
+        devices_option(alloc),
+        threads_option(alloc),
+        drill_option(alloc),
+        trace_option(alloc),
+    ]?)
 }
 
 /// Adds the script, and the options of what is shown of it.
-fn with_views<'a>(alloc: Global, command: Command<'a>) -> Result<Command<'a>, Error> {
-    Ok(
-        command
-            .arg(file_argument(alloc))?
-            .arg(expect_option(alloc))?
-            .arg(flag(alloc, "echo", "Write each statement before its output"))?
-            .arg(flag(alloc, "json", "Write the report as JSON"))?
-            .arg(flag(alloc, "log", "Tell what each call did"))?
-            .arg(flag(alloc, "explain", "Tell why a line is at fault or refused"))?
-            .arg(picture_option(alloc, "svg", "Draw the memories at the end"))?
-            .arg(picture_option(alloc, "svg-every", "Draw them behind each directive"))?,
-    )
+fn with_views<'a>(alloc: Global, command: Command<'a>) -> Result<Command<'a>, AllocError> {
+    command.args(vec![in alloc;
+        file_argument(alloc),
+        expect_option(alloc),
+        flag(alloc, "echo", "Write each statement before its output"),
+        flag(alloc, "json", "Write the report as JSON"),
+        flag(alloc, "log", "Tell what each call did"),
+        flag(alloc, "explain", "Tell why a line is at fault or refused"),
+        picture_option(alloc, "svg", "Draw the memories at the end"),
+        picture_option(alloc, "svg-every", "Draw them behind each directive"),
+    ]?)
 }
 
-/// Adds the options of the program that a script is emitted as.
+/// The options of the program that a script is emitted as.
+fn program_options<'a>(alloc: Global) -> Result<Vec<Arg<'a>>, Error> {
+    let emit = emit_option(alloc)?;
+    let until = flag(alloc, "until-refusal", "End it with the first refusal").requires_arg("emit")?;
+    Ok(vec![in alloc; emit, until]?)
+}
+
+/// Adds them.
 fn with_programs<'a>(alloc: Global, command: Command<'a>) -> Result<Command<'a>, Error> {
-    let until = flag(alloc, "until-refusal", "End it with the first refusal");
-    Ok(
-        command
-            .arg(emit_option(alloc)?)?
-            .arg(until.requires_arg("emit")?)?,
-    )
+    Ok(command.args(program_options(alloc)?)?)
 }
 
 /// What the command line says, once it is read.

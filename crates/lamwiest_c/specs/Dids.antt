@@ -1,6 +1,6 @@
 -- What an item of the last event did, as C sees it.
-use Rattle.std.specs.Prelude.{ℕ, if◌then◌else◌, List, [], ◌∷◌, Option, None, Some, MatchOption}
-use Rattle.std.specs.List.{slice_get, last_or}
+use Rattle.std.specs.Prelude.{ℕ, ◌-◌, if◌then◌else◌, List, [], ◌∷◌, length, Option, None, option_map, unwrap_or}
+use Rattle.std.specs.List.{slice_get}
 use Rattle.acc_base.specs.declared.attachments.Aim.{Aim}
 use Rattle.acc_base.specs.declared.attachments.Aim.TheVariants as aims
 use Rattle.acc_base.specs.declared.events.Did.{Did}
@@ -44,4 +44,4 @@ dids_in _ = []
 
 -- what the item of a place did in the last event
 abbrev pub did_at : ℕ → List Event → Option Did
-did_at place events = MatchOption (last_or None events) None (λ e. slice_get (dids_in e) place)
+did_at place events = unwrap_or (option_map (λ e. slice_get (dids_in e) place) (slice_get events (length events - 1))) None

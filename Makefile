@@ -8,7 +8,8 @@ CC = gcc
 ACCRUN = crates/accrun/out/accrun
 ARCHIVE = crates/lamwiest_c/out/liblamwiest_c.a
 SHARED = goacc/out/liblamwiest_acc.so
-root = $(DESTDIR)$(PREFIX)
+prefix = $(abspath $(PREFIX))
+root = $(DESTDIR)$(prefix)
 version = $(word 2,$(shell $(ACCRUN) --version))
 
 install: $(ACCRUN) $(ARCHIVE) $(SHARED)
@@ -20,8 +21,8 @@ install: $(ACCRUN) $(ARCHIVE) $(SHARED)
 	ar r $(root)/lib/liblamwiest.a $(root)/lib/heap.o
 	rm $(root)/lib/heap.o
 	install -d $(root)/lib/pkgconfig $(root)/share/man/man1
-	sed 's|@PREFIX@|$(PREFIX)|; s|@VERSION@|$(version)|' share/lamwiest.pc >$(root)/lib/pkgconfig/lamwiest.pc
-	sed 's|@PREFIX@|$(PREFIX)|; s|@VERSION@|$(version)|' share/lamwiest_acc.pc >$(root)/lib/pkgconfig/lamwiest_acc.pc
+	sed 's|@PREFIX@|$(prefix)|; s|@VERSION@|$(version)|' share/lamwiest.pc >$(root)/lib/pkgconfig/lamwiest.pc
+	sed 's|@PREFIX@|$(prefix)|; s|@VERSION@|$(version)|' share/lamwiest_acc.pc >$(root)/lib/pkgconfig/lamwiest_acc.pc
 	$(ACCRUN) --help | awk -f share/man.awk >$(root)/share/man/man1/accrun.1
 	install -D -m 644 share/accrun.bash $(root)/share/bash-completion/completions/accrun
 

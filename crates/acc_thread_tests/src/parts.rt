@@ -3,7 +3,7 @@
 ghost use Rattle.acc_lend.specs.Images.{each_byte, number_image};
 ghost use Rattle.acc_lend.specs.ImageLaws.{each_byte-append, length-each_byte};
 
-use crate::gates::Meeting;
+use crate::meeting::Meeting;
 use crate::same;
 use acc_base::Fault;
 use acc_lend::{Cuts, Gate, Kernel, Lease, Number, Open, Pointwise, run_parts};

@@ -1,8 +1,7 @@
 //! Eight threads that enter and exit regions over one array and over their own.
 
-use crate::actors::{ARRAY, Actor};
-use crate::same;
-use crate::scenes::{Scene, limits, on_a_new_runtime};
+use crate::scenes::{ARRAY, Scene, leave, on_a_new_runtime, shares, state};
+use crate::{limits, same};
 use acc_base::{Fault, HOST_BASE, Item, RegionClause, Section};
 use acc_runtime::{Caller, Runtime};
 use std::alloc::{AllocError, Global};
@@ -41,11 +40,7 @@ fn make_round<Regions: Ledger, Tickets: Ledger, Events: Ledger, R: Wait + AllocG
 ) -> Result<(), Fault> {
     let items = both(rt.alloc(), thread)?;
     let region = runtime.enter(rt, caller, 0, items)?;
-    if let Err((region, fault)) = runtime.exit(rt, caller, region) {
-        region.abandon();
-        return Err(fault);
-    }
-    Ok(())
+    leave(rt, runtime, caller, region)
 }
 
 fn make_rounds<Regions: Ledger, Tickets: Ledger, Events: Ledger, R: Wait + AllocGlobal>(
@@ -94,15 +89,19 @@ pub fn run_and_look<
     Tickets: Ledger + Send + Sync,
     Events: Ledger + Send + Sync,
     R: Abort + Threads + Wait + AllocGlobal + Sync,
->(actor: &mut Actor<Regions, Tickets, Events, R>) -> Result<(), Fault> {
-    let mut callers = Vec::new(actor.rt.alloc());
-    split(&mut actor.caller, &mut callers)?;
-    run_all(actor.rt, actor.runtime, callers.as_mut_slice());
+>(
+    rt: &R,
+    runtime: &Runtime<Regions, Tickets, Events>,
+    caller: &mut Caller<Regions, Tickets, Events>,
+) -> Result<(), Fault> {
+    let mut callers = Vec::new(rt.alloc());
+    split(caller, &mut callers)?;
+    run_all(rt, runtime, callers.as_mut_slice());
     for other in callers {
-        actor.caller.merge(other);
+        caller.merge(other);
     }
-    same(actor.rt, actor.shares(), (64, 0, 16_000));
-    same(actor.rt, actor.state(), (0, 16_000, 0));
+    same(rt, shares(caller), (64, 0, 16_000));
+    same(rt, state(rt, runtime, caller), (0, 16_000, 0));
     Ok(())
 }
 

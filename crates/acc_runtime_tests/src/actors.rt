@@ -1,12 +1,12 @@
 //! Who makes calls in a test: each names the one array, on one device at a time.
 
+use crate::same;
 use acc_base::{
     EnterClause, ExitClause, Fault, HOST_BASE, Item, RegionClause, Section, UpdateClause,
 };
 use acc_lend::{Add, run_one};
 use acc_runtime::{Caller, Lease, Region, Runtime};
 use acc_table::Table;
-use acc_thread_tests::same;
 use std::alloc::{AllocError, Global};
 use std::process::Abort;
 use std::sync::Wait;

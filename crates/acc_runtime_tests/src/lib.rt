@@ -17,3 +17,14 @@ mod scenes;
 mod serving;
 #[cfg(test)]
 mod shares;
+
+#[cfg(test)]
+use std::fmt::Debug;
+#[cfg(test)]
+use std::process::Abort;
+
+/// Ends the test where what was found is not what is wanted.
+#[cfg(test)]
+fn same<T: PartialEq + Debug + Copy>(rt: &impl Abort, found: T, wanted: T) {
+    assert_eq!(rt; found, wanted);
+}

@@ -1,10 +1,11 @@
 //! Lives of an array: what the trace ends with after each call, with ample memory, and where memory is refused for one.
 
 use crate::actors::{ARRAY, Actor, Deed};
+use crate::same;
 use crate::scenes::{Scene, again_on_a_new_runtime, on_a_new_runtime, other_limits};
 use acc_base::{Event, ExitClause, Fault, RegionClause, UpdateClause};
 use acc_table::Table;
-use acc_thread_tests::{limits, same};
+use acc_thread_tests::limits;
 use std::alloc::{AllocError, Global};
 use std::process::Abort;
 use std::rt::Clock;

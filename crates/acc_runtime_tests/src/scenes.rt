@@ -3,11 +3,11 @@
 ghost use Rattle.std.specs.Prelude.{◌≡◌};
 
 use crate::actors::Actor;
-use crate::{drills, lives, serving, shares};
+use crate::{drills, lives, same, serving, shares};
 use acc_base::{Config, Fault};
 use acc_runtime::{Blanks, Runtime, blanks};
 use acc_table::Table;
-use acc_thread_tests::{limits, same};
+use acc_thread_tests::limits;
 use std::marker::Brand;
 use std::process::Abort;
 use std::rt::Clock;

@@ -19,12 +19,15 @@ pub use crate::meeting::{Meeting, Numbered};
 use acc_base::{Config, Fault};
 use crossbeam_channel::{Receiver, unbounded};
 use std::alloc::Global;
+#[cfg(test)]
 use std::fmt::Debug;
+#[cfg(test)]
 use std::process::Abort;
 use std::sync::Wait;
 
 /// Ends the test where what was found is not what is wanted.
-pub fn same<T: PartialEq + Debug + Copy>(rt: &impl Abort, found: T, wanted: T) {
+#[cfg(test)]
+fn same<T: PartialEq + Debug + Copy>(rt: &impl Abort, found: T, wanted: T) {
     assert_eq!(rt; found, wanted);
 }
 

@@ -2,11 +2,12 @@
 
 use crate::actors::{Actor, Deed};
 use crate::lives::{MAPPED, reads};
+use crate::same;
 use crate::scenes::{Scene, again_on_a_new_runtime, on_a_new_runtime};
 use acc_base::{Config, Fault, RegionClause};
 use acc_runtime::{Drilled, Gate, Open, drill};
 use acc_table::Table;
-use acc_thread_tests::{Meeting, limits, same};
+use acc_thread_tests::{Meeting, limits};
 use std::alloc::{AllocError, Global};
 use std::process::Abort;
 use std::rt::Clock;

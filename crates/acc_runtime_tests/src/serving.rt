@@ -3,10 +3,11 @@
 use crate::actors::{Actor, Deed};
 use crate::gates::Watch;
 use crate::lives::{Life, MAPPED, Mode, Row};
+use crate::same;
 use crate::scenes::{Scene, again_on_a_new_runtime, on_a_new_runtime, other_limits, two_devices};
 use acc_base::{Fault, UpdateClause};
 use acc_runtime::{Open, Served, serve};
-use acc_thread_tests::{bells, limits, same};
+use acc_thread_tests::{bells, limits};
 use std::process::Abort;
 use std::sync::Wait;
 use std::sync::ledger::Ledger;

@@ -199,9 +199,9 @@ impl<
 
     /// Drills while each thread but one is held.
     fn drill_held(&mut self, work: (usize, u64), first: usize) -> Result<Drilled, Fault> {
-        let meeting = Meeting::new(first);
+        let meeting = Meeting::new(first, work.0);
         let left = self.drill(work, &meeting);
-        same(self.rt, meeting.took_place(work.0), true);
+        same(self.rt, meeting.took_place(), true);
         left
     }
 

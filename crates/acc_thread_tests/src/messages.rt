@@ -85,7 +85,7 @@ pub fn tell<
     caller: &mut Caller<Regions, Tickets, Events>,
 ) -> Result<(), Fault> {
     let other = caller.split(0, 0)?;
-    let meeting = Meeting::new(TELLER);
+    let meeting = Meeting::new(TELLER, 1);
     let meeting = &meeting;
     let (other, ()) = join(
         rt,
@@ -214,7 +214,7 @@ pub fn serve_both<
     queue_copies(rt, runtime, caller)?;
     let one = caller.split(0, 10)?;
     let two = caller.split(0, 10)?;
-    let meeting = Meeting::new(first);
+    let meeting = Meeting::new(first, 2);
     let meeting = &meeting;
     let ((one, served), (two, other)) = join(
         rt,
@@ -224,7 +224,7 @@ pub fn serve_both<
     caller.merge(one);
     caller.merge(two);
     same(rt, (served, other), (Ok(SERVED), Ok(SERVED)));
-    same(rt, (caller.made(), meeting.took_place(2)), (5, true));
+    same(rt, (caller.made(), meeting.took_place()), (5, true));
     Ok(())
 }
 

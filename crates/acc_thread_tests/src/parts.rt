@@ -84,7 +84,7 @@ fn check_first<R: Threads + Wait + Sync + AllocGlobal + Clock + Abort>(
 ) -> Result<(), Fault> {
     let count = &AtomicU64::new(0);
     let gate = Looking {
-        meeting: Meeting::new(first),
+        meeting: Meeting::new(first, 4),
         first,
         count,
         seen: AtomicU64::new(0),
@@ -93,7 +93,7 @@ fn check_first<R: Threads + Wait + Sync + AllocGlobal + Clock + Abort>(
     let bytes = run_eight(rt, &Counting { number, count }, &gate)?;
     is_numbered(rt, bytes.as_slice());
     let seen = gate.seen.load(Ordering::SeqCst);
-    same(rt, (seen, gate.meeting.took_place(4)), (2, true));
+    same(rt, (seen, gate.meeting.took_place()), (2, true));
     Ok(())
 }
 

@@ -4,9 +4,9 @@ use crate::device_rows::row_at;
 use crate::places::{DEVICE_END, WIDTH, middle_of};
 use crate::scenes::Scene;
 use crate::shapes::{Point, close_group, close_title, open_titled, put_curve};
-use acc_base::Section;
+use acc_base::{Attachment, Section};
 use acc_page::{Names, Page};
-use acc_table::{Mapped, Table};
+use acc_table::Table;
 use std::alloc::{AllocError, Global};
 
 /// Pointers in the blocks of one row whose targets lie in one row.
@@ -14,8 +14,8 @@ use std::alloc::{AllocError, Global};
 struct Arrow {
     from: usize,
     to: usize,
-    /// The host address of the first of them.
-    pointer: u64,
+    /// The first of them.
+    attached: Attachment,
     /// What that holds on the device.
     target: u64,
     /// How many they are.
@@ -31,8 +31,10 @@ pub fn put_arrows(
     scene: &Scene,
 ) -> Result<(), AllocError> {
     let mut arrows = Vec::new(alloc);
-    for mapped in &scene.ranges {
-        add_pointers(table, scene, *mapped, &mut arrows)?;
+    for attached in &scene.attached {
+        if let Some(arrow) = arrow_of(table, scene, *attached) {
+            add_arrow(&mut arrows, arrow)?;
+        }
     }
     for arrow in &arrows {
         put_arrow(page, names, *arrow);
@@ -40,41 +42,19 @@ pub fn put_arrows(
     Ok(())
 }
 
-/// Adds the pointers of a range.
-fn add_pointers(
-    table: &Table,
-    scene: &Scene,
-    mapped: Mapped,
-    arrows: &mut Vec<Arrow>,
-) -> Result<(), AllocError> {
-    let end = mapped.start.saturating_add(mapped.len);
-    let mut start = mapped.start;
-    for _ in 0..u64::MAX {
-        let len = end.saturating_sub(start);
-        let Some(attached) = table.next_attached(scene.device, Section { start, len }) else {
-            break;
-        };
-        if let Some(arrow) = arrow_of(table, scene, attached.pointer) {
-            add_arrow(arrows, arrow)?;
-        }
-        start = attached.pointer.saturating_add(1);
-    }
-    Ok(())
-}
-
 /// The arrow of a pointer, where its target is known.
-fn arrow_of(table: &Table, scene: &Scene, pointer: u64) -> Option<Arrow> {
+fn arrow_of(table: &Table, scene: &Scene, attached: Attachment) -> Option<Arrow> {
     let device = scene.device;
-    let place = table.device_address(device, pointer)?;
+    let place = table.device_address(device, attached.pointer)?;
     let section = Section {
-        start: pointer,
+        start: attached.pointer,
         len: 8,
     };
     let target = number_in(table.device_read(device, section)?);
     Some(Arrow {
         from: row_at(&scene.rows, place)?,
         to: row_at(&scene.rows, target)?,
-        pointer,
+        attached,
         target,
         count: 1,
     })
@@ -119,10 +99,8 @@ fn put_arrow(page: &mut Page, names: &Names, arrow: Arrow) {
         y: end.y.saturating_sub(4),
     };
     let reach = from.y.abs_diff(to.y) / 4;
-    let x = DEVICE_END.saturating_add(reach.clamp(
-        40,
-        WIDTH.saturating_sub(DEVICE_END).saturating_sub(10),
-    ));
+    let farthest = WIDTH.saturating_sub(DEVICE_END);
+    let x = DEVICE_END.saturating_add(reach.clamp(24, farthest));
     put_curve(page, "arrow", from, to, x);
     close_group(page);
 }
@@ -134,12 +112,15 @@ fn put_title(page: &mut Page, names: &Names, arrow: Arrow) {
     } else {
         page.text("pointer ");
     }
-    if let Some(spot) = names.spot(arrow.pointer) {
+    let pointer = arrow.attached.pointer;
+    if let Some(spot) = names.spot(pointer) {
         spot.put_byte(page);
         page.text(" ");
     }
     page.text("at ");
-    page.address(arrow.pointer);
-    page.text(" is aimed at ");
+    page.address(pointer);
+    page.text(", attached ");
+    page.number(arrow.attached.count);
+    page.text(" times, is aimed at ");
     page.address(arrow.target);
 }

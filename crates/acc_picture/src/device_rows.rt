@@ -1,9 +1,17 @@
 //! The rows of the device: blocks and holes.
 
 use crate::gathering::{Entry, Kind};
-use crate::places::{device_area, text_in};
-use crate::shapes::{Area, close_group, close_text, close_title, open_text, open_titled, put_box};
-use acc_page::Page;
+use crate::places::{
+    ATTACHED, DEVICE_ADDRESS, DEVICE_BYTES, NAME, STATE, device_area, text_in,
+};
+use crate::shapes::{
+    Area, close_group, close_text, close_title, open_text, open_titled, put_address, put_box,
+    put_number, put_text,
+};
+use crate::short_names::put_short_name;
+use acc_base::Attachment;
+use acc_page::{Names, Page};
+use std::alloc::Global;
 
 /// Blocks and holes that share a row.
 #[derive(Clone, Copy)]
@@ -24,6 +32,10 @@ pub struct DeviceRow {
     pins: u64,
     /// How many are holes.
     holes: u64,
+    /// The last of the attached pointers.
+    attached: Option<Attachment>,
+    /// How many these are.
+    pointers: u64,
 }
 
 /// The row of some blocks and holes that lie one behind the other, if there are any.
@@ -37,6 +49,8 @@ pub fn device_row(entries: &[Entry]) -> Option<DeviceRow> {
         ended: 0,
         pins: 0,
         holes: 0,
+        attached: None,
+        pointers: 0,
     };
     for entry in entries {
         row.add(*entry);
@@ -61,19 +75,29 @@ impl DeviceRow {
         }
     }
 
+    /// Adds an attached pointer.
+    pub fn attach(&mut self, attached: Attachment) {
+        self.attached = Some(attached);
+        self.pointers = self.pointers.saturating_add(1);
+    }
+
     /// The device address of its first byte.
     pub fn place(&self) -> u64 {
         self.first.place
     }
 
     /// Puts the row of a number.
-    pub fn put(&self, page: &mut Page, nth: usize) {
+    pub fn put(&self, page: &mut Page, alloc: Global, names: &Names, nth: usize) {
         let area = device_area(nth);
         open_titled(page);
         self.put_title(page);
         close_title(page);
         put_box(page, self.class(), area);
-        self.put_texts(page, area);
+        self.put_name(page, alloc, names, area);
+        self.put_state(page, area);
+        put_address(page, text_in(area, DEVICE_ADDRESS), self.first.place);
+        put_number(page, text_in(area, DEVICE_BYTES), self.bytes);
+        self.put_attached(page, names, area);
         close_group(page);
     }
 
@@ -81,14 +105,8 @@ impl DeviceRow {
     fn class(&self) -> &'static str {
         if self.count > 1 {
             "group"
-        } else if self.lent > 0 {
-            "lent"
-        } else if self.ended > 0 {
-            "ended"
-        } else if self.holes > 0 {
-            "hole"
         } else {
-            "mapped"
+            self.first.kind.class()
         }
     }
 
@@ -109,42 +127,52 @@ impl DeviceRow {
         page.number(self.holes);
     }
 
-    fn put_texts(&self, page: &mut Page, area: Area) {
-        open_text(page, "number", text_in(area, 6));
-        page.address(self.first.place);
-        close_text(page);
-        open_text(page, "number", text_in(area, 92));
-        page.number(self.bytes);
-        close_text(page);
-        open_text(page, "name", text_in(area, 160));
+    /// Puts whose block it is, or how many blocks there are.
+    fn put_name(&self, page: &mut Page, alloc: Global, names: &Names, area: Area) {
+        open_text(page, "name", text_in(area, NAME));
         if self.count > 1 {
-            self.put_counts(page);
+            page.number(self.blocks.saturating_add(self.ended));
+            page.text(" blocks");
+        } else if let Some(section) = self.first.section {
+            put_short_name(page, alloc, names, section);
         } else {
-            self.put_kind(page);
+            page.text(self.class());
         }
         close_text(page);
     }
 
-    fn put_counts(&self, page: &mut Page) {
-        page.number(self.blocks);
-        page.text(" blocks, ");
-        page.number(self.ended);
-        page.text(" ended, ");
-        page.number(self.holes);
-        page.text(" holes");
-    }
-
-    fn put_kind(&self, page: &mut Page) {
-        match self.first.kind {
-            Kind::Mapped => page.text("block"),
-            Kind::Lent => page.text("block, lent"),
-            Kind::Hole => page.text("hole"),
-            Kind::Ended(pins) => {
-                page.text("ended, pins ");
-                page.number(pins);
-            }
+    /// Puts whether the block is lent, or its mapping has ended.
+    fn put_state(&self, page: &mut Page, area: Area) {
+        if self.count == 1 && matches!(self.first.kind, Kind::Lent | Kind::Ended(_)) {
+            put_text(page, "number", text_in(area, STATE), self.class());
         }
     }
+
+    /// Puts the attached pointer and its counter, or how many pointers there are.
+    fn put_attached(&self, page: &mut Page, names: &Names, area: Area) {
+        let Some(attached) = self.attached else {
+            return;
+        };
+        open_text(page, "number", text_in(area, ATTACHED));
+        if self.pointers > 1 {
+            page.number(self.pointers);
+            page.text(" ptrs");
+        } else {
+            put_counter(page, names, attached);
+        }
+        close_text(page);
+    }
+}
+
+/// Puts the byte of its array at which a pointer lies, and how often it is attached.
+fn put_counter(page: &mut Page, names: &Names, attached: Attachment) {
+    if let Some(spot) = names.spot(attached.pointer) {
+        page.text("[");
+        page.number(spot.offset);
+        page.text("]");
+    }
+    page.text(" x");
+    page.number(attached.count);
 }
 
 /// The number of the row that has a device address.

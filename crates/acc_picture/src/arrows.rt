@@ -7,39 +7,30 @@ use crate::shapes::{Point, close_group, close_title, open_titled, put_curve};
 use acc_base::{Attachment, Section};
 use acc_page::{Names, Page};
 use acc_table::Table;
-use std::alloc::{AllocError, Global};
 
-/// Pointers in the blocks of one row whose targets lie in one row.
+/// An attached pointer in the block of one row, whose target lies in one row.
 #[derive(Clone, Copy)]
 struct Arrow {
     from: usize,
     to: usize,
-    /// The first of them.
     attached: Attachment,
-    /// What that holds on the device.
+    /// What the pointer holds on the device.
     target: u64,
-    /// How many they are.
-    count: u64,
 }
 
-/// Puts the arrows of all attached pointers of a device. What a lent block's pointers hold is not known.
-pub fn put_arrows(
-    page: &mut Page,
-    alloc: Global,
-    table: &Table,
-    names: &Names,
-    scene: &Scene,
-) -> Result<(), AllocError> {
-    let mut arrows = Vec::new(alloc);
+/// Puts the arrows of all attached pointers of a device. Pointers one behind the other that go from the same row to the
+/// same row share one. What a lent block's pointers hold is not known.
+pub fn put_arrows(page: &mut Page, table: &Table, names: &Names, scene: &Scene) {
+    let (mut from, mut to) = (usize::MAX, usize::MAX);
     for attached in &scene.attached {
         if let Some(arrow) = arrow_of(table, scene, *attached) {
-            add_arrow(&mut arrows, arrow)?;
+            if arrow.from != from || arrow.to != to {
+                put_arrow(page, names, arrow);
+            }
+            from = arrow.from;
+            to = arrow.to;
         }
     }
-    for arrow in &arrows {
-        put_arrow(page, names, *arrow);
-    }
-    Ok(())
 }
 
 /// The arrow of a pointer, where its target is known.
@@ -56,7 +47,6 @@ fn arrow_of(table: &Table, scene: &Scene, attached: Attachment) -> Option<Arrow>
         to: row_at(&scene.rows, target)?,
         attached,
         target,
-        count: 1,
     })
 }
 
@@ -67,20 +57,6 @@ fn number_in(bytes: &[u8]) -> u64 {
         number = number.wrapping_mul(256).wrapping_add(u64::from(*byte));
     }
     number
-}
-
-/// Adds an arrow, or one more pointer to the arrow between the same rows.
-fn add_arrow(arrows: &mut Vec<Arrow>, arrow: Arrow) -> Result<(), AllocError> {
-    let known = arrows
-        .iter()
-        .position(|other| other.from == arrow.from && other.to == arrow.to);
-    match known {
-        Some(nth) if nth < arrows.len() => {
-            arrows[nth].count = arrows[nth].count.saturating_add(1);
-        }
-        _ => arrows.push(arrow)?,
-    }
-    Ok(())
 }
 
 /// Puts an arrow at the right of the device's column: the farther it reaches, the farther out.
@@ -106,12 +82,7 @@ fn put_arrow(page: &mut Page, names: &Names, arrow: Arrow) {
 }
 
 fn put_title(page: &mut Page, names: &Names, arrow: Arrow) {
-    if arrow.count > 1 {
-        page.number(arrow.count);
-        page.text(" pointers, the first ");
-    } else {
-        page.text("pointer ");
-    }
+    page.text("pointer ");
     let pointer = arrow.attached.pointer;
     if let Some(spot) = names.spot(pointer) {
         spot.put_byte(page);
@@ -119,8 +90,8 @@ fn put_title(page: &mut Page, names: &Names, arrow: Arrow) {
     }
     page.text("at ");
     page.address(pointer);
-    page.text(", attached ");
+    page.text(" with counter ");
     page.number(arrow.attached.count);
-    page.text(" times, is aimed at ");
+    page.text(" is aimed at ");
     page.address(arrow.target);
 }

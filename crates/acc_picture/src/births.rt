@@ -2,23 +2,22 @@
 
 use acc_base::{Did, Event, Item, Section, Step};
 use acc_table::Table;
-use std::alloc::{AllocError, Global};
+use std::alloc::AllocError;
 use std::collections::BTreeMap;
 
-/// The section of the last block that was made at each place since the base of the table.
-pub fn births_of(
-    alloc: Global,
+/// Adds by its place the section of each block that was made since the base of the table: at each place the last one stays.
+pub fn add_births(
     table: &Table,
     device: u64,
-) -> Result<BTreeMap<u64, Section>, AllocError> {
-    let mut births = BTreeMap::new(alloc);
+    births: &mut BTreeMap<u64, Section>,
+) -> Result<(), AllocError> {
     for event in table.trace() {
-        add_births(event, device, &mut births)?;
+        add_event(event, device, births)?;
     }
-    Ok(births)
+    Ok(())
 }
 
-fn add_births(
+fn add_event(
     event: &Event,
     device: u64,
     births: &mut BTreeMap<u64, Section>,

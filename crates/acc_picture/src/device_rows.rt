@@ -22,17 +22,11 @@ pub struct DeviceRow {
     count: u64,
     /// Their bytes.
     bytes: u64,
-    /// How many are blocks of mapped ranges.
+    /// How many are blocks.
     blocks: u64,
-    /// How many of these are lent.
-    lent: u64,
-    /// How many are blocks whose mapping has ended.
-    ended: u64,
-    /// How often queued copies name these.
+    /// How often queued copies name those whose mapping has ended.
     pins: u64,
-    /// How many are holes.
-    holes: u64,
-    /// The last of the attached pointers.
+    /// The first of the attached pointers.
     attached: Option<Attachment>,
     /// How many these are.
     pointers: u64,
@@ -45,10 +39,7 @@ pub fn device_row(entries: &[Entry]) -> Option<DeviceRow> {
         count: entries.len() as u64,
         bytes: 0,
         blocks: 0,
-        lent: 0,
-        ended: 0,
         pins: 0,
-        holes: 0,
         attached: None,
         pointers: 0,
     };
@@ -61,23 +52,17 @@ pub fn device_row(entries: &[Entry]) -> Option<DeviceRow> {
 impl DeviceRow {
     fn add(&mut self, entry: Entry) {
         self.bytes = self.bytes.saturating_add(entry.size);
-        match entry.kind {
-            Kind::Mapped => self.blocks = self.blocks.saturating_add(1),
-            Kind::Lent => {
-                self.blocks = self.blocks.saturating_add(1);
-                self.lent = self.lent.saturating_add(1);
-            }
-            Kind::Ended(pins) => {
-                self.ended = self.ended.saturating_add(1);
-                self.pins = self.pins.saturating_add(pins);
-            }
-            Kind::Hole => self.holes = self.holes.saturating_add(1),
+        if !matches!(entry.kind, Kind::Hole) {
+            self.blocks = self.blocks.saturating_add(1);
+        }
+        if let Kind::Ended(pins) = entry.kind {
+            self.pins = self.pins.saturating_add(pins);
         }
     }
 
     /// Adds an attached pointer.
     pub fn attach(&mut self, attached: Attachment) {
-        self.attached = Some(attached);
+        self.attached = self.attached.or(Some(attached));
         self.pointers = self.pointers.saturating_add(1);
     }
 
@@ -110,29 +95,22 @@ impl DeviceRow {
         }
     }
 
-    /// Puts all that is known of it.
+    /// Puts what has no room in it.
     fn put_title(&self, page: &mut Page) {
-        page.number(self.bytes);
-        page.text(" bytes from ");
-        page.address(self.first.place);
-        page.text(" on: blocks of mapped ranges ");
+        page.text("blocks ");
         page.number(self.blocks);
-        page.text(", lent ");
-        page.number(self.lent);
-        page.text(", blocks whose mapping has ended ");
-        page.number(self.ended);
         page.text(", pins ");
         page.number(self.pins);
-        page.text(", holes ");
-        page.number(self.holes);
+        page.text(", attached pointers ");
+        page.number(self.pointers);
     }
 
     /// Puts whose block it is, or how many blocks there are.
     fn put_name(&self, page: &mut Page, alloc: Global, names: &Names, area: Area) {
         open_text(page, "name", text_in(area, NAME));
         if self.count > 1 {
-            page.number(self.blocks.saturating_add(self.ended));
-            page.text(" blocks");
+            page.text("blocks ");
+            page.number(self.blocks);
         } else if let Some(section) = self.first.section {
             put_short_name(page, alloc, names, section);
         } else {
@@ -148,17 +126,16 @@ impl DeviceRow {
         }
     }
 
-    /// Puts the attached pointer and its counter, or how many pointers there are.
+    /// Puts the first attached pointer with its counter, and how many more there are.
     fn put_attached(&self, page: &mut Page, names: &Names, area: Area) {
         let Some(attached) = self.attached else {
             return;
         };
         open_text(page, "number", text_in(area, ATTACHED));
+        put_counter(page, names, attached);
         if self.pointers > 1 {
-            page.number(self.pointers);
-            page.text(" ptrs");
-        } else {
-            put_counter(page, names, attached);
+            page.text(" +");
+            page.number(self.pointers.saturating_sub(1));
         }
         close_text(page);
     }

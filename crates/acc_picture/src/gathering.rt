@@ -1,6 +1,6 @@
 //! What a table has in host memory and on one device.
 
-use crate::births::births_of;
+use crate::births::add_births;
 use acc_base::{Attachment, HOST_BASE, Section};
 use acc_page::Names;
 use acc_table::{Mapped, Table};
@@ -65,14 +65,13 @@ pub struct Entry {
     pub section: Option<Section>,
 }
 
-/// The mapped ranges of a device, and the bytes of arrays between them and behind them, by rising host address.
-pub fn parts_of(
-    alloc: Global,
+/// Adds the mapped ranges of a device, and the bytes of arrays between them and behind them, by rising host address.
+pub fn add_parts(
     table: &Table,
     names: &Names,
     device: u64,
-) -> Result<Vec<Part>, AllocError> {
-    let mut parts = Vec::new(alloc);
+    parts: &mut Vec<Part>,
+) -> Result<(), AllocError> {
     let mut from = HOST_BASE;
     for _ in 0..u64::MAX {
         let Some(part) = part_at(names, from, table.mapped(device, from)) else {
@@ -81,7 +80,7 @@ pub fn parts_of(
         parts.push(part)?;
         from = end_of(part.section);
     }
-    Ok(parts)
+    Ok(())
 }
 
 /// The address behind a section.
@@ -119,24 +118,34 @@ fn unmapped_at(names: &Names, from: u64, limit: u64) -> Option<Section> {
     (0 < len).then_some(Section { start, len })
 }
 
-/// The blocks and holes of a device, by rising device address.
-pub fn entries_of(
+/// Adds the blocks and holes of a device, by rising device address.
+pub fn add_entries(
     alloc: Global,
     table: &Table,
     device: u64,
     parts: &[Part],
-) -> Result<Vec<Entry>, AllocError> {
+    entries: &mut Vec<Entry>,
+) -> Result<(), AllocError> {
     let mut by_place = BTreeMap::new(alloc);
-    for part in parts {
-        add_block(*part, &mut by_place)?;
-    }
-    add_ended(alloc, table, device, &mut by_place)?;
-    add_holes(table, device, &mut by_place)?;
-    let mut entries = Vec::new(alloc);
+    place_all(alloc, table, device, parts, &mut by_place)?;
     for (_, entry) in by_place.iter() {
         entries.push(*entry)?;
     }
-    Ok(entries)
+    Ok(())
+}
+
+fn place_all(
+    alloc: Global,
+    table: &Table,
+    device: u64,
+    parts: &[Part],
+    by_place: &mut BTreeMap<u64, Entry>,
+) -> Result<(), AllocError> {
+    for part in parts {
+        add_block(*part, by_place)?;
+    }
+    add_ended(alloc, table, device, by_place)?;
+    add_holes(table, device, by_place)
 }
 
 /// Adds the block of a mapped range.
@@ -160,7 +169,17 @@ fn add_ended(
     device: u64,
     by_place: &mut BTreeMap<u64, Entry>,
 ) -> Result<(), AllocError> {
-    let births = births_of(alloc, table, device)?;
+    let mut births = BTreeMap::new(alloc);
+    add_births(table, device, &mut births)?;
+    place_ended(table, device, &births, by_place)
+}
+
+fn place_ended(
+    table: &Table,
+    device: u64,
+    births: &BTreeMap<u64, Section>,
+    by_place: &mut BTreeMap<u64, Entry>,
+) -> Result<(), AllocError> {
     let mut from = 0;
     for _ in 0..u64::MAX {
         let Some(ended) = table.ended(device, from) else {
@@ -200,22 +219,21 @@ fn add_holes(
     Ok(())
 }
 
-/// The attached pointers of a device, by rising host address.
-pub fn attached_of(
-    alloc: Global,
+/// Adds the attached pointers of a device, by rising host address.
+pub fn add_attached(
     table: &Table,
     device: u64,
     parts: &[Part],
-) -> Result<Vec<Attachment>, AllocError> {
-    let mut attached = Vec::new(alloc);
+    attached: &mut Vec<Attachment>,
+) -> Result<(), AllocError> {
     for part in parts {
-        add_attached(table, device, part.section, &mut attached)?;
+        attached_in(table, device, part.section, attached)?;
     }
-    Ok(attached)
+    Ok(())
 }
 
 /// Adds the attached pointers of a section.
-fn add_attached(
+fn attached_in(
     table: &Table,
     device: u64,
     section: Section,

@@ -9,7 +9,6 @@ use crate::shapes::{
     put_number, put_text,
 };
 use crate::short_names::put_short_name;
-use acc_base::Section;
 use acc_page::{Names, Page};
 use acc_table::Mapped;
 use std::alloc::Global;
@@ -89,35 +88,24 @@ impl HostRow {
         }
     }
 
-    /// Puts all that is known of it.
+    /// Puts what has no room in it.
     fn put_title(&self, page: &mut Page, names: &Names) {
         if self.count > 1 {
-            page.number(self.count);
-            page.text(" ranges between ");
-            page.address(self.first.section.start);
-            page.text(" and ");
+            page.text("up to ");
             page.address(self.end);
+            page.text(", mapped ");
+            page.number(self.mapped);
         } else {
             put_range_title(page, names, self.first);
         }
-        page.text(", ");
-        page.number(self.bytes);
-        page.text(" bytes, mapped ");
-        page.number(self.mapped);
-        page.text(", structured ");
-        page.number(self.structured);
-        page.text(", dynamic ");
-        page.number(self.dynamic);
-        page.text(", lent ");
-        page.number(self.lent);
     }
 
     /// Puts the name of the range, or how many there are.
     fn put_name(&self, page: &mut Page, alloc: Global, names: &Names, area: Area) {
         open_text(page, "name", text_in(area, NAME));
         if self.count > 1 {
+            page.text("ranges ");
             page.number(self.count);
-            page.text(" ranges");
         } else {
             put_short_name(page, alloc, names, self.first.section);
         }
@@ -134,19 +122,16 @@ impl HostRow {
     }
 }
 
-/// Puts the name of a range, its first address and its place.
+/// Puts the whole name of a range, and its place.
 fn put_range_title(page: &mut Page, names: &Names, part: Part) {
-    put_whole_name(page, names, part.section);
-    page.address(part.section.start);
-    if let Some(mapped) = part.mapped {
-        page.text(" mapped to ");
-        page.address(mapped.place);
+    if let Some(spot) = names.within(part.section) {
+        spot.put_part(page, part.section.len);
     }
-}
-
-fn put_whole_name(page: &mut Page, names: &Names, section: Section) {
-    if let Some(spot) = names.within(section) {
-        spot.put_part(page, section.len);
-        page.text(": ");
+    match part.mapped {
+        None => page.text(" not mapped"),
+        Some(mapped) => {
+            page.text(" mapped to ");
+            page.address(mapped.place);
+        }
     }
 }

@@ -13,9 +13,10 @@ pub fn put_links(page: &mut Page, scene: &Scene, parts: &[Part], nth: usize) {
     let mut last = None;
     let mut count = 0;
     for part in parts {
-        let to = part
-            .mapped
-            .and_then(|mapped| row_at(&scene.rows, mapped.place));
+        let to = match part.mapped {
+            Some(mapped) => row_at(&scene.rows, mapped.place),
+            None => None,
+        };
         if to != last {
             put_link(page, nth, last, count);
             last = to;

@@ -2,6 +2,7 @@
 
 use crate::arrows::put_arrows;
 use crate::bars::{put_device_bar, put_host_bar};
+use crate::gathering::Part;
 use crate::host_rows::host_row;
 use crate::links::{put_kept, put_links};
 use crate::places::{
@@ -46,22 +47,44 @@ pub fn put_picture(
     caption: Caption<'_>,
 ) -> Result<(), AllocError> {
     let mut scenes = Vec::new(alloc);
-    let mut height = 0;
+    add_scenes(alloc, table, names, &mut scenes)?;
+    put_scenes(page, alloc, table, names, caption, &scenes);
+    Ok(())
+}
+
+fn add_scenes(
+    alloc: Global,
+    table: &Table,
+    names: &Names,
+    scenes: &mut Vec<Scene>,
+) -> Result<(), AllocError> {
     for device in 0..table.config().devices() {
-        let scene = Scene::new(alloc, table, names, device)?;
+        scenes.push(Scene::new(alloc, table, names, device)?)?;
+    }
+    Ok(())
+}
+
+fn put_scenes(
+    page: &mut Page,
+    alloc: Global,
+    table: &Table,
+    names: &Names,
+    caption: Caption<'_>,
+    scenes: &[Scene],
+) {
+    let mut height = 0;
+    for scene in scenes {
         height = u64::saturating_add(height, scene.height());
-        scenes.push(scene)?;
     }
     open_picture(page, height, caption);
     let mut y = 0;
-    for scene in &scenes {
+    for scene in scenes {
         open_scene(page, y);
-        put_scene(page, alloc, table, names, caption, scene)?;
+        put_scene(page, alloc, table, names, caption, scene);
         close_scene(page, y);
         y = u64::saturating_add(y, scene.height());
     }
     page.text("</svg>\n");
-    Ok(())
 }
 
 /// Puts the picture of one device.
@@ -72,18 +95,22 @@ fn put_scene(
     names: &Names,
     caption: Caption<'_>,
     scene: &Scene,
-) -> Result<(), AllocError> {
+) {
     put_head(page, table, scene.device, caption);
     put_bars(page, table, scene);
     put_heads(page, HOST_X, &HOST_HEADS);
     put_heads(page, DEVICE_X, &DEVICE_HEADS);
     put_host_rows(page, alloc, names, scene);
+    put_device_rows(page, alloc, names, scene);
+    put_kept(page, scene);
+    put_queues(page, alloc, names, &scene.queues, scene.foot());
+    put_arrows(page, table, names, scene);
+}
+
+fn put_device_rows(page: &mut Page, alloc: Global, names: &Names, scene: &Scene) {
     for (nth, row) in scene.rows.iter().enumerate() {
         row.put(page, alloc, names, nth);
     }
-    put_kept(page, scene);
-    put_queues(page, alloc, names, &scene.queues, scene.foot());
-    put_arrows(page, alloc, table, names, scene)
 }
 
 /// Moves what follows so far down.
@@ -210,9 +237,20 @@ fn put_heads(page: &mut Page, x: u64, heads: &[(&str, u64)]) {
 fn put_host_rows(page: &mut Page, alloc: Global, names: &Names, scene: &Scene) {
     let parts = &scene.parts;
     for (nth, group) in parts.chunks(group_size(parts.len())).enumerate() {
-        put_links(page, scene, group, nth);
-        if let Some(row) = host_row(group) {
-            row.put(page, alloc, names, nth);
-        }
+        put_host_row(page, alloc, names, scene, group, nth);
+    }
+}
+
+fn put_host_row(
+    page: &mut Page,
+    alloc: Global,
+    names: &Names,
+    scene: &Scene,
+    group: &[Part],
+    nth: usize,
+) {
+    put_links(page, scene, group, nth);
+    if let Some(row) = host_row(group) {
+        row.put(page, alloc, names, nth);
     }
 }

@@ -41,7 +41,7 @@ pub const HOST_END: u64 = 380;
 pub const DEVICE_X: u64 = 420;
 
 /// The right edge of the rows of the device.
-pub const DEVICE_END: u64 = 772;
+pub const DEVICE_END: u64 = 784;
 
 /// Where the name of a row begins, as all columns so far from the row's left edge.
 pub const NAME: u64 = 6;
@@ -59,16 +59,16 @@ pub const STRUCTURED: u64 = 234;
 pub const DYNAMIC: u64 = 313;
 
 /// Where it begins whether a block of the device is lent, or its mapping has ended.
-pub const STATE: u64 = 98;
+pub const STATE: u64 = 97;
 
 /// Where the address of a row of the device begins.
-pub const DEVICE_ADDRESS: u64 = 140;
+pub const DEVICE_ADDRESS: u64 = 142;
 
 /// Where its bytes begin.
-pub const DEVICE_BYTES: u64 = 226;
+pub const DEVICE_BYTES: u64 = 231;
 
 /// Where its attached pointers begin.
-pub const ATTACHED: u64 = 288;
+pub const ATTACHED: u64 = 294;
 
 /// How many letters of a name are shown at most.
 pub const NAME_LIMIT: usize = 12;

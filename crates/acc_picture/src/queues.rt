@@ -31,50 +31,47 @@ pub struct Queue {
 /// How many copies of a queue are named at most.
 const COPY_LIMIT: usize = 3;
 
-/// The queues of a device that are not empty.
-pub fn queues_of(alloc: Global, table: &Table, device: u64) -> Result<Vec<Queue>, AllocError> {
-    let mut queues = Vec::new(alloc);
-    for number in 0..QUEUE_COUNT {
-        add_queue(alloc, table, device, number, &mut queues)?;
-    }
-    Ok(queues)
-}
-
-fn add_queue(
+/// Adds the queues of a device that are not empty.
+pub fn add_queues(
     alloc: Global,
     table: &Table,
     device: u64,
-    number: u64,
     queues: &mut Vec<Queue>,
 ) -> Result<(), AllocError> {
-    let len = table.queue_len(device, number);
-    if len > 0 {
-        queues.push(Queue {
-            number,
-            len,
-            copies: copies_of(alloc, table, device, number)?,
-        })?;
+    for number in 0..QUEUE_COUNT {
+        let len = table.queue_len(device, number);
+        if len > 0 {
+            let copies = Vec::new(alloc);
+            queues.push(Queue {
+                number,
+                len,
+                copies,
+            })?;
+        }
+    }
+    for queue in queues {
+        add_copies(table, device, queue.number, &mut queue.copies)?;
     }
     Ok(())
 }
 
-fn copies_of(
-    alloc: Global,
+/// Adds the copies that were put into a queue.
+fn add_copies(
     table: &Table,
     device: u64,
     number: u64,
-) -> Result<Vec<Queued>, AllocError> {
-    let mut copies = Vec::new(alloc);
+    copies: &mut Vec<Queued>,
+) -> Result<(), AllocError> {
     for event in table.trace() {
         if event.device() == device {
-            add_copies(event, number, &mut copies)?;
+            add_event(event, number, copies)?;
         }
     }
-    Ok(copies)
+    Ok(())
 }
 
 /// Adds the copies that an event put into a queue.
-fn add_copies(event: &Event, number: u64, copies: &mut Vec<Queued>) -> Result<(), AllocError> {
+fn add_event(event: &Event, number: u64, copies: &mut Vec<Queued>) -> Result<(), AllocError> {
     let into = Some(number);
     match event {
         Event::EnteredData {
@@ -96,21 +93,24 @@ fn add_all<C: Copies>(
     copies: &mut Vec<Queued>,
 ) -> Result<(), AllocError> {
     for nth in 0..items.len() {
-        if let Some(copy) = copy_of(items.get(nth), did.get(nth)) {
-            copies.push(copy)?;
-        }
+        add_copy(items.get(nth), did.get(nth), copies)?;
     }
     Ok(())
 }
 
-/// The copy of an item, if it makes one.
-fn copy_of<C: Copies>(item: Option<&Item<C>>, did: Option<&Did>) -> Option<Queued> {
-    let item = item?;
-    let out = item.clause.copies_out(did?.step)?;
-    Some(Queued {
-        section: item.section,
-        out,
-    })
+/// Adds the copy of an item, if it makes one.
+fn add_copy<C: Copies>(
+    item: Option<&Item<C>>,
+    did: Option<&Did>,
+    copies: &mut Vec<Queued>,
+) -> Result<(), AllocError> {
+    if let (Some(item), Some(did)) = (item, did) {
+        if let Some(out) = item.clause.copies_out(did.step) {
+            let section = item.section;
+            copies.push(Queued { section, out })?;
+        }
+    }
+    Ok(())
 }
 
 /// A clause whose items may copy.
@@ -195,9 +195,9 @@ impl Queued {
     fn put(self, page: &mut Page, alloc: Global, names: &Names) {
         put_short_name(page, alloc, names, self.section);
         page.text(if self.out {
-            " to the host"
+            " to host"
         } else {
-            " to the device"
+            " to device"
         });
     }
 }

@@ -1,9 +1,9 @@
 //! What a device has, as a picture shows it.
 
 use crate::device_rows::{DeviceRow, device_row, row_at};
-use crate::gathering::{Entry, Part, attached_of, entries_of, parts_of};
+use crate::gathering::{Entry, Part, add_attached, add_entries, add_parts};
 use crate::places::{LINE_PITCH, MARGIN, group_size, row_y};
-use crate::queues::{Queue, queues_of};
+use crate::queues::{Queue, add_queues};
 use acc_base::Attachment;
 use acc_page::Names;
 use acc_table::Table;
@@ -34,18 +34,27 @@ impl Scene {
         names: &Names,
         device: u64,
     ) -> Result<Scene, AllocError> {
-        let parts = parts_of(alloc, table, names, device)?;
-        let entries = entries_of(alloc, table, device, &parts)?;
         let mut scene = Scene {
             device,
-            rows: device_rows(alloc, &entries)?,
-            attached: attached_of(alloc, table, device, &parts)?,
-            queues: queues_of(alloc, table, device)?,
-            parts,
-            entries,
+            parts: Vec::new(alloc),
+            entries: Vec::new(alloc),
+            rows: Vec::new(alloc),
+            attached: Vec::new(alloc),
+            queues: Vec::new(alloc),
         };
-        attach_all(&mut scene.rows, table, device, &scene.attached);
+        scene.gather(alloc, table, names)?;
         Ok(scene)
+    }
+
+    fn gather(&mut self, alloc: Global, table: &Table, names: &Names) -> Result<(), AllocError> {
+        let device = self.device;
+        add_parts(table, names, device, &mut self.parts)?;
+        add_entries(alloc, table, device, &self.parts, &mut self.entries)?;
+        add_rows(&self.entries, &mut self.rows)?;
+        add_attached(table, device, &self.parts, &mut self.attached)?;
+        add_queues(alloc, table, device, &mut self.queues)?;
+        attach_all(&mut self.rows, table, device, &self.attached);
+        Ok(())
     }
 
     /// The lower edge of its rows.
@@ -62,15 +71,14 @@ impl Scene {
     }
 }
 
-/// The rows of a device.
-fn device_rows(alloc: Global, entries: &[Entry]) -> Result<Vec<DeviceRow>, AllocError> {
-    let mut rows = Vec::new(alloc);
+/// Adds the rows of a device.
+fn add_rows(entries: &[Entry], rows: &mut Vec<DeviceRow>) -> Result<(), AllocError> {
     for group in entries.chunks(group_size(entries.len())) {
         if let Some(row) = device_row(group) {
             rows.push(row)?;
         }
     }
-    Ok(rows)
+    Ok(())
 }
 
 /// Adds attached pointers to the rows of the blocks that have them.
@@ -81,9 +89,10 @@ fn attach_all(rows: &mut [DeviceRow], table: &Table, device: u64, all: &[Attachm
 }
 
 fn attach(rows: &mut [DeviceRow], place: Option<u64>, attached: Attachment) {
-    let Some(nth) = place.and_then(|place| row_at(rows, place)) else {
+    let Some(place) = place else {
         return;
     };
+    let nth = row_at(rows, place).unwrap_or(0);
     if let Some(row) = rows.get_mut(nth) {
         row.attach(attached);
     }

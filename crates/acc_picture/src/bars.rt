@@ -1,15 +1,14 @@
 //! Host memory and the device's to scale, as bars.
 
-use crate::gathering::{Entry, Kind};
+use crate::gathering::{Entry, Kind, Part};
 use crate::places::{BAR_HEIGHT, BAR_WIDTH, BAR_X, MARGIN};
-use crate::shapes::{Area, Point, put_box, put_text};
+use crate::shapes::{Area, Point, close_group, close_text, open_text, put_box};
 use acc_base::{DEVICE_BASE, HOST_BASE};
 use acc_page::Page;
-use acc_table::Mapped;
 
-/// A part of a bar.
+/// A stretch of a bar.
 #[derive(Clone, Copy)]
-struct Part {
+struct Stretch {
     from: u64,
     until: u64,
     class: &'static str,
@@ -17,28 +16,32 @@ struct Part {
 
 /// A bar that stands for a memory.
 #[derive(Clone, Copy)]
-pub struct Bar {
+struct Bar {
     /// Its upper edge.
-    pub y: u64,
+    y: u64,
     /// The first address.
-    pub base: u64,
+    base: u64,
     /// How many addresses there are.
-    pub size: u64,
+    size: u64,
 }
 
 impl Bar {
-    /// Puts its outline and its name.
+    /// Puts its name, its size and its outline.
     fn put_outline(self, page: &mut Page, name: &str) {
         let y = self.y.saturating_add(12);
-        put_text(page, "name", Point { x: MARGIN, y }, name);
-        self.put_part(
+        open_text(page, "name", Point { x: MARGIN, y });
+        page.text(name);
+        page.number(self.size);
+        close_text(page);
+        self.put_stretch(
             page,
-            Part {
+            Stretch {
                 from: 0,
                 until: BAR_WIDTH,
                 class: "bar",
             },
         );
+        page.text("<g class=\"stretches\">\n");
     }
 
     /// Where an address lies in it.
@@ -47,69 +50,65 @@ impl Bar {
         offset.saturating_mul(BAR_WIDTH) / self.size.max(1)
     }
 
-    /// The part of some addresses, at least one pixel wide.
-    fn part(self, start: u64, len: u64, class: &'static str) -> Part {
+    /// The stretch of some addresses, at least one pixel wide.
+    fn stretch(self, start: u64, len: u64, kind: Kind) -> Stretch {
         let from = self.pixel(start).min(BAR_WIDTH.saturating_sub(1));
         let until = self.pixel(start.saturating_add(len));
-        Part {
+        Stretch {
             from,
             until: until.max(from.saturating_add(1)),
-            class,
+            class: kind.class(),
         }
     }
 
-    fn put_part(self, page: &mut Page, part: Part) {
+    fn put_stretch(self, page: &mut Page, stretch: Stretch) {
         put_box(
             page,
-            part.class,
+            stretch.class,
             Area {
-                x: BAR_X.saturating_add(part.from),
+                x: BAR_X.saturating_add(stretch.from),
                 y: self.y,
-                width: part.until.saturating_sub(part.from),
+                width: stretch.until.saturating_sub(stretch.from),
                 height: BAR_HEIGHT,
             },
         );
     }
 
-    /// Puts a part, unless it joins the one before; answers what is yet to be put.
-    fn next(self, page: &mut Page, last: Option<Part>, part: Part) -> Option<Part> {
+    /// Puts a stretch, unless it joins the one before or is a hole; answers what is yet to be put.
+    fn next(self, page: &mut Page, last: Option<Stretch>, stretch: Stretch) -> Option<Stretch> {
         match last {
-            Some(last) if last.class == part.class && part.from <= last.until => Some(Part {
-                until: part.until.max(last.until),
-                ..last
-            }),
-            Some(last) => {
-                self.put_part(page, last);
-                Some(part)
+            _ if stretch.class == "hole" => last,
+            Some(last) if last.class == stretch.class && stretch.from <= last.until => {
+                Some(Stretch {
+                    until: stretch.until.max(last.until),
+                    ..last
+                })
             }
-            None => Some(part),
+            Some(last) => {
+                self.put_stretch(page, last);
+                Some(stretch)
+            }
+            None => Some(stretch),
         }
     }
 
-    fn put_last(self, page: &mut Page, last: Option<Part>) {
-        if let Some(part) = last {
-            self.put_part(page, part);
+    fn put_last(self, page: &mut Page, last: Option<Stretch>) {
+        if let Some(stretch) = last {
+            self.put_stretch(page, stretch);
         }
+        close_group(page);
     }
 }
 
 /// Puts the bar of host memory, with the mapped ranges.
-pub fn put_host_bar(page: &mut Page, y: u64, size: u64, ranges: &[Mapped]) {
-    let bar = Bar {
-        y,
-        base: HOST_BASE,
-        size,
-    };
-    bar.put_outline(page, "host");
+pub fn put_host_bar(page: &mut Page, y: u64, size: u64, parts: &[Part]) {
+    let base = HOST_BASE;
+    let bar = Bar { y, base, size };
+    bar.put_outline(page, "host ");
     let mut last = None;
-    for mapped in ranges {
-        let class = if mapped.lent {
-            "lent part"
-        } else {
-            "mapped part"
-        };
-        let part = bar.part(mapped.start, mapped.len, class);
-        last = bar.next(page, last, part);
+    for part in parts {
+        let stretch = bar.stretch(part.section.start, part.section.len, part.kind());
+        last = bar.next(page, last, stretch);
     }
     bar.put_last(page, last);
 }
@@ -118,23 +117,11 @@ pub fn put_host_bar(page: &mut Page, y: u64, size: u64, ranges: &[Mapped]) {
 pub fn put_device_bar(page: &mut Page, y: u64, size: u64, device: u64, entries: &[Entry]) {
     let base = DEVICE_BASE.saturating_mul(device.saturating_add(1));
     let bar = Bar { y, base, size };
-    bar.put_outline(page, "device");
+    bar.put_outline(page, "device ");
     let mut last = None;
     for entry in entries {
-        if let Some(class) = class_of(entry.kind) {
-            let part = bar.part(entry.place, entry.size, class);
-            last = bar.next(page, last, part);
-        }
+        let stretch = bar.stretch(entry.place, entry.size, entry.kind);
+        last = bar.next(page, last, stretch);
     }
     bar.put_last(page, last);
-}
-
-/// What a block looks like; nothing for a hole.
-fn class_of(kind: Kind) -> Option<&'static str> {
-    match kind {
-        Kind::Mapped => Some("mapped part"),
-        Kind::Lent => Some("lent part"),
-        Kind::Ended(_) => Some("ended part"),
-        Kind::Hole => None,
-    }
 }

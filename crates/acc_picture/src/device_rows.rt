@@ -1,9 +1,17 @@
 //! The rows of the device: blocks and holes.
 
 use crate::gathering::{Entry, Kind};
-use crate::places::{device_area, text_in};
-use crate::shapes::{Area, close_group, close_text, close_title, open_text, open_titled, put_box};
-use acc_page::Page;
+use crate::places::{
+    ATTACHED, DEVICE_ADDRESS, DEVICE_BYTES, NAME, STATE, device_area, text_in,
+};
+use crate::shapes::{
+    Area, close_group, close_text, close_title, open_text, open_titled, put_address, put_box,
+    put_number, put_text,
+};
+use crate::short_names::put_short_name;
+use acc_base::Attachment;
+use acc_page::{Names, Page};
+use std::alloc::Global;
 
 /// Blocks and holes that share a row.
 #[derive(Clone, Copy)]
@@ -14,16 +22,14 @@ pub struct DeviceRow {
     count: u64,
     /// Their bytes.
     bytes: u64,
-    /// How many are blocks of mapped ranges.
+    /// How many are blocks.
     blocks: u64,
-    /// How many of these are lent.
-    lent: u64,
-    /// How many are blocks whose mapping has ended.
-    ended: u64,
-    /// How often queued copies name these.
+    /// How often queued copies name those whose mapping has ended.
     pins: u64,
-    /// How many are holes.
-    holes: u64,
+    /// The first of the attached pointers.
+    attached: Option<Attachment>,
+    /// How many these are.
+    pointers: u64,
 }
 
 /// The row of some blocks and holes that lie one behind the other, if there are any.
@@ -33,10 +39,9 @@ pub fn device_row(entries: &[Entry]) -> Option<DeviceRow> {
         count: entries.len() as u64,
         bytes: 0,
         blocks: 0,
-        lent: 0,
-        ended: 0,
         pins: 0,
-        holes: 0,
+        attached: None,
+        pointers: 0,
     };
     for entry in entries {
         row.add(*entry);
@@ -47,18 +52,18 @@ pub fn device_row(entries: &[Entry]) -> Option<DeviceRow> {
 impl DeviceRow {
     fn add(&mut self, entry: Entry) {
         self.bytes = self.bytes.saturating_add(entry.size);
-        match entry.kind {
-            Kind::Mapped => self.blocks = self.blocks.saturating_add(1),
-            Kind::Lent => {
-                self.blocks = self.blocks.saturating_add(1);
-                self.lent = self.lent.saturating_add(1);
-            }
-            Kind::Ended(pins) => {
-                self.ended = self.ended.saturating_add(1);
-                self.pins = self.pins.saturating_add(pins);
-            }
-            Kind::Hole => self.holes = self.holes.saturating_add(1),
+        if !matches!(entry.kind, Kind::Hole) {
+            self.blocks = self.blocks.saturating_add(1);
         }
+        if let Kind::Ended(pins) = entry.kind {
+            self.pins = self.pins.saturating_add(pins);
+        }
+    }
+
+    /// Adds an attached pointer.
+    pub fn attach(&mut self, attached: Attachment) {
+        self.attached = self.attached.or(Some(attached));
+        self.pointers = self.pointers.saturating_add(1);
     }
 
     /// The device address of its first byte.
@@ -67,13 +72,17 @@ impl DeviceRow {
     }
 
     /// Puts the row of a number.
-    pub fn put(&self, page: &mut Page, nth: usize) {
+    pub fn put(&self, page: &mut Page, alloc: Global, names: &Names, nth: usize) {
         let area = device_area(nth);
         open_titled(page);
         self.put_title(page);
         close_title(page);
         put_box(page, self.class(), area);
-        self.put_texts(page, area);
+        self.put_name(page, alloc, names, area);
+        self.put_state(page, area);
+        put_address(page, text_in(area, DEVICE_ADDRESS), self.first.place);
+        put_number(page, text_in(area, DEVICE_BYTES), self.bytes);
+        self.put_attached(page, names, area);
         close_group(page);
     }
 
@@ -81,70 +90,66 @@ impl DeviceRow {
     fn class(&self) -> &'static str {
         if self.count > 1 {
             "group"
-        } else if self.lent > 0 {
-            "lent"
-        } else if self.ended > 0 {
-            "ended"
-        } else if self.holes > 0 {
-            "hole"
         } else {
-            "mapped"
+            self.first.kind.class()
         }
     }
 
-    /// Puts all that is known of it.
+    /// Puts what has no room in it.
     fn put_title(&self, page: &mut Page) {
-        page.number(self.bytes);
-        page.text(" bytes from ");
-        page.address(self.first.place);
-        page.text(" on: blocks of mapped ranges ");
+        page.text("blocks ");
         page.number(self.blocks);
-        page.text(", lent ");
-        page.number(self.lent);
-        page.text(", blocks whose mapping has ended ");
-        page.number(self.ended);
         page.text(", pins ");
         page.number(self.pins);
-        page.text(", holes ");
-        page.number(self.holes);
+        page.text(", attached pointers ");
+        page.number(self.pointers);
     }
 
-    fn put_texts(&self, page: &mut Page, area: Area) {
-        open_text(page, "number", text_in(area, 6));
-        page.address(self.first.place);
-        close_text(page);
-        open_text(page, "number", text_in(area, 92));
-        page.number(self.bytes);
-        close_text(page);
-        open_text(page, "name", text_in(area, 160));
+    /// Puts whose block it is, or how many blocks there are.
+    fn put_name(&self, page: &mut Page, alloc: Global, names: &Names, area: Area) {
+        open_text(page, "name", text_in(area, NAME));
         if self.count > 1 {
-            self.put_counts(page);
+            page.text("blocks ");
+            page.number(self.blocks);
+        } else if let Some(section) = self.first.section {
+            put_short_name(page, alloc, names, section);
         } else {
-            self.put_kind(page);
+            page.text(self.class());
         }
         close_text(page);
     }
 
-    fn put_counts(&self, page: &mut Page) {
-        page.number(self.blocks);
-        page.text(" blocks, ");
-        page.number(self.ended);
-        page.text(" ended, ");
-        page.number(self.holes);
-        page.text(" holes");
-    }
-
-    fn put_kind(&self, page: &mut Page) {
-        match self.first.kind {
-            Kind::Mapped => page.text("block"),
-            Kind::Lent => page.text("block, lent"),
-            Kind::Hole => page.text("hole"),
-            Kind::Ended(pins) => {
-                page.text("ended, pins ");
-                page.number(pins);
-            }
+    /// Puts whether the block is lent, or its mapping has ended.
+    fn put_state(&self, page: &mut Page, area: Area) {
+        if self.count == 1 && matches!(self.first.kind, Kind::Lent | Kind::Ended(_)) {
+            put_text(page, "number", text_in(area, STATE), self.class());
         }
     }
+
+    /// Puts the first attached pointer with its counter, and how many more there are.
+    fn put_attached(&self, page: &mut Page, names: &Names, area: Area) {
+        let Some(attached) = self.attached else {
+            return;
+        };
+        open_text(page, "number", text_in(area, ATTACHED));
+        put_counter(page, names, attached);
+        if self.pointers > 1 {
+            page.text(" +");
+            page.number(self.pointers.saturating_sub(1));
+        }
+        close_text(page);
+    }
+}
+
+/// Puts the byte of its array at which a pointer lies, and how often it is attached.
+fn put_counter(page: &mut Page, names: &Names, attached: Attachment) {
+    if let Some(spot) = names.spot(attached.pointer) {
+        page.text("[");
+        page.number(spot.offset);
+        page.text("]");
+    }
+    page.text(" x");
+    page.number(attached.count);
 }
 
 /// The number of the row that has a device address.

@@ -1,12 +1,34 @@
 //! What a table has in host memory and on one device.
 
-use acc_base::{HOST_BASE, Section};
+use crate::births::add_births;
+use acc_base::{Attachment, HOST_BASE, Section};
+use acc_page::Names;
 use acc_table::{Mapped, Table};
 use std::alloc::{AllocError, Global};
 use std::collections::BTreeMap;
 
+/// Bytes of host memory that lie side by side: a mapped range, or bytes of an array that are not mapped.
+#[derive(Clone, Copy)]
+pub struct Part {
+    /// The bytes.
+    pub section: Section,
+    /// The range, where they are mapped.
+    pub mapped: Option<Mapped>,
+}
+
+impl Part {
+    /// What its block is; a hole where it has none.
+    pub fn kind(self) -> Kind {
+        match self.mapped {
+            None => Kind::Hole,
+            Some(mapped) if mapped.lent => Kind::Lent,
+            Some(_) => Kind::Mapped,
+        }
+    }
+}
+
 /// What some addresses of the device are.
-#[derive(Clone, Copy, PartialEq, Eq)]
+#[derive(Clone, Copy)]
 pub enum Kind {
     /// A block of a mapped range.
     Mapped,
@@ -18,6 +40,18 @@ pub enum Kind {
     Hole,
 }
 
+impl Kind {
+    /// What they look like.
+    pub fn class(self) -> &'static str {
+        match self {
+            Kind::Mapped => "mapped",
+            Kind::Lent => "lent",
+            Kind::Ended(_) => "ended",
+            Kind::Hole => "hole",
+        }
+    }
+}
+
 /// Addresses of the device that lie side by side.
 #[derive(Clone, Copy)]
 pub struct Entry {
@@ -27,60 +61,123 @@ pub struct Entry {
     pub size: u64,
     /// What they are.
     pub kind: Kind,
-    /// The first host address that is mapped there; 0 where none is.
-    pub start: u64,
+    /// The host bytes that are mapped there, or were.
+    pub section: Option<Section>,
 }
 
-/// The mapped ranges of a device, by rising host address.
-pub fn ranges_of(alloc: Global, table: &Table, device: u64) -> Result<Vec<Mapped>, AllocError> {
-    let mut ranges = Vec::new(alloc);
+/// Adds the mapped ranges of a device, and the bytes of arrays between them and behind them, by rising host address.
+pub fn add_parts(
+    table: &Table,
+    names: &Names,
+    device: u64,
+    parts: &mut Vec<Part>,
+) -> Result<(), AllocError> {
     let mut from = HOST_BASE;
     for _ in 0..u64::MAX {
-        let Some(mapped) = table.mapped(device, from) else {
+        let Some(part) = part_at(names, from, table.mapped(device, from)) else {
             break;
         };
-        ranges.push(mapped)?;
-        from = mapped.start.saturating_add(1);
+        parts.push(part)?;
+        from = end_of(part.section);
     }
-    Ok(ranges)
+    Ok(())
 }
 
-/// The blocks and holes of a device, by rising device address.
-pub fn entries_of(
+/// The address behind a section.
+pub fn end_of(section: Section) -> u64 {
+    section.start.saturating_add(section.len)
+}
+
+/// What comes next from an address on, where this is the next mapped range.
+fn part_at(names: &Names, from: u64, next: Option<Mapped>) -> Option<Part> {
+    let limit = next.map_or(u64::MAX, |mapped| mapped.start);
+    let mapped = match unmapped_at(names, from, limit) {
+        Some(section) => {
+            return Some(Part {
+                section,
+                mapped: None,
+            });
+        }
+        None => next?,
+    };
+    Some(Part {
+        section: Section {
+            start: mapped.start,
+            len: mapped.len,
+        },
+        mapped: next,
+    })
+}
+
+/// The bytes below a limit that an array has from an address on, or the next array.
+fn unmapped_at(names: &Names, from: u64, limit: u64) -> Option<Section> {
+    let next = from.div_ceil(16).saturating_mul(16);
+    let spot = names.spot(from).or(names.spot(next))?;
+    let start = u64::from(spot.array.start).saturating_add(spot.offset);
+    let len = u64::from(spot.array.end).min(limit).saturating_sub(start);
+    (0 < len).then_some(Section { start, len })
+}
+
+/// Adds the blocks and holes of a device, by rising device address.
+pub fn add_entries(
     alloc: Global,
     table: &Table,
     device: u64,
-    ranges: &[Mapped],
-) -> Result<Vec<Entry>, AllocError> {
+    parts: &[Part],
+    entries: &mut Vec<Entry>,
+) -> Result<(), AllocError> {
     let mut by_place = BTreeMap::new(alloc);
-    for mapped in ranges {
-        by_place.insert(mapped.place, entry_of(*mapped))?;
-    }
-    add_ended(table, device, &mut by_place)?;
-    add_holes(table, device, &mut by_place)?;
-    let mut entries = Vec::new(alloc);
+    place_all(alloc, table, device, parts, &mut by_place)?;
     for (_, entry) in by_place.iter() {
         entries.push(*entry)?;
     }
-    Ok(entries)
+    Ok(())
 }
 
-fn entry_of(mapped: Mapped) -> Entry {
-    Entry {
+fn place_all(
+    alloc: Global,
+    table: &Table,
+    device: u64,
+    parts: &[Part],
+    by_place: &mut BTreeMap<u64, Entry>,
+) -> Result<(), AllocError> {
+    for part in parts {
+        add_block(*part, by_place)?;
+    }
+    add_ended(alloc, table, device, by_place)?;
+    add_holes(table, device, by_place)
+}
+
+/// Adds the block of a mapped range.
+fn add_block(part: Part, by_place: &mut BTreeMap<u64, Entry>) -> Result<(), AllocError> {
+    let Some(mapped) = part.mapped else {
+        return Ok(());
+    };
+    let entry = Entry {
         place: mapped.place,
         size: mapped.len.div_ceil(16).saturating_mul(16),
-        kind: if mapped.lent {
-            Kind::Lent
-        } else {
-            Kind::Mapped
-        },
-        start: mapped.start,
-    }
+        kind: part.kind(),
+        section: Some(part.section),
+    };
+    by_place.insert(mapped.place, entry)?;
+    Ok(())
 }
 
 fn add_ended(
+    alloc: Global,
     table: &Table,
     device: u64,
+    by_place: &mut BTreeMap<u64, Entry>,
+) -> Result<(), AllocError> {
+    let mut births = BTreeMap::new(alloc);
+    add_births(table, device, &mut births)?;
+    place_ended(table, device, &births, by_place)
+}
+
+fn place_ended(
+    table: &Table,
+    device: u64,
+    births: &BTreeMap<u64, Section>,
     by_place: &mut BTreeMap<u64, Entry>,
 ) -> Result<(), AllocError> {
     let mut from = 0;
@@ -92,7 +189,7 @@ fn add_ended(
             place: ended.place,
             size: ended.size,
             kind: Kind::Ended(ended.pins),
-            start: 0,
+            section: births.get(&ended.place).copied(),
         };
         by_place.insert(ended.place, entry)?;
         from = ended.place.saturating_add(1);
@@ -114,7 +211,7 @@ fn add_holes(
             place: hole.place,
             size: hole.size,
             kind: Kind::Hole,
-            start: 0,
+            section: None,
         };
         by_place.insert(hole.place, entry)?;
         from = hole.place.saturating_add(1);
@@ -122,18 +219,35 @@ fn add_holes(
     Ok(())
 }
 
-/// How many attached pointers a mapped range of a device has.
-pub fn pointers_in(table: &Table, device: u64, mapped: Mapped) -> u64 {
-    let end = mapped.start.saturating_add(mapped.len);
-    let mut count = 0;
-    let mut start = mapped.start;
+/// Adds the attached pointers of a device, by rising host address.
+pub fn add_attached(
+    table: &Table,
+    device: u64,
+    parts: &[Part],
+    attached: &mut Vec<Attachment>,
+) -> Result<(), AllocError> {
+    for part in parts {
+        attached_in(table, device, part.section, attached)?;
+    }
+    Ok(())
+}
+
+/// Adds the attached pointers of a section.
+fn attached_in(
+    table: &Table,
+    device: u64,
+    section: Section,
+    attached: &mut Vec<Attachment>,
+) -> Result<(), AllocError> {
+    let end = end_of(section);
+    let mut start = section.start;
     for _ in 0..u64::MAX {
         let len = end.saturating_sub(start);
-        let Some(attached) = table.next_attached(device, Section { start, len }) else {
+        let Some(next) = table.next_attached(device, Section { start, len }) else {
             break;
         };
-        count = u64::saturating_add(count, 1);
-        start = attached.pointer.saturating_add(1);
+        attached.push(next)?;
+        start = next.pointer.saturating_add(1);
     }
-    count
+    Ok(())
 }

@@ -7,14 +7,17 @@
 
 mod arrows;
 mod bars;
+mod births;
 mod device_rows;
 mod gathering;
 mod host_rows;
-mod legends;
 mod links;
 mod pictures;
 mod places;
+mod queues;
 mod scenes;
 mod shapes;
+mod short_names;
+mod styles;
 
 pub use pictures::{Caption, put_picture};

@@ -1,18 +1,22 @@
-//! Lines between the rows of host memory and of the device, from a mapped range to its block.
+//! Lines between the rows of host memory and of the device, from bytes of the host to their block.
 
-use crate::device_rows::{DeviceRow, row_at};
-use crate::places::{DEVICE_X, HOST_END, middle_of};
+use crate::device_rows::row_at;
+use crate::gathering::{Entry, Kind, Part};
+use crate::places::{DEVICE_X, HOST_END, group_size, middle_of};
+use crate::scenes::Scene;
 use crate::shapes::{close_group, close_title, open_titled, put_curve};
 use acc_page::Page;
-use acc_table::Mapped;
 
-/// Puts a line from the row of a number to each row that has a block of one of its ranges. Ranges of the same row whose
+/// Puts a line from the row of a number to each row that has a block of one of its parts. Parts of the same row whose
 /// blocks lie in the same row one behind the other share a line.
-pub fn put_links(page: &mut Page, rows: &[DeviceRow], ranges: &[Mapped], nth: usize) {
+pub fn put_links(page: &mut Page, scene: &Scene, parts: &[Part], nth: usize) {
     let mut last = None;
     let mut count = 0;
-    for mapped in ranges {
-        let to = row_at(rows, mapped.place);
+    for part in parts {
+        let to = match part.mapped {
+            Some(mapped) => row_at(&scene.rows, mapped.place),
+            None => None,
+        };
         if to != last {
             put_link(page, nth, last, count);
             last = to;
@@ -32,8 +36,42 @@ fn put_link(page: &mut Page, nth: usize, to: Option<usize>, count: u64) {
     page.number(count);
     page.text(if count == 1 { " mapping" } else { " mappings" });
     close_title(page);
+    put_between(page, "link", nth, to);
+    close_group(page);
+}
+
+/// Puts a line between rows of the host and of the device.
+fn put_between(page: &mut Page, class: &str, nth: usize, to: usize) {
     let from = middle_of(nth, HOST_END);
     let end = middle_of(to, DEVICE_X);
-    put_curve(page, "link", from, end, HOST_END.midpoint(DEVICE_X));
-    close_group(page);
+    put_curve(page, class, from, end, HOST_END.midpoint(DEVICE_X));
+}
+
+/// Puts a line to each block whose mapping has ended, from the bytes that were mapped to it.
+pub fn put_kept(page: &mut Page, scene: &Scene) {
+    for entry in &scene.entries {
+        if matches!(entry.kind, Kind::Ended(_)) {
+            put_kept_line(page, scene, *entry);
+        }
+    }
+}
+
+fn put_kept_line(page: &mut Page, scene: &Scene, entry: Entry) {
+    let (Some(section), Some(to)) = (entry.section, row_at(&scene.rows, entry.place)) else {
+        return;
+    };
+    if let Some(nth) = part_at(&scene.parts, section.start) {
+        put_between(page, "kept", nth / group_size(scene.parts.len()), to);
+    }
+}
+
+/// The number of the part that has a host address.
+fn part_at(parts: &[Part], address: u64) -> Option<usize> {
+    let mut found = None;
+    for (nth, part) in parts.iter().enumerate() {
+        if part.section.start <= address {
+            found = Some(nth);
+        }
+    }
+    found
 }

@@ -2,13 +2,17 @@
 
 use crate::arrows::put_arrows;
 use crate::bars::{put_device_bar, put_host_bar};
-use crate::host_rows::{HostRow, host_row};
-use crate::legends::{STYLE, put_legend};
-use crate::links::put_links;
-use crate::places::{DEVICE_X, HOST_X, MARGIN, ROWS_Y, WIDTH, group_size};
+use crate::gathering::Part;
+use crate::host_rows::host_row;
+use crate::links::{put_kept, put_links};
+use crate::places::{
+    ATTACHED, DEVICE_ADDRESS, DEVICE_BYTES, DEVICE_X, DYNAMIC, HOST_ADDRESS, HOST_BYTES, HOST_X,
+    MARGIN, NAME, ROWS_Y, STRUCTURED, WIDTH, group_size,
+};
+use crate::queues::put_queues;
 use crate::scenes::Scene;
-use crate::shapes::{Area, Point, close_group, close_text, open_text, put_box, put_text};
-use acc_base::QUEUE_COUNT;
+use crate::shapes::{Area, Point, close_group, close_text, close_title, open_text, put_box, put_text};
+use crate::styles::STYLE;
 use acc_page::{Names, Page};
 use acc_table::Table;
 use std::alloc::{AllocError, Global};
@@ -28,7 +32,7 @@ pub enum Caption<'a> {
 }
 
 /// How many letters of a statement are shown at most.
-const STATEMENT_LIMIT: usize = 120;
+const STATEMENT_LIMIT: usize = 72;
 
 /// Puts the picture of host memory and of the devices of a table: that of each device stands below the one before.
 ///
@@ -43,22 +47,44 @@ pub fn put_picture(
     caption: Caption<'_>,
 ) -> Result<(), AllocError> {
     let mut scenes = Vec::new(alloc);
-    let mut height = 0;
+    add_scenes(alloc, table, names, &mut scenes)?;
+    put_scenes(page, alloc, table, names, caption, &scenes);
+    Ok(())
+}
+
+fn add_scenes(
+    alloc: Global,
+    table: &Table,
+    names: &Names,
+    scenes: &mut Vec<Scene>,
+) -> Result<(), AllocError> {
     for device in 0..table.config().devices() {
-        let scene = Scene::new(alloc, table, device)?;
-        height = u64::saturating_add(height, scene.height());
-        scenes.push(scene)?;
+        scenes.push(Scene::new(alloc, table, names, device)?)?;
     }
-    open_picture(page, height);
+    Ok(())
+}
+
+fn put_scenes(
+    page: &mut Page,
+    alloc: Global,
+    table: &Table,
+    names: &Names,
+    caption: Caption<'_>,
+    scenes: &[Scene],
+) {
+    let mut height = 0;
+    for scene in scenes {
+        height = u64::saturating_add(height, scene.height());
+    }
+    open_picture(page, height, caption);
     let mut y = 0;
-    for scene in &scenes {
+    for scene in scenes {
         open_scene(page, y);
-        put_scene(page, alloc, table, names, caption, scene)?;
+        put_scene(page, alloc, table, names, caption, scene);
         close_scene(page, y);
         y = u64::saturating_add(y, scene.height());
     }
     page.text("</svg>\n");
-    Ok(())
 }
 
 /// Puts the picture of one device.
@@ -69,16 +95,22 @@ fn put_scene(
     names: &Names,
     caption: Caption<'_>,
     scene: &Scene,
-) -> Result<(), AllocError> {
+) {
     put_head(page, table, scene.device, caption);
     put_bars(page, table, scene);
-    put_legend(page, 146);
-    put_columns(page);
-    put_host_rows(page, alloc, table, names, scene);
+    put_heads(page, HOST_X, &HOST_HEADS);
+    put_heads(page, DEVICE_X, &DEVICE_HEADS);
+    put_host_rows(page, alloc, names, scene);
+    put_device_rows(page, alloc, names, scene);
+    put_kept(page, scene);
+    put_queues(page, alloc, names, &scene.queues, scene.foot());
+    put_arrows(page, table, names, scene);
+}
+
+fn put_device_rows(page: &mut Page, alloc: Global, names: &Names, scene: &Scene) {
     for (nth, row) in scene.rows.iter().enumerate() {
-        row.put(page, nth);
+        row.put(page, alloc, names, nth);
     }
-    put_arrows(page, alloc, table, names, scene)
 }
 
 /// Moves what follows so far down.
@@ -98,8 +130,8 @@ fn close_scene(page: &mut Page, y: u64) {
 }
 
 /// Puts what stands before all shapes.
-fn open_picture(page: &mut Page, height: u64) {
-    page.text("<svg xmlns=\"http://www.w3.org/2000/svg\" width=\"");
+fn open_picture(page: &mut Page, height: u64, caption: Caption<'_>) {
+    page.text("<svg xmlns=\"http://www.w3.org/2000/svg\" role=\"img\" width=\"");
     page.number(WIDTH);
     page.text("\" height=\"");
     page.number(height);
@@ -107,7 +139,9 @@ fn open_picture(page: &mut Page, height: u64) {
     page.number(WIDTH);
     page.text(" ");
     page.number(height);
-    page.text("\">\n");
+    page.text("\">\n<title>Host memory and device memory. ");
+    put_caption(page, caption);
+    close_title(page);
     page.text(STYLE);
     let (x, y, width) = (0, 0, WIDTH);
     put_box(
@@ -124,15 +158,12 @@ fn open_picture(page: &mut Page, height: u64) {
 
 /// Puts when it was made, and the sums.
 fn put_head(page: &mut Page, table: &Table, device: u64, caption: Caption<'_>) {
-    open_text(page, "title", Point { x: MARGIN, y: 26 });
+    open_text(page, "title", Point { x: MARGIN, y: 22 });
     put_device(page, table, device);
     put_caption(page, caption);
     close_text(page);
-    open_text(page, "number", Point { x: MARGIN, y: 46 });
+    open_text(page, "number", Point { x: MARGIN, y: 40 });
     put_sums(page, table, device);
-    close_text(page);
-    open_text(page, "number", Point { x: MARGIN, y: 62 });
-    put_queues(page, table, device);
     close_text(page);
 }
 
@@ -169,77 +200,57 @@ fn put_sums(page: &mut Page, table: &Table, device: u64) {
     page.number(table.events());
 }
 
-/// Puts how many copies wait in each queue of the device that is not empty.
-fn put_queues(page: &mut Page, table: &Table, device: u64) {
-    page.text("copies that wait");
-    let mut none = true;
-    for queue in 0..QUEUE_COUNT {
-        let len = table.queue_len(device, queue);
-        if len > 0 {
-            page.text(if none { ", queue by queue: " } else { ", " });
-            put_queue(page, queue, len);
-            none = false;
-        }
-    }
-    if none {
-        page.text(": none");
-    }
-}
-
-fn put_queue(page: &mut Page, queue: u64, len: u64) {
-    page.number(queue);
-    page.text(": ");
-    page.number(len);
-}
-
 /// Puts host memory and the device's to scale.
 fn put_bars(page: &mut Page, table: &Table, scene: &Scene) {
     let config = table.config();
-    put_host_bar(page, 78, config.host(), &scene.ranges);
-    put_device_bar(page, 110, config.device(), scene.device, &scene.entries);
+    put_host_bar(page, 50, config.host(), &scene.parts);
+    put_device_bar(page, 72, config.device(), scene.device, &scene.entries);
 }
 
-/// Puts what the two columns are.
-fn put_columns(page: &mut Page) {
-    let y = ROWS_Y.saturating_sub(10);
-    put_text(
-        page,
-        "name",
-        Point { x: HOST_X, y },
-        "host: mapped ranges (first address, bytes, structured and dynamic counter, pointers)",
-    );
-    put_text(
-        page,
-        "name",
-        Point { x: DEVICE_X, y },
-        "device: blocks and holes (first address, bytes)",
-    );
-}
+/// The heads of the columns of host memory, and how far they stand from the left edge of its rows.
+const HOST_HEADS: [(&str, u64); 5] = [
+    ("host memory", NAME),
+    ("address", HOST_ADDRESS),
+    ("bytes", HOST_BYTES),
+    ("structured", STRUCTURED),
+    ("dynamic", DYNAMIC),
+];
 
-/// Puts the rows of host memory with their lines to the device.
-fn put_host_rows(page: &mut Page, alloc: Global, table: &Table, names: &Names, scene: &Scene) {
-    let ranges = &scene.ranges;
-    let mut before = None;
-    for (nth, group) in ranges.chunks(group_size(ranges.len())).enumerate() {
-        if let Some(row) = host_row(table, scene.device, group) {
-            put_links(page, &scene.rows, group, nth);
-            put_host_row(page, alloc, names, nth, row, before);
-            before = Some(row);
-        }
+/// The same of the device.
+const DEVICE_HEADS: [(&str, u64); 4] = [
+    ("device memory", NAME),
+    ("address", DEVICE_ADDRESS),
+    ("bytes", DEVICE_BYTES),
+    ("attached", ATTACHED),
+];
+
+/// Puts the heads of columns, behind a left edge.
+fn put_heads(page: &mut Page, x: u64, heads: &[(&str, u64)]) {
+    let y = ROWS_Y.saturating_sub(8);
+    for (head, column) in heads {
+        let x = x.saturating_add(*column);
+        put_text(page, "name", Point { x, y }, head);
     }
 }
 
-/// Puts a row of host memory, with a line above it where bytes between it and the row before are not mapped.
+/// Puts the rows of host memory with their lines to the device.
+fn put_host_rows(page: &mut Page, alloc: Global, names: &Names, scene: &Scene) {
+    let parts = &scene.parts;
+    for (nth, group) in parts.chunks(group_size(parts.len())).enumerate() {
+        put_host_row(page, alloc, names, scene, group, nth);
+    }
+}
+
 fn put_host_row(
     page: &mut Page,
     alloc: Global,
     names: &Names,
+    scene: &Scene,
+    group: &[Part],
     nth: usize,
-    row: HostRow,
-    before: Option<HostRow>,
 ) {
-    if let Some(before) = before {
-        row.put_gap(page, &before, nth);
+    put_links(page, scene, group, nth);
+    if let Some(row) = host_row(group) {
+        row.put(page, alloc, names, nth);
     }
-    row.put(page, alloc, names, nth);
 }

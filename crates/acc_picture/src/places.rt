@@ -5,22 +5,22 @@ ghost use Rattle.std.specs.Prelude.{◌≤◌};
 use crate::shapes::{Area, Point};
 
 /// How far the picture's content stands from its edges.
-pub const MARGIN: u64 = 20;
+pub const MARGIN: u64 = 10;
 
-/// The width of the picture.
-pub const WIDTH: u64 = 1280;
-
-/// The width of a bar.
-pub const BAR_WIDTH: u64 = 1100;
+/// The width of the picture: that of a page of text.
+pub const WIDTH: u64 = 830;
 
 /// The left edge of the bars.
-pub const BAR_X: u64 = 90;
+pub const BAR_X: u64 = 130;
+
+/// The width of a bar.
+pub const BAR_WIDTH: u64 = 690;
 
 /// The height of a bar.
 pub const BAR_HEIGHT: u64 = 16;
 
 /// The upper edge of the first row.
-pub const ROWS_Y: u64 = 204;
+pub const ROWS_Y: u64 = 116;
 
 /// The height of a row.
 pub const ROW_HEIGHT: u64 = 18;
@@ -28,23 +28,50 @@ pub const ROW_HEIGHT: u64 = 18;
 /// How far a row stands below the one before.
 pub const ROW_PITCH: u64 = 23;
 
+/// How far a line of text stands below the one before.
+pub const LINE_PITCH: u64 = 18;
+
 /// The left edge of the rows of host memory.
 pub const HOST_X: u64 = MARGIN;
 
-/// The width of a row of host memory.
-pub const HOST_WIDTH: u64 = 550;
+/// The right edge of the rows of host memory.
+pub const HOST_END: u64 = 380;
 
 /// The left edge of the rows of the device.
-pub const DEVICE_X: u64 = 740;
-
-/// The width of a row of the device.
-pub const DEVICE_WIDTH: u64 = 380;
-
-/// The right edge of the rows of host memory.
-pub const HOST_END: u64 = HOST_X + HOST_WIDTH;
+pub const DEVICE_X: u64 = 420;
 
 /// The right edge of the rows of the device.
-pub const DEVICE_END: u64 = DEVICE_X + DEVICE_WIDTH;
+pub const DEVICE_END: u64 = 784;
+
+/// Where the name of a row begins, as all columns so far from the row's left edge.
+pub const NAME: u64 = 6;
+
+/// Where the address of a row of host memory begins.
+pub const HOST_ADDRESS: u64 = 98;
+
+/// Where its bytes begin.
+pub const HOST_BYTES: u64 = 170;
+
+/// Where its structured counter begins.
+pub const STRUCTURED: u64 = 234;
+
+/// Where its dynamic counter begins.
+pub const DYNAMIC: u64 = 313;
+
+/// Where it begins whether a block of the device is lent, or its mapping has ended.
+pub const STATE: u64 = 97;
+
+/// Where the address of a row of the device begins.
+pub const DEVICE_ADDRESS: u64 = 142;
+
+/// Where its bytes begin.
+pub const DEVICE_BYTES: u64 = 231;
+
+/// Where its attached pointers begin.
+pub const ATTACHED: u64 = 294;
+
+/// How many letters of a name are shown at most.
+pub const NAME_LIMIT: usize = 12;
 
 /// How many rows a memory has at most before neighbours share one.
 pub const ROW_LIMIT: usize = 130;
@@ -62,7 +89,7 @@ pub fn host_area(nth: usize) -> Area {
     Area {
         x: HOST_X,
         y: row_y(nth),
-        width: HOST_WIDTH,
+        width: HOST_END - HOST_X,
         height: ROW_HEIGHT,
     }
 }
@@ -72,7 +99,7 @@ pub fn device_area(nth: usize) -> Area {
     Area {
         x: DEVICE_X,
         y: row_y(nth),
-        width: DEVICE_WIDTH,
+        width: DEVICE_END - DEVICE_X,
         height: ROW_HEIGHT,
     }
 }

@@ -1,9 +1,12 @@
 //! What a device has, as a picture shows it.
 
-use crate::device_rows::{DeviceRow, device_row};
-use crate::gathering::{Entry, entries_of, ranges_of};
-use crate::places::{MARGIN, group_size, row_y};
-use acc_table::{Mapped, Table};
+use crate::device_rows::{DeviceRow, device_row, row_at};
+use crate::gathering::{Entry, Part, add_attached, add_entries, add_parts};
+use crate::places::{LINE_PITCH, MARGIN, group_size, row_y};
+use crate::queues::{Queue, add_queues};
+use acc_base::Attachment;
+use acc_page::Names;
+use acc_table::Table;
 use std::alloc::{AllocError, Global};
 
 /// What a device has.
@@ -11,42 +14,86 @@ use std::alloc::{AllocError, Global};
 pub struct Scene {
     /// The number of the device.
     pub device: u64,
-    /// Its mapped ranges, by rising host address.
-    pub ranges: Vec<Mapped>,
+    /// Mapped ranges and other bytes of arrays, by rising host address.
+    pub parts: Vec<Part>,
     /// Its blocks and holes, by rising device address.
     pub entries: Vec<Entry>,
     /// The rows of these.
     pub rows: Vec<DeviceRow>,
+    /// Its attached pointers.
+    pub attached: Vec<Attachment>,
+    /// Its queues that are not empty.
+    pub queues: Vec<Queue>,
 }
 
 impl Scene {
     /// What a device of a table has.
-    pub fn new(alloc: Global, table: &Table, device: u64) -> Result<Scene, AllocError> {
-        let ranges = ranges_of(alloc, table, device)?;
-        let entries = entries_of(alloc, table, device, &ranges)?;
-        Ok(Scene {
+    pub fn new(
+        alloc: Global,
+        table: &Table,
+        names: &Names,
+        device: u64,
+    ) -> Result<Scene, AllocError> {
+        let mut scene = Scene {
             device,
-            rows: device_rows(alloc, &entries)?,
-            ranges,
-            entries,
-        })
+            parts: Vec::new(alloc),
+            entries: Vec::new(alloc),
+            rows: Vec::new(alloc),
+            attached: Vec::new(alloc),
+            queues: Vec::new(alloc),
+        };
+        scene.gather(alloc, table, names)?;
+        Ok(scene)
+    }
+
+    fn gather(&mut self, alloc: Global, table: &Table, names: &Names) -> Result<(), AllocError> {
+        let device = self.device;
+        add_parts(table, names, device, &mut self.parts)?;
+        add_entries(alloc, table, device, &self.parts, &mut self.entries)?;
+        add_rows(&self.entries, &mut self.rows)?;
+        add_attached(table, device, &self.parts, &mut self.attached)?;
+        add_queues(alloc, table, device, &mut self.queues)?;
+        attach_all(&mut self.rows, table, device, &self.attached);
+        Ok(())
+    }
+
+    /// The lower edge of its rows.
+    pub fn foot(&self) -> u64 {
+        let count = self.parts.len();
+        let host = count.div_ceil(group_size(count));
+        row_y(host.max(self.rows.len()))
     }
 
     /// The height of its picture.
     pub fn height(&self) -> u64 {
-        let count = self.ranges.len();
-        let host = count.div_ceil(group_size(count));
-        row_y(host.max(self.rows.len())).saturating_add(MARGIN)
+        let lines = LINE_PITCH.saturating_mul(self.queues.len() as u64);
+        self.foot().saturating_add(lines).saturating_add(MARGIN)
     }
 }
 
-/// The rows of a device.
-fn device_rows(alloc: Global, entries: &[Entry]) -> Result<Vec<DeviceRow>, AllocError> {
-    let mut rows = Vec::new(alloc);
+/// Adds the rows of a device.
+fn add_rows(entries: &[Entry], rows: &mut Vec<DeviceRow>) -> Result<(), AllocError> {
     for group in entries.chunks(group_size(entries.len())) {
         if let Some(row) = device_row(group) {
             rows.push(row)?;
         }
     }
-    Ok(rows)
+    Ok(())
+}
+
+/// Adds attached pointers to the rows of the blocks that have them.
+fn attach_all(rows: &mut [DeviceRow], table: &Table, device: u64, all: &[Attachment]) {
+    for attached in all {
+        attach(rows, table.device_address(device, attached.pointer), *attached);
+    }
+}
+
+fn attach(rows: &mut [DeviceRow], place: Option<u64>, attached: Attachment) {
+    let Some(place) = place else {
+        return;
+    };
+    let nth = row_at(rows, place).unwrap_or(0);
+    if let Some(row) = rows.get_mut(nth) {
+        row.attach(attached);
+    }
 }

@@ -72,14 +72,18 @@ pub fn put_text(page: &mut Page, class: &str, point: Point, text: &str) {
     close_text(page);
 }
 
-/// Puts a line between two points.
-pub fn put_line(page: &mut Page, class: &str, from: Point, to: Point) {
-    put_element(page, "line", class);
-    put_attribute(page, "x1", from.x);
-    put_attribute(page, "y1", from.y);
-    put_attribute(page, "x2", to.x);
-    put_attribute(page, "y2", to.y);
-    page.text("/>\n");
+/// Puts a number.
+pub fn put_number(page: &mut Page, point: Point, number: u64) {
+    open_text(page, "number", point);
+    page.number(number);
+    close_text(page);
+}
+
+/// Puts an address.
+pub fn put_address(page: &mut Page, point: Point, address: u64) {
+    open_text(page, "number", point);
+    page.address(address);
+    close_text(page);
 }
 
 /// Puts a curve between two points, which leaves and comes in as level as a line to a height `x` would.

@@ -17,7 +17,7 @@ const LIFE: &str =
     data copy(s) attach(s[8])\nexit data delete(t) async(3)\nexit data copyout(t[0:20]) async(3)\nend data\n";
 
 /// What is drawn, and when.
-const ROWS: [Row; 13] = [
+const ROWS: [Row; 17] = [
     (
         "--svg life.svg --devices 2",
         "array a 16\nset device_num(1)\nenter data copyin(a)\n",
@@ -25,7 +25,7 @@ const ROWS: [Row; 13] = [
         &[
             "Device 0. At the end of the script<",
             "device bytes used 0, open regions 0, events 1<",
-            "<g transform=\"translate(0 247)\">",
+            "<g transform=\"translate(0 149)\">",
             "Device 1. At the end of the script<",
             "device bytes used 16, open regions 0, events 1<",
             ">0x200000000</text>",
@@ -40,15 +40,57 @@ const ROWS: [Row; 13] = [
         1,
         &[
             "used 48, open regions 0, events 5<",
-            ">copies that wait, queue by queue: 3: 1<",
-            ">s</text>",
-            ">0x1000</text>",
-            ">16</text>",
-            ">s 0 d 1</text>",
-            ">ended, pins 1</text>",
+            ">queue 3 waits to copy t[0:20] to host<",
+            "<title>s mapped to 0x100000000</title>",
+            "<title>t not mapped</title>",
+            "<title>blocks 1, pins 1, attached pointers 0</title>",
+            "x=\"244\" y=\"108\">structured</text>",
+            "x=\"244\" y=\"129\">0</text>",
+            "x=\"323\" y=\"108\">dynamic</text>",
+            "x=\"323\" y=\"129\">1</text>",
+            "x=\"244\" y=\"152\">not mapped</text>",
+            "x=\"426\" y=\"152\">t[0:20]</text>",
+            "x=\"517\" y=\"152\">ended</text>",
+            ">0x100000010</text>",
+            ">32</text>",
             ">hole</text>",
             ">65488</text>",
             "<title>1 mapping</title>",
+            "<path class=\"kept\"",
+            "<title>Host memory and device memory. At the end of the script</title>",
+        ],
+        1,
+    ),
+    (
+        "--svg life.svg",
+        "array a 16\nenter data copyin(a)\n",
+        0,
+        &["waits"],
+        0,
+    ),
+    (
+        "--svg life.svg",
+        "array a 16\nenter data copyin(a)\nupdate self(a[0:4]) device(a[8:4]) async(1)\nexit data copyout(a) async(1)\n",
+        0,
+        &[">queue 1 waits to copy a[0:4] to host, a[8:4] to device, a to host<"],
+        1,
+    ),
+    (
+        "--svg life.svg",
+        "array a 64\nenter data copyin(a[0:8], a[8:8], a[16:8], a[24:8], a[32:8]) create(a[40:8]) async(0)\nstep(0)\n",
+        0,
+        &[
+            ">queue 0 waits to copy a[8:8] to device, a[16:8] to device, a[24:8] to device, and 1 more<",
+        ],
+        1,
+    ),
+    (
+        "--svg life.svg",
+        "array p 24\narray t 8\npoint p[0] to t[0]\npoint p[8] to t[0]\nenter data copyin(t, p) attach(p[0], p[8])\nenter data attach(p[0])\n",
+        0,
+        &[
+            ">[0] x2 +1</text>",
+            "<title>pointer p[0] at 0x1000 with counter 2 is aimed at 0x100000000</title>",
         ],
         1,
     ),
@@ -61,10 +103,10 @@ const ROWS: [Row; 13] = [
         1,
         &[
             "After line 5: data copy(s) attach(s[8])<",
-            ">s 1 d 1<",
+            "x=\"244\" y=\"129\">1</text>",
             "open regions 1",
-            ">p 1<",
-            "<title>pointer s[8] at 0x1008 is aimed at 0x100000014</title>",
+            ">[8] x1</text>",
+            "<title>pointer s[8] at 0x1008 with counter 1 is aimed at 0x100000014</title>",
         ],
         1,
     ),
@@ -88,8 +130,11 @@ const ROWS: [Row; 13] = [
         "array a 64\nenter data create(a[0:4], a[32:4])\n",
         0,
         &[
-            "<title>not mapped: 28 bytes from 0x1004 on</title>",
+            "<title>a[4:28] not mapped</title>",
+            ">0x1004</text>",
+            ">28</text>",
             ">a[32:4]</text>",
+            ">a[36:28]</text>",
         ],
         1,
     ),
@@ -100,7 +145,6 @@ const ROWS: [Row; 13] = [
         &[
             "<svg xmlns=",
             "device bytes used 0, open regions 0, events 0<",
-            ">copies that wait: none<",
         ],
         1,
     ),

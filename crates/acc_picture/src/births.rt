@@ -1,0 +1,57 @@
+//! Which host bytes the blocks of a device were made for.
+
+use acc_base::{Did, Event, Item, Section, Step};
+use acc_table::Table;
+use std::alloc::AllocError;
+use std::collections::BTreeMap;
+
+/// Adds by its place the section of each block that was made since the base of the table: at each place the last one stays.
+pub fn add_births(
+    table: &Table,
+    device: u64,
+    births: &mut BTreeMap<u64, Section>,
+) -> Result<(), AllocError> {
+    for event in table.trace() {
+        add_event(event, device, births)?;
+    }
+    Ok(())
+}
+
+fn add_event(
+    event: &Event,
+    device: u64,
+    births: &mut BTreeMap<u64, Section>,
+) -> Result<(), AllocError> {
+    if event.device() != device {
+        return Ok(());
+    }
+    match event {
+        Event::Entered { items, did, .. } => add_all(items.as_slice(), did.as_slice(), births),
+        Event::EnteredData { items, did, .. } => add_all(items.as_slice(), did.as_slice(), births),
+        _ => Ok(()),
+    }
+}
+
+fn add_all<C>(
+    items: &[Item<C>],
+    did: &[Did],
+    births: &mut BTreeMap<u64, Section>,
+) -> Result<(), AllocError> {
+    for nth in 0..items.len() {
+        add_birth(items.get(nth), did.get(nth), births)?;
+    }
+    Ok(())
+}
+
+fn add_birth<C>(
+    item: Option<&Item<C>>,
+    did: Option<&Did>,
+    births: &mut BTreeMap<u64, Section>,
+) -> Result<(), AllocError> {
+    if let (Some(item), Some(did)) = (item, did) {
+        if let Step::Born { place, .. } = did.step {
+            births.insert(place, item.section)?;
+        }
+    }
+    Ok(())
+}

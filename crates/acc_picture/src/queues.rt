@@ -75,13 +75,22 @@ fn add_event(event: &Event, number: u64, copies: &mut Vec<Queued>) -> Result<(),
     let into = Some(number);
     match event {
         Event::EnteredData {
-            items, queue, did, ..
+            items,
+            queue,
+            did,
+            ..
         } if *queue == into => add_all(items.as_slice(), did.as_slice(), copies),
         Event::ExitedData {
-            items, queue, did, ..
+            items,
+            queue,
+            did,
+            ..
         } if *queue == into => add_all(items.as_slice(), did.as_slice(), copies),
         Event::Updated {
-            items, queue, did, ..
+            items,
+            queue,
+            did,
+            ..
         } if *queue == into => add_all(items.as_slice(), did.as_slice(), copies),
         _ => Ok(()),
     }
@@ -194,10 +203,6 @@ impl Queue {
 impl Queued {
     fn put(self, page: &mut Page, alloc: Global, names: &Names) {
         put_short_name(page, alloc, names, self.section);
-        page.text(if self.out {
-            " to host"
-        } else {
-            " to device"
-        });
+        page.text(if self.out { " to host" } else { " to device" });
     }
 }

@@ -1,308 +1,251 @@
 /*
- * Directives: the bytes before and after, and the call of the table that decides.
+ * Directives: for each item the bytes before and after, and the call of the table that decides.
  *
- * What a directive will do is not known before it is done. So what it may copy in is written to the table before it,
- * and what it may have copied out is read after it. Where a part alone may be copied out, the program's bytes of all
- * are written before, and so stay as they are.
+ * What an item did is told by did.c. So no byte is read that the table has not copied out.
  */
 #include <stdlib.h>
 #include <string.h>
 
 #include "inner.h"
 
-/* ---- What a directive may do ---- */
+/* ---- What the table is told ---- */
 
-static bool copies_in(uint32_t clause)
+bool lwa_copies_in(uint32_t clause)
 {
     return clause == LW_COPY || clause == LW_COPYIN;
 }
 
-static bool copies_out(uint32_t clause)
+bool lwa_copies_out(uint32_t clause)
 {
     return clause == LW_COPY || clause == LW_COPYOUT || clause == LW_COPYOUT_ZERO;
 }
 
-/* Whether no other item is in the same object: then what becomes of its mapping is its own doing. */
-static bool is_alone(const lwa_items *items, size_t of)
+bool lwa_enters(const lwa_directive *d)
 {
-    for (size_t i = 0; items->count > 1 && i < items->count; i++) {
-        if (i != of && items->at[i].len != 0 && lwa_first_of(items->at[i].at) == lwa_first_of(items->at[of].at)) {
-            return false;
-        }
-    }
-    return true;
+    return d->way == LWA_DATA || d->way == LWA_ENTER_DATA;
 }
 
-/* Whether the directive may end the mapping of an item: where it is alone, its counters tell. */
-static bool may_end(const lwa_directive *d, const lwa_item *item)
+/* Whether an item maps its section where that is absent. */
+static bool may_map(const lwa_directive *d, const lwa_item *item)
 {
-    const lw_counters_of *counters = &item->counters;
-
-    if (!item->alone) {
-        return true;
-    }
-    if (d->way == LWA_END_DATA) {
-        return counters->dynamic == 0 && counters->structured <= 1;
-    }
-    return counters->structured == 0 && (d->option || counters->dynamic <= 1);
+    return lwa_enters(d) && item->clause != LW_NO_CREATE && item->clause != LW_PRESENT;
 }
 
-/* Whether the table knows all bytes of the item: not of one that it will refuse. */
-static bool is_told(const lwa_item *item)
+/* A section that is absent is told at new table addresses where it is to be mapped, and else with one address that is
+   never mapped. A section that is partly present is told so: with an address of a block, and the one before it. */
+static void tell_section(const lwa_directive *d, lwa_item *item)
 {
-    return item->len != 0 && item->told.len == item->len && item->told.start + item->len <= lwa_outside();
+    lwa_block *met = lwa_meets(item->at, item->len);
+    const bool maps = met == NULL && may_map(d, item);
+
+    if (item->len > UINTPTR_MAX - item->at
+        || (maps && lwa_copies_in(item->clause) && !lwa_is_memory(item->at, item->len))) {
+        item->told.start = lwa_outside();
+        item->told.len = item->len;
+    } else if (maps) {
+        item->told.start = lwa_take_addresses(item->at, item->len);
+        item->told.len = item->len;
+    } else if (met == NULL) {
+        item->told.start = LWA_NOWHERE;
+        item->told.len = 1;
+    } else if (!lwa_has(met, item->at, item->len)) {
+        item->told.start = met->told - 1;
+        item->told.len = 2;
+    } else {
+        item->block = met;
+        item->told.start = met->told + (item->at - met->at);
+        item->told.len = item->len;
+    }
 }
 
-/* Whether the directive may copy bytes of an item. */
-static bool may_copy(const lwa_directive *d, const lwa_item *item)
+bool lwa_is_pointer(const lwa_item *item)
 {
-    if (!is_told(item)) {
-        return false;
-    }
-    switch (d->way) {
-    case LWA_DATA:
-    case LWA_ENTER_DATA: return copies_in(item->clause) && !item->before;
-    case LWA_EXIT_DATA:
-    case LWA_END_DATA: return copies_out(item->clause) && item->before && may_end(d, item);
-    case LWA_UPDATE: return item->before;
-    }
-    return false;
+    return item->clause == LW_ATTACH || item->clause == LW_DETACH;
 }
 
-/* Whether what the directive copies of an item goes to the program. */
-static bool goes_out(const lwa_directive *d, const lwa_item *item)
+static void tell(const lwa_directive *d, lwa_item *item)
 {
-    return d->way == LWA_UPDATE ? item->clause == LW_SELF : d->way == LWA_EXIT_DATA || d->way == LWA_END_DATA;
-}
-
-/* ---- The call ---- */
-
-/* The items as the table wants them, until the next directive. */
-static const lw_item *told_items(const lwa_items *items)
-{
-    static lw_item *told;
-    static size_t room;
-
-    if (items->count > room) {
-        room = items->count;
-        told = lwa_memory(told, room * sizeof *told);
+    item->told = (lw_item){item->clause, LW_HOST_BASE, 0, 0};
+    item->block = NULL;
+    if (lwa_is_pointer(item)) {
+        item->told.start = lwa_told_pointer(item);
+        return;
     }
-    for (size_t i = 0; i < items->count; i++) {
-        told[i] = items->at[i].told;
+    if (item->len != 0) {
+        tell_section(d, item);
     }
-    return told;
-}
-
-static uint32_t ask(lwa_directive *d, lw_fault *fault)
-{
-    const lw_item *told = told_items(&d->items);
-    const size_t count = d->items.count;
-
-    lwa_room();
-    switch (d->way) {
-    case LWA_DATA: return lw_enter(&lwa_table, told, count, &d->region, fault);
-    case LWA_END_DATA: return lw_exit(&lwa_table, d->region, fault);
-    case LWA_ENTER_DATA: return lw_enter_data(&lwa_table, told, count, d->queue, fault);
-    case LWA_EXIT_DATA: return lw_exit_data(&lwa_table, told, count, d->option, d->queue, fault);
-    case LWA_UPDATE: return lw_update(&lwa_table, told, count, d->option, d->queue, fault);
+    if (item->pointer != 0) {
+        item->told.pointer = lwa_told_pointer(item);
     }
-    abort();
-}
-
-bool lwa_call(lwa_directive *d, bool may_be_refused)
-{
-    lw_fault fault;
-    uint32_t status;
-
-    lwa_log_before(d);
-    status = ask(d, &fault);
-    if (status != LW_DONE && may_be_refused) {
-        lwa_log_refused(&fault);
-        return false;
-    }
-    lwa_script_directive(d, status == LW_DONE);
-    lwa_must(status, &fault);
-    lwa_log_after(d);
-    return true;
 }
 
 /* ---- Before and after ---- */
 
-static bool is_mapped(const lwa_item *item)
+/* Writes the program's bytes of a pointer, which its detachment reads. */
+static void mirror_pointer(uintptr_t at)
 {
-    uint64_t present = 0;
+    lwa_block *block = at != 0 ? lwa_inside(at, LWA_POINTER) : NULL;
 
-    lw_is_present(&lwa_table, item->told.start, item->told.len, &present);
-    return present != 0;
-}
-
-/* Finds what a directive may do to each of its items. The counters, which take longer, decide where it leaves. */
-static void look_up(lwa_directive *d)
-{
-    const bool leaves = d->way == LWA_EXIT_DATA || d->way == LWA_END_DATA;
-
-    for (size_t i = 0; i < d->items.count; i++) {
-        lwa_item *item = &d->items.at[i];
-        const lw_item *told = &item->told;
-
-        item->before = item->len != 0
-            && (leaves ? lw_counters(&lwa_table, told->start, told->len, &item->counters) == LW_DONE : is_mapped(item));
-        item->alone = is_alone(&d->items, i);
-        item->may_copy = may_copy(d, item);
+    if (block != NULL) {
+        lwa_mirror_pointers(block, at, LWA_POINTER);
     }
 }
 
-/* Finds what the table is told. Bytes that may be copied and cannot be read are outside of its host memory. */
-static void prepare(lwa_directive *d)
+/* Writes what the table may read of the program's bytes. A copy that waits reads them when it is made. */
+static void before(const lwa_directive *d, const lwa_item *item)
 {
-    lwa_place_items(&d->items);
-    look_up(d);
-    for (size_t i = 0; i < d->items.count; i++) {
-        lwa_item *item = &d->items.at[i];
+    const bool now = d->queue == LW_NO_QUEUE_GIVEN, told = item->told.start != lwa_outside();
 
-        if (item->may_copy && !lwa_is_memory(item->at, item->len)) {
-            item->told.start = lwa_outside();
-            item->may_copy = false;
+    if (lwa_enters(d)) {
+        if (now && told && item->block == NULL && lwa_copies_in(item->clause) && item->len != 0 && may_map(d, item)) {
+            lwa_write(item->told.start, (const void *)item->at, item->len);
         }
-    }
-}
-
-/* Writes the program's bytes of the pointers that an item names, which a detachment reads. */
-static void mirror_named_pointers(const lwa_item *item)
-{
-    if (item->pointer != 0) {
-        lwa_mirror_pointers(item->pointer, LWA_POINTER);
-    }
-    if (item->clause == LW_DETACH || item->clause == LW_ATTACH) {
-        lwa_mirror_pointers(item->at, LWA_POINTER);
-    }
-}
-
-/* Writes what the table reads of the program's bytes. A copy that waits reads them when it is made. */
-static void mirror_before(const lwa_directive *d)
-{
-    for (size_t i = 0; i < d->items.count; i++) {
-        const lwa_item *item = &d->items.at[i];
-
-        if (d->way == LWA_EXIT_DATA || d->way == LWA_END_DATA) {
-            mirror_named_pointers(item);
-        }
-        if (d->queue != LW_NO_QUEUE_GIVEN || !item->may_copy) {
-            continue;
-        }
-        if (goes_out(d, item) && (d->way == LWA_UPDATE || item->alone)) {
-            lwa_mirror_pointers(item->at, item->len);
-        } else {
+        lwa_aim(item);
+    } else if (item->clause == LW_DEVICE) {
+        if (now && item->block != NULL) {
             lwa_mirror_in(item->at, item->told.start, item->len);
         }
-    }
-    if (d->way == LWA_DATA || d->way == LWA_ENTER_DATA) {
-        lwa_aim_pointers(&d->items);
+    } else {
+        mirror_pointer(lwa_is_pointer(item) ? item->at : item->pointer);
+        if (now && item->block != NULL) {
+            lwa_mirror_pointers(item->block, item->at, item->len);
+        }
     }
 }
 
-/* Reads what the table copied to the program's bytes, and keeps the copies that wait. */
-static void mirror_after(const lwa_directive *d)
+static void note(const lwa_item *item, int first, int second)
 {
-    for (size_t i = 0; i < d->items.count; i++) {
-        const lwa_item *item = &d->items.at[i];
-        const bool out = goes_out(d, item);
+    lwa_note(first, item->block, item->at, item->len);
+    lwa_note(second, item->block, item->at, item->len);
+}
 
-        if (!item->may_copy) {
-            continue;
-        }
+/* Takes what the item did from the table. */
+static void after(const lwa_directive *d, lwa_item *item, const lwa_did *did)
+{
+    if (did->step == LWA_BORN) {
+        item->block = lwa_born(item->at, item->len, item->told.start, d->device);
+        note(item, acc_ev_alloc, acc_ev_create);
+    }
+    lwa_aimed(item, did);
+    if (did->copied) {
+        item->block->current &= did->out;
+        note(item, did->out ? acc_ev_enqueue_download_start : acc_ev_enqueue_upload_start,
+             did->out ? acc_ev_enqueue_download_end : acc_ev_enqueue_upload_end);
         if (d->queue != LW_NO_QUEUE_GIVEN) {
-            lwa_put_waiting(d->queue, item, out);
-        } else if (out && (d->way == LWA_UPDATE || !item->alone || !is_mapped(item))) {
-            lwa_mirror_out(item->at, item->told.start, item->len);
+            lwa_put_waiting(d->queue, item->block, item->at, item->len, did->out);
+        } else if (did->out) {
+            lwa_mirror_out(item->block, item->at, item->len);
         }
     }
 }
 
-static void mark_members(const lwa_items *items)
+/* ---- The call ---- */
+
+static uint32_t ask(const lwa_directive *d, lwa_item *item, lw_fault *fault)
 {
-    for (size_t i = 0; i < items->count; i++) {
-        if (items->at[i].len != 0 && !items->at[i].before) {
-            lwa_mark_members(items->at[i].at, items->at[i].members);
+    lwa_room();
+    switch (d->way) {
+    case LWA_DATA: return lw_enter(lwa_table(), &item->told, 1, &item->region, fault);
+    case LWA_END_DATA: return lw_exit(lwa_table(), item->region, fault);
+    case LWA_ENTER_DATA: return lw_enter_data(lwa_table(), &item->told, 1, d->queue, fault);
+    case LWA_EXIT_DATA: return lw_exit_data(lwa_table(), &item->told, 1, d->option, d->queue, fault);
+    case LWA_UPDATE: return lw_update(lwa_table(), &item->told, 1, d->option, d->queue, fault);
+    }
+    abort();
+}
+
+/* Whether an item is to be told again: a block was lent, or the queue was full, and has room now. */
+static bool is_to_wait(const lwa_directive *d, uint32_t status)
+{
+    return lwa_is_lent(status) || (status == LW_QUEUE_FULL && lwa_step(d->queue));
+}
+
+static void give_back(const lwa_directive *d, const lwa_item *item)
+{
+    if (item->len != 0 && item->block == NULL && may_map(d, item) && !lwa_is_pointer(item)) {
+        lwa_give_addresses(item->told.start, item->len);
+    }
+}
+
+/* One item of a directive. No: there was no room on the device. */
+static bool act(lwa_directive *d, size_t i)
+{
+    lwa_item *item = &d->items.at[i];
+    uint32_t status;
+    lw_fault fault;
+    lwa_did did;
+
+    for (bool again = true; again;) {
+        if (d->way != LWA_END_DATA) {
+            tell(d, item);
+        }
+        before(d, item);
+        lwa_look(d, item);
+        status = ask(d, item, &fault);
+        again = is_to_wait(d, status);
+        if (again) {
+            give_back(d, item);
         }
     }
+    fault.item = i;
+    if (status == LW_DEVICE_FULL && d->may_be_full) {
+        give_back(d, item);
+        lwa_log_refused(&fault);
+        return false;
+    }
+    lwa_script_item(d, item, status == LW_DONE);
+    lwa_must(status, &fault);
+    did = lwa_what_became(d, item);
+    after(d, item, &did);
+    lwa_log_item(d, i, &did);
+    if (did.step == LWA_ENDED) {
+        note(item, acc_ev_delete, acc_ev_free);
+        lwa_ended(item->block);
+    }
+    return true;
+}
+
+static bool act_on_all(lwa_directive *d)
+{
+    const size_t count = d->items.count;
+    bool done = true;
+
+    lwa_log_directive(d);
+    for (size_t i = 0; i < count && done; i++) {
+        done = act(d, d->way == LWA_END_DATA ? count - 1 - i : i);
+    }
+    lwa_log_region(d);
+    return done;
 }
 
 /* ---- Directives ---- */
 
-void lwa_direct(lwa_directive *d)
+bool lwa_direct(lwa_directive *d)
 {
-    prepare(d);
-    mirror_before(d);
-    lwa_call(d, false);
-    mirror_after(d);
-    if (d->way == LWA_ENTER_DATA) {
-        mark_members(&d->items);
-    }
-    lwa_drop_items(&d->items);
+    const bool done = act_on_all(d);
+
+    free(d->items.at);
+    return done;
 }
 
+/* A region of no item is one of an item that does nothing, since a kernel wants one. */
 lwa_region *lwa_enter(lwa_directive *d)
 {
     lwa_region *region = lwa_memory(NULL, sizeof *region);
 
     d->queue = LW_NO_QUEUE_GIVEN;
-    prepare(d);
-    mirror_before(d);
-    lwa_call(d, false);
-    mark_members(&d->items);
-    *region = (lwa_region){NULL, true, *d};
+    if (d->items.count == 0) {
+        lwa_add_item(&d->items, LW_CREATE, 0, 0);
+    }
+    act_on_all(d);
+    *region = (lwa_region){.in_table = true, .directive = *d};
     region->directive.way = LWA_END_DATA;
     return region;
 }
 
 void lwa_exit(lwa_region *region)
 {
-    lwa_directive *d = &region->directive;
-
-    look_up(d);
-    for (size_t i = 0; i < d->items.count; i++) {
-        if (d->items.at[i].may_copy) {
-            lwa_want_memory(d->items.at[i].at, d->items.at[i].len);
-        }
-    }
-    mirror_before(d);
-    lwa_call(d, false);
-    mirror_after(d);
-    lwa_drop_items(&d->items);
+    act_on_all(&region->directive);
+    free(region->directive.items.at);
     free(region);
-}
-
-void lwa_wait(uint64_t queue)
-{
-    uint64_t made;
-    lw_fault fault;
-    uint32_t status;
-
-    lwa_before_copies(queue);
-    lwa_log_copies("wait", queue);
-    lwa_script_copies("wait", queue);
-    lwa_room();
-    status = lw_wait(&lwa_table, queue, &made, &fault);
-    lwa_must(status, &fault);
-    lwa_after_copies(queue, true);
-    lwa_log_made(queue, made);
-}
-
-bool lwa_step(uint64_t queue)
-{
-    uint64_t made, left = 0;
-    lw_fault fault;
-    uint32_t status;
-
-    lwa_before_copies(queue);
-    lwa_log_copies("step", queue);
-    lwa_script_copies("step", queue);
-    lwa_room();
-    status = lw_step(&lwa_table, queue, &made, &fault);
-    lwa_must(status, &fault);
-    lw_queue_len(&lwa_table, queue, &left);
-    lwa_after_copies(queue, left == 0);
-    lwa_log_made(queue, made);
-    return left == 0;
 }

@@ -1,33 +1,25 @@
 /*
- * Pointers that were attached (OpenACC 3.3, section 2.6.8), by rising address.
+ * Pointers that were attached (OpenACC 3.3, section 2.6.8), which each block keeps by rising address.
  *
  * The table attaches a pointer at the target that the pointer's bytes in its host memory hold, a table address there.
- * So before a directive that attaches, the target's table address is written in place of the program's. What else
- * reads these bytes finds the program's own: they are written before each copy and each detachment. On the device an
- * attached pointer holds a place, which a kernel or a copy to the program finds as an address of the arena.
+ * So before an item that attaches, the target's table address is written in place of the program's. What else reads
+ * these bytes finds the program's own: they are written before each copy and each detachment. On the device an attached
+ * pointer has a place, for which a kernel finds a device address; any other bytes there stay as they are.
  */
 #include <stdlib.h>
 #include <string.h>
 
 #include "inner.h"
 
-typedef struct attached {
-    uintptr_t at;
-    intptr_t bias; /* how far behind the pointer's value its target begins */
-} attached;
-
-static attached *list;
-static size_t count, room;
-
-/* The place of the first pointer at or behind an address. */
-static size_t first_from(uintptr_t at)
+/* The place of the first pointer of a block that begins at an address or behind it. */
+static size_t first_from(const lwa_block *block, uintptr_t at)
 {
-    size_t low = 0, high = count;
+    size_t low = 0, high = block->pointer_count;
 
     while (low < high) {
-        size_t middle = low + (high - low) / 2;
+        const size_t middle = low + (high - low) / 2;
 
-        if (list[middle].at >= at) {
+        if (block->pointers[middle].at >= at) {
             high = middle;
         } else {
             low = middle + 1;
@@ -36,118 +28,111 @@ static size_t first_from(uintptr_t at)
     return low;
 }
 
-static void note_pointer(uintptr_t at, intptr_t bias)
+static lwa_pointer *kept_pointer(lwa_block *block, uintptr_t at)
 {
-    size_t i = first_from(at);
+    const size_t i = first_from(block, at);
 
-    if (i < count && list[i].at == at) {
-        list[i].bias = bias;
-        return;
+    if (i == block->pointer_count || block->pointers[i].at != at) {
+        block->pointers = lwa_grown(block->pointers, block->pointer_count, &block->pointer_room, sizeof(lwa_pointer));
+        memmove(block->pointers + i + 1, block->pointers + i, (block->pointer_count++ - i) * sizeof(lwa_pointer));
+        block->pointers[i] = (lwa_pointer){.at = at};
     }
-    list = lwa_grown(list, count, &room, sizeof *list);
-    memmove(list + i + 1, list + i, (count - i) * sizeof *list);
-    list[i] = (attached){at, bias};
-    count++;
+    return &block->pointers[i];
 }
 
-void lwa_mirror_pointers(uintptr_t at, size_t len)
+static uintptr_t value_at(uintptr_t at)
 {
-    const uintptr_t from = at >= LWA_POINTER ? at - (LWA_POINTER - 1) : 0;
+    uintptr_t value;
 
-    for (size_t i = first_from(from); i < count && list[i].at < at + len; i++) {
-        uint64_t told = lwa_told(list[i].at);
+    memcpy(&value, (const void *)at, LWA_POINTER);
+    return value;
+}
 
-        if (told != 0 && lwa_told(list[i].at + LWA_POINTER - 1) == told + LWA_POINTER - 1) {
-            lwa_want_memory(list[i].at, LWA_POINTER);
-            lwa_mirror_in(list[i].at, told, LWA_POINTER);
+/* The table address of bytes that are mapped, or are in the section of an item, which may map them; or 0. */
+static uint64_t told_of(const lwa_item *item, uintptr_t at, size_t len)
+{
+    const lwa_block *block = lwa_inside(at, len);
+
+    if (block != NULL) {
+        return block->told + (at - block->at);
+    }
+    return at - item->at < item->told.len && len <= item->told.len - (at - item->at)
+        ? item->told.start + (at - item->at) : 0;
+}
+
+static uintptr_t pointer_of(const lwa_item *item)
+{
+    return lwa_is_pointer(item) ? item->at : item->pointer;
+}
+
+/* One that is mapped nowhere is told as such, and one that is no memory is outside of the table's. */
+uint64_t lwa_told_pointer(const lwa_item *item)
+{
+    const uintptr_t at = pointer_of(item);
+    const uint64_t told = told_of(item, at, LWA_POINTER);
+
+    if (!lwa_is_memory(at, LWA_POINTER)) {
+        return lwa_outside() + at % LWA_POINTER;
+    }
+    return told != 0 ? told : LWA_NOWHERE + at % LWA_POINTER;
+}
+
+void lwa_aim(const lwa_item *item)
+{
+    const uintptr_t at = pointer_of(item);
+    const uint64_t told = at != 0 ? told_of(item, at, LWA_POINTER) : 0;
+
+    if (told != 0 && lwa_is_memory(at, LWA_POINTER)) {
+        const uint64_t target = told_of(item, value_at(at) + item->bias, 1);
+
+        lwa_write(told, &target, LWA_POINTER);
+    }
+}
+
+void lwa_aimed(const lwa_item *item, const lwa_did *did)
+{
+    const uintptr_t at = pointer_of(item);
+    lwa_block *block = did->aim != LWA_NO_AIM ? lwa_inside(at, LWA_POINTER) : NULL, *target;
+    lwa_pointer *p;
+
+    if (block != NULL) {
+        block->current = false;
+    }
+    if (did->aim == LWA_AIMED || did->aim == LWA_ATTACHED) {
+        target = lwa_meets(value_at(at) + item->bias, 1);
+        p = kept_pointer(block, at);
+        p->place = did->target;
+        p->device = lwa_device_of(target, value_at(at));
+        lwa_give(target);
+    }
+}
+
+void lwa_mirror_pointers(lwa_block *block, uintptr_t at, size_t len)
+{
+    for (size_t i = first_from(block, at - LWA_POINTER + 1); i < block->pointer_count; i++) {
+        lwa_pointer *p = &block->pointers[i];
+
+        if (p->at >= at + len) {
+            return;
+        }
+        lwa_mirror_in(p->at, block->told + (p->at - block->at), LWA_POINTER);
+        p->own = value_at(p->at);
+    }
+}
+
+void lwa_translate(const lwa_block *block, uintptr_t at, uint8_t *bytes, size_t len, bool to_device)
+{
+    for (size_t i = first_from(block, at); i < block->pointer_count; i++) {
+        const lwa_pointer *p = &block->pointers[i];
+        uint64_t value;
+
+        if (p->at + LWA_POINTER > at + len) {
+            return;
+        }
+        memcpy(&value, bytes + (p->at - at), LWA_POINTER);
+        if (value == (to_device ? p->place : p->device)) {
+            value = to_device ? p->device : p->place;
+            memcpy(bytes + (p->at - at), &value, LWA_POINTER);
         }
     }
-}
-
-/* Whether an address is mapped, or an item before that of the pointer, or with it, may map it. */
-static bool may_be_mapped(const lwa_items *items, size_t until, uintptr_t at, uint64_t told)
-{
-    uint64_t place;
-
-    if (told == 0) {
-        return false;
-    }
-    if (lw_device_address(&lwa_table, told, &place) == LW_DONE) {
-        return true;
-    }
-    for (size_t i = 0; i <= until; i++) {
-        if (at - items->at[i].at < items->at[i].len) {
-            return true;
-        }
-    }
-    return false;
-}
-
-void lwa_aim_pointers(const lwa_items *items)
-{
-    for (size_t i = 0; i < items->count; i++) {
-        const lwa_item *item = &items->at[i];
-        uintptr_t at = item->clause == LW_ATTACH ? item->at : item->pointer;
-        uint64_t told = at != 0 ? lwa_told(at) : 0;
-        uintptr_t value;
-        uint64_t target;
-
-        if (told == 0 || !lwa_is_memory(at, LWA_POINTER)) {
-            continue;
-        }
-        memcpy(&value, (const void *)at, LWA_POINTER);
-        target = value != 0 ? lwa_told(value + item->bias) : 0;
-        if (may_be_mapped(items, i, value + item->bias, target)) {
-            note_pointer(at, item->bias);
-            lwa_write(told, &target, LWA_POINTER);
-        } else if (value - LW_HOST_BASE < lwa_limits.host) {
-            /* Its number is that of some table address, where it does not point. */
-            lwa_write(told, &(uint64_t){0}, LWA_POINTER);
-        } else {
-            lwa_write(told, &value, LWA_POINTER);
-        }
-    }
-}
-
-static bool is_attached(const attached *p, uint64_t *told)
-{
-    uint64_t times = 0;
-
-    *told = lwa_told(p->at);
-    return *told != 0 && lw_attachment(&lwa_table, *told, &times) == LW_DONE && times != 0;
-}
-
-bool lwa_any_attached(void)
-{
-    uint64_t told;
-
-    for (size_t i = 0; i < count; i++) {
-        if (is_attached(&list[i], &told)) {
-            return true;
-        }
-    }
-    return false;
-}
-
-void lwa_translate(uint64_t start, uint8_t *bytes, size_t len, bool to_arena)
-{
-    uintptr_t at = lwa_untold(start);
-    uint64_t told, value;
-
-    if (count == 0 || at == 0) {
-        return;
-    }
-    for (size_t i = first_from(at); i < count && list[i].at < at + len; i++) {
-        if (!is_attached(&list[i], &told) || told < start || told + LWA_POINTER > start + len) {
-            continue;
-        }
-        memcpy(&value, bytes + (told - start), LWA_POINTER);
-        value = to_arena ? lwa_arena_of(value) - list[i].bias : lwa_place_of(value + list[i].bias);
-        memcpy(bytes + (told - start), &value, LWA_POINTER);
-    }
-}
-
-void lwa_forget_pointers(void)
-{
-    count = 0;
 }

@@ -1,0 +1,23 @@
+/* Section 2.13: declare copyout and create in a function. */
+#include "show.h"
+
+static void use(int n)
+{
+    int a[8], b[4];
+#pragma acc declare copyout(a) create(b)
+
+#pragma acc parallel present(a, b)
+    {
+        b[1] = 10;
+        for (int i = 0; i < 8; i++) {
+            a[i] = n + i + b[1];
+        }
+    }
+    printf("%d %d\n", acc_is_present(a, sizeof a), acc_is_present(b, sizeof b));
+}
+
+int main(void)
+{
+    use(3);
+    return 0;
+}

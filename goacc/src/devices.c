@@ -115,9 +115,10 @@ LWA_EXPORT acc_device_t acc_get_device_type(void)
     return chosen.begins ? acc_device_none : lwa_is_for_table() ? acc_device_not_host : acc_device_host;
 }
 
+/* A type of 0 stands for all. */
 LWA_EXPORT void acc_set_device_num(int number, acc_device_t type)
 {
-    choose("acc_set_device_num", LWA_FROM, acc_ev_none, number, type);
+    choose("acc_set_device_num", LWA_FROM, acc_ev_none, number, type != acc_device_none ? type : acc_device_current);
 }
 
 LWA_EXPORT int acc_get_device_num(acc_device_t type)

@@ -22,6 +22,7 @@ static uint32_t clause_of_data(unsigned kind)
     switch (kind) {
     case KIND_CREATE:
     case KIND_NEW_CREATE:
+    case KIND_RESIDENT:
     case KIND_EMPTY: return LW_CREATE;
     case KIND_COPYIN:
     case KIND_UPDATE_DEVICE: return LW_COPYIN;
@@ -108,7 +109,7 @@ static void add_descriptor(lwa_items *items, const lwa_maps *maps, size_t i, lwa
     const bool told = i + 1 < maps->count && kind_of(maps, i + 1) == KIND_POINTER;
     lwa_item *item;
 
-    if (way != LWA_UPDATE) {
+    if (way != LWA_UPDATE && maps->at[i] != NULL) {
         lwa_add_item(items, way == LWA_EXIT_DATA ? LW_DELETE : LW_COPYIN, (uintptr_t)maps->at[i], maps->sizes[i]);
         item = &items->at[items->count - 1];
         item->pointer = item->at;

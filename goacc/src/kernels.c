@@ -94,23 +94,37 @@ static void *structure_address(const lwa_maps *maps, size_t i)
     return (void *)(found != 0 ? found : at);
 }
 
-/* What the compiled function gets for a map. slot: a pointer of the kernel's own, where the map is of one. */
-static void *device_address(const lwa_maps *maps, size_t i, void **slot)
+/* The value of a kernel's own pointer, which may point to the one before it. */
+static void *own_pointer(const lwa_maps *maps, size_t i, void **slots)
 {
-    const size_t size = maps->sizes[i];
+    char *value;
 
+    memcpy(&value, maps->at[i], sizeof value);
+    if (value != NULL && i != 0 && maps->at[i - 1] == value && (maps->kinds[i - 1] & 0xff) == KIND_POINTER
+        && block_of(value, 1) == NULL) {
+        return &slots[i - 1];
+    }
+    return (char *)found_or_own(value + maps->sizes[i], 1) - maps->sizes[i];
+}
+
+/* What the compiled function gets for a map. slots: pointers of the kernel's own, for the maps that are of one. */
+static void *device_address(const lwa_maps *maps, size_t i, void **slots)
+{
+
+    if (maps->at[i] == NULL) {
+        return NULL;
+    }
     switch (maps->kinds[i] & 0xff) {
     case KIND_DEVICE_POINTER:
-        memcpy(slot, maps->at[i], sizeof *slot);
-        return slot;
+        memcpy(&slots[i], maps->at[i], sizeof slots[i]);
+        return &slots[i];
     case KIND_POINTER:
-        memcpy(slot, maps->at[i], sizeof *slot);
-        *slot = (char *)found_or_own((char *)*slot + size, 1) - size;
-        return slot;
+        slots[i] = own_pointer(maps, i, slots);
+        return &slots[i];
     case KIND_MEMBERS:
         return structure_address(maps, i);
     default:
-        return found_or_own(maps->at[i], size);
+        return found_or_own(maps->at[i], maps->sizes[i]);
     }
 }
 
@@ -150,7 +164,7 @@ void lwa_kernel(void (*run)(void *), const lwa_maps *maps, const lwa_region *reg
     lent list = {NULL, 0, 0};
 
     for (size_t i = 0; i < maps->count; i++) {
-        device[i] = device_address(maps, i, &slots[i]);
+        device[i] = device_address(maps, i, slots);
     }
     lend_blocks(&list, maps, region->directive.items.at[0].region);
     lwa_run_free(run, device, true);

@@ -21,12 +21,23 @@ contains
         !$acc update self(b) if_present
         !$acc exit data delete(b)
     end subroutine
+    subroutine may_be_allocated(a, b, c)
+        integer, allocatable :: a, b(:)
+        integer, allocatable, optional :: c(:)
+        !$acc data copy(a) copyin(b, c)
+        !$acc parallel present(a)
+        a = a + 1
+        if (allocated(b)) a = a + 10
+        if (present(c)) a = a + c(3)
+        !$acc end parallel
+        !$acc end data
+    end subroutine
 end module
 program arrays
     use m
     use openacc
     integer :: a(4) = [1, 2, 3, 4], b(4) = [5, 6, 7, 8]
-    integer, allocatable :: l(:)
+    integer, allocatable :: l(:), n(:), z
     integer, pointer :: p(:)
     integer, target :: k(6)
     allocate (l(3:6))
@@ -50,6 +61,12 @@ program arrays
     call may_be_absent(a)
     call may_be_absent(a, b)
     print '(a,2i3)', 'optional', a(1), b(1)
+    z = 1
+    call may_be_allocated(z, n)
+    print '(a,2i3)', 'allocatable', z
+    allocate (n(2))
+    call may_be_allocated(z, n, l)
+    print '(a,2i3)', 'allocatable', z
     !$acc parallel copy(g)
     g(2) = 7
     !$acc end parallel

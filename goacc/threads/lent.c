@@ -29,7 +29,7 @@ static void *run(void *unused)
 
 static void *update(void *unused)
 {
-#pragma acc update self(a)
+#pragma acc update self(a[0:1])
     seen[0] = a[0];
     return unused;
 }

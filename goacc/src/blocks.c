@@ -39,12 +39,9 @@ typedef struct range {
 static struct {
     /* The blocks by the program's addresses, and by those of the device. */
     void *tree, *device_tree;
-    lwa_block *given;
 
-    /* All windows lie between the two device addresses. */
     window *windows;
     size_t window_count, window_room;
-    uintptr_t lowest, highest;
 
     range *free_ranges;
     size_t free_count, free_room, next_free;
@@ -176,8 +173,6 @@ static uintptr_t device_for(uintptr_t at, size_t len)
         lwa_unserved("no memory for the device's addresses");
     }
     made.device = (uintptr_t)memory;
-    OWN.lowest = OWN.window_count == 0 || made.device < OWN.lowest ? made.device : OWN.lowest;
-    OWN.highest = made.device + made.len > OWN.highest ? made.device + made.len : OWN.highest;
     OWN.windows = lwa_grown(OWN.windows, OWN.window_count, &OWN.window_room, sizeof *OWN.windows);
     OWN.windows[OWN.window_count++] = made;
     return made.device + (at - made.at);
@@ -200,39 +195,6 @@ lwa_block *lwa_on_device(uintptr_t device, uintptr_t *at)
     return *found;
 }
 
-void lwa_give(lwa_block *block)
-{
-    if (!block->given) {
-        block->given = true;
-        block->next_given = OWN.given;
-        OWN.given = block;
-    }
-}
-
-void lwa_give_found(const lwa_block *block)
-{
-    const uintptr_t first = (block->device + LWA_POINTER - 1) / LWA_POINTER * LWA_POINTER;
-    const uintptr_t end = block->device + block->len;
-
-    for (uintptr_t at = first; at + LWA_POINTER <= end; at += LWA_POINTER) {
-        uintptr_t value, of_program;
-        lwa_block *found;
-
-        memcpy(&value, (const void *)at, LWA_POINTER);
-        if (value - OWN.lowest < OWN.highest - OWN.lowest) {
-            found = lwa_on_device(value, &of_program);
-            if (found != NULL) {
-                lwa_give(found);
-            }
-        }
-    }
-}
-
-lwa_block *lwa_first_given(void)
-{
-    return OWN.given;
-}
-
 /* ---- Births and ends ---- */
 
 static void insert(lwa_block *block, void **tree, int (*by)(const void *, const void *))
@@ -248,6 +210,7 @@ lwa_block *lwa_born(uintptr_t at, size_t len, uint64_t told, uintptr_t device)
 
     *block = (lwa_block){.at = at, .len = len, .told = told, .mapped = true};
     block->device = device != 0 ? device : device_for(at, len);
+    block->bytes = (uint8_t *)block->device;
     insert(block, &OWN.tree, compare);
     insert(block, &OWN.device_tree, compare_on_device);
     return block;
@@ -263,6 +226,9 @@ void lwa_move(lwa_block *block, uintptr_t at)
 
 static void drop(lwa_block *block)
 {
+    if (block->bytes != (uint8_t *)block->device) {
+        free(block->bytes);
+    }
     free(block->pointers);
     free(block);
 }
@@ -276,17 +242,14 @@ static void drop_unused(lwa_block *block)
     }
 }
 
+/* Another may be mapped at its device address, while its copies wait. */
 void lwa_ended(lwa_block *block)
 {
     tdelete(block, &OWN.tree, compare);
     tdelete(block, &OWN.device_tree, compare_on_device);
     block->mapped = false;
-    for (lwa_block **next = &OWN.given; block->given; next = &(*next)->next_given) {
-        if (*next == block) {
-            *next = block->next_given;
-            block->given = false;
-            break;
-        }
+    if (block->waiting != 0) {
+        block->bytes = memcpy(lwa_memory(NULL, block->len), block->bytes, block->len);
     }
     drop_unused(block);
 }
@@ -319,6 +282,5 @@ void lwa_forget_blocks(void)
         tdelete(block, &OWN.device_tree, compare_on_device);
         drop(block);
     }
-    OWN.given = NULL;
     OWN.started = false;
 }

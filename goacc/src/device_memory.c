@@ -21,7 +21,6 @@ LWA_EXPORT void *acc_deviceptr(void *at)
         block = lwa_meets((uintptr_t)at, 1);
         found = NULL;
         if (is_of_program(block)) {
-            lwa_give(block);
             found = (void *)lwa_device_of(block, (uintptr_t)at);
         }
     }
@@ -62,9 +61,7 @@ LWA_EXPORT void *acc_malloc(size_t len)
     }
     lwa_take("acc_malloc", LWA_FROM);
     memory = len != 0 && len <= lwa_limits.device ? aligned_alloc(64, (len + 63) / 64 * 64) : NULL;
-    if (memory != NULL && direct(LWA_ENTER_DATA, LW_CREATE, memory, len)) {
-        lwa_give(lwa_meets((uintptr_t)memory, len));
-    } else {
+    if (memory != NULL && !direct(LWA_ENTER_DATA, LW_CREATE, memory, len)) {
         free(memory);
         memory = NULL;
     }
@@ -97,21 +94,34 @@ LWA_EXPORT void acc_free(void *address)
     lwa_leave();
 }
 
+/* The bytes that a block of the device has, and no kernel. */
+static void *bytes_at(uintptr_t address, size_t len)
+{
+    lwa_block *block;
+    uintptr_t at;
+
+    do {
+        block = lwa_on_device(address, &at);
+        if (block == NULL || !lwa_has(block, at, len)) {
+            lwa_unserved("the %zu bytes at %#zx are in no one block of the device", len, (size_t)address);
+        }
+    } while (lwa_is_lent(block->kernels != 0 ? LW_LENT : LW_DONE));
+    return block->bytes + (at - block->at);
+}
+
 /* Copies bytes to the device, or from it. What waits in the queue is made before. */
 static void copy(const char *name, void *from, void *to, void *at, size_t len, int async, bool out)
 {
     lwa_take(name, from);
-    if (!lwa_is_for_table()) {
+    if (lwa_is_for_table() && lwa_queue(async) != LW_NO_QUEUE_GIVEN) {
+        lwa_wait(lwa_queue(async));
+    }
+    if (len != 0) {
+        if (lwa_is_for_table()) {
+            *(out ? &at : &to) = bytes_at((uintptr_t)(out ? at : to), len);
+            lwa_want_memory((uintptr_t)(out ? to : at), len);
+        }
         memmove(to, at, len);
-    } else {
-        if (lwa_queue(async) != LW_NO_QUEUE_GIVEN) {
-            lwa_wait(lwa_queue(async));
-        }
-        if (out) {
-            lwa_device_read((uintptr_t)at, to, len);
-        } else {
-            lwa_device_write((uintptr_t)to, at, len);
-        }
     }
     lwa_leave();
 }

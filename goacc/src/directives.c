@@ -1,7 +1,5 @@
 /*
- * Directives: for each item the bytes before and after, and the call of the table that decides.
- *
- * What an item did is told by did.c. So no byte is read that the table has not copied out.
+ * Directives: for each item the call of the table that decides, and what follows from what did.c tells of it.
  */
 #include <stdlib.h>
 #include <string.h>
@@ -79,39 +77,10 @@ static void tell(const lwa_directive *d, lwa_item *item)
     }
 }
 
-/* ---- Before and after ---- */
+/* ---- After the call ---- */
 
-/* Writes the program's bytes of a pointer, which its detachment reads. */
-static void mirror_pointer(uintptr_t at)
-{
-    lwa_block *block = at != 0 ? lwa_inside(at, LWA_POINTER) : NULL;
-
-    if (block != NULL) {
-        lwa_mirror_pointers(block, at, LWA_POINTER);
-    }
-}
-
-/* Writes what the table may read of the program's bytes. A copy that waits reads them when it is made. */
-static void before(const lwa_directive *d, const lwa_item *item)
-{
-    const bool now = d->queue == LW_NO_QUEUE_GIVEN, told = item->told.start != lwa_outside();
-
-    if (lwa_enters(d)) {
-        if (now && told && item->block == NULL && lwa_copies_in(item->clause) && item->len != 0 && may_map(d, item)) {
-            lwa_write(item->told.start, (const void *)item->at, item->len);
-        }
-        lwa_aim(item);
-    } else if (item->clause == LW_DEVICE) {
-        if (now && item->block != NULL) {
-            lwa_mirror_in(item->at, item->told.start, item->len);
-        }
-    } else {
-        mirror_pointer(lwa_is_pointer(item) ? item->at : item->pointer);
-        if (now && item->block != NULL) {
-            lwa_mirror_pointers(item->block, item->at, item->len);
-        }
-    }
-}
+/* The bytes of a block to which nothing was copied. */
+#define NEW_BYTE 0xa5
 
 static void note(const lwa_item *item, int first, int second)
 {
@@ -119,24 +88,26 @@ static void note(const lwa_item *item, int first, int second)
     lwa_note(second, item->block, item->at, item->len);
 }
 
-/* Takes what the item did from the table. */
+/* Does what the table has told. */
 static void after(const lwa_directive *d, lwa_item *item, const lwa_did *did)
 {
     if (did->step == LWA_BORN) {
         item->block = lwa_born(item->at, item->len, item->told.start, d->device);
+        if (!did->copied || d->queue != LW_NO_QUEUE_GIVEN) {
+            memset(item->block->bytes, NEW_BYTE, item->len);
+        }
         note(item, acc_ev_alloc, acc_ev_create);
     }
-    lwa_aimed(item, did);
     if (did->copied) {
-        item->block->current &= did->out;
         note(item, did->out ? acc_ev_enqueue_download_start : acc_ev_enqueue_upload_start,
              did->out ? acc_ev_enqueue_download_end : acc_ev_enqueue_upload_end);
         if (d->queue != LW_NO_QUEUE_GIVEN) {
             lwa_put_waiting(d->queue, item->block, item->at, item->len, did->out);
-        } else if (did->out) {
-            lwa_mirror_out(item->block, item->at, item->len);
+        } else {
+            lwa_copy(item->block, item->at, item->len, did->out);
         }
     }
+    lwa_aimed(item, did);
 }
 
 /* ---- The call ---- */
@@ -179,7 +150,9 @@ static bool act(lwa_directive *d, size_t i)
         if (d->way != LWA_END_DATA) {
             tell(d, item);
         }
-        before(d, item);
+        if (lwa_enters(d)) {
+            lwa_aim(item);
+        }
         lwa_look(d, item);
         status = ask(d, item, &fault);
         again = is_to_wait(d, status);

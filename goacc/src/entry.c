@@ -66,7 +66,6 @@ static bool use_device(const lwa_maps *maps)
             lwa_refuse(&absent);
         }
         if (block != NULL) {
-            lwa_give(block);
             maps->at[i] = (void *)lwa_device_of(block, (uintptr_t)maps->at[i]);
         }
     }

@@ -37,12 +37,12 @@ typedef struct lwa_maps {
     unsigned short *kinds;
 } lwa_maps;
 
-/* A pointer that was attached. On the device the table has a place in it, where a kernel finds a device address. */
+/* A pointer that is attached. On the device the table has a place in it, and a kernel finds a device address. */
 typedef struct lwa_pointer {
     uintptr_t at;
     uint64_t place;
     uintptr_t device;
-    uintptr_t own; /* the program's bytes, as they were written to the table last */
+    bool other; /* the table was told that a kernel has left another value */
 } lwa_pointer;
 
 /* A mapped range; or one that has ended, while copies of it wait. */
@@ -51,14 +51,12 @@ typedef struct lwa_block {
     size_t len;
     uint64_t told;    /* the table's address */
     uintptr_t device; /* the device address */
+    uint8_t *bytes;   /* that the device has; at the device address while it is mapped */
     bool mapped;
-    bool moved;       /* by acc_map_data */
+    bool moved;     /* by acc_map_data */
     size_t waiting; /* the copies that wait */
     size_t kernels; /* the kernels that have it; while there are some it is lent */
-    bool current;   /* its device addresses have the bytes that the table's device has */
     uint64_t lease;
-    bool given; /* the program or a pointer on the device has its device address */
-    struct lwa_block *next_given;
     lwa_pointer *pointers; /* by rising address */
     size_t pointer_count, pointer_room;
 } lwa_block;
@@ -212,13 +210,6 @@ void lwa_move(lwa_block *block, uintptr_t at);
 void lwa_ended(lwa_block *block);
 void lwa_made(lwa_block *block);
 
-/* The program has a block's device address from now on, or a pointer on the device has: so each kernel is lent it. */
-void lwa_give(lwa_block *block);
-lwa_block *lwa_first_given(void);
-
-/* The same of the blocks whose device addresses a kernel has left in one, where pointers stand. */
-void lwa_give_found(const lwa_block *block);
-
 /* The device address of a byte of a block. */
 uintptr_t lwa_device_of(const lwa_block *block, uintptr_t at);
 
@@ -228,18 +219,14 @@ lwa_block *lwa_on_device(uintptr_t device, uintptr_t *at);
 void lwa_each_block(void (*act)(lwa_block *));
 void lwa_forget_blocks(void);
 
-/* ---- mirror.c: bytes between the program and the table's host memory ---- */
+/* ---- mirror.c: bytes between the program and the device ---- */
 
 /* Whether all addresses of a section can be read; and that they have to. */
 bool lwa_is_memory(uintptr_t at, size_t len);
 void lwa_want_memory(uintptr_t at, size_t len);
 
-/* Writes bytes to table addresses. */
-void lwa_write(uint64_t told, const void *bytes, size_t len);
-
-/* Copies a section to the table, or what the table copied out of a block to the program. */
-void lwa_mirror_in(uintptr_t at, uint64_t told, size_t len);
-void lwa_mirror_out(const lwa_block *block, uintptr_t at, size_t len);
+/* Makes a copy of a section of a block, in or out, which leaves attached pointers as they are. */
+void lwa_copy(const lwa_block *block, uintptr_t at, size_t len, bool out);
 
 /* One more copy that waits in a queue. */
 void lwa_put_waiting(uint64_t queue, lwa_block *block, uintptr_t at, size_t len, bool out);
@@ -259,15 +246,13 @@ void lwa_forget_waiting(void);
 /* What the table is told of the pointer of an item. */
 uint64_t lwa_told_pointer(const lwa_item *item);
 
-/* Before an item may attach its pointer: writes the target as a table address. After it: keeps what both are. */
+/* Before an item may attach its pointer: tells the table its target, and what a kernel has left there. After it: gives
+   the device what it has then. */
 void lwa_aim(const lwa_item *item);
 void lwa_aimed(const lwa_item *item, const lwa_did *did);
 
-/* Writes the program's own bytes of the pointers in a section of a block, which the table's copies leave out. */
-void lwa_mirror_pointers(lwa_block *block, uintptr_t at, size_t len);
-
-/* Changes pointers in the bytes that the device has of a section: places to device addresses, or back. */
-void lwa_translate(const lwa_block *block, uintptr_t at, uint8_t *bytes, size_t len, bool to_device);
+/* The place of the first pointer of a block that ends behind an address. */
+size_t lwa_first_pointer(const lwa_block *block, uintptr_t at);
 
 /* ---- did.c: what the table did ---- */
 
@@ -304,17 +289,14 @@ bool lwa_is_entry(const lwa_maps *maps);
 /* Runs the compiled function in a region. */
 void lwa_kernel(void (*run)(void *), const lwa_maps *maps, const lwa_region *region);
 
-/* Copies bytes to a device address, or from one, out of a kernel. */
-void lwa_device_write(uintptr_t to, const void *bytes, size_t len);
-void lwa_device_read(uintptr_t from, void *bytes, size_t len);
+/* Writes to the table what its device has of a pointer. */
+void lwa_write_on_device(const lwa_block *block, uintptr_t at, uint64_t value);
 
 /* In a child of the program no kernel runs: what was lent is brought back. */
 void lwa_gather_all(void);
 
 /* ---- script.c: what the program did as a script, and the report ---- */
 
-/* Whether a script is written: then one write brings at most 64 bytes. */
-bool lwa_is_scripted(void);
 void lwa_start_script(void);
 
 /* A child of the program writes neither. */
@@ -322,7 +304,7 @@ void lwa_forget_script(void);
 
 /* The lines of a script: an item that is done, or is the program's last; and the other statements. */
 void lwa_script_item(const lwa_directive *directive, const lwa_item *item, bool done);
-void lwa_script_write(uint64_t told, const uint8_t *bytes, size_t len);
+void lwa_script_write(uint64_t told, const uint8_t bytes[LWA_POINTER]);
 void lwa_script_kernel(const lwa_block *block);
 void lwa_script_copies(const char *statement, uint64_t queue);
 

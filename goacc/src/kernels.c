@@ -1,10 +1,9 @@
 /*
  * Kernels run on the host, one gang of one worker, with the lock free.
  *
- * The blocks that a kernel may use are lent before it: those of its own maps, and those whose device addresses the
- * program or a pointer on the device has. Their bytes are laid at their device addresses, where the compiled function
- * finds them; behind it they are written to the leases, which are brought back. Kernels that run at a time share what is
- * lent, and the last one brings it back. What else needs a block that is lent waits until then.
+ * The blocks of a kernel's maps are lent before it, and brought back behind it: so what else needs one waits until then.
+ * Kernels that run at a time share what is lent, and the last one brings it back. The compiled function finds the bytes
+ * at their device addresses, which stay as they are between kernels.
  */
 #include <stdlib.h>
 #include <string.h>
@@ -16,38 +15,25 @@
 
 static void lend(lwa_block *block, uint64_t region)
 {
-    uint8_t *bytes = (uint8_t *)block->device;
     lw_fault fault;
 
-    if (block->kernels++ != 0) {
-        return;
+    if (block->kernels++ == 0) {
+        lwa_script_kernel(block);
+        lwa_room();
+        lwa_must(lw_lend(lwa_table(), region, block->told, block->len, &block->lease, &fault), &fault);
+        lwa_log_loan("lent", block);
     }
-    lwa_script_kernel(block);
-    lwa_room();
-    lwa_must(lw_lend(lwa_table(), region, block->told, block->len, &block->lease, &fault), &fault);
-    if (!block->current) {
-        lwa_must(lw_lease_read(lwa_table(), block->lease, bytes, block->len, &fault), &fault);
-        lwa_translate(block, block->at, bytes, block->len, true);
-    }
-    lwa_log_loan("lent", block);
 }
 
 static void bring_back(lwa_block *block)
 {
-    uint8_t *bytes = (uint8_t *)block->device;
     lw_fault fault;
 
-    if (block->kernels == 0 || --block->kernels != 0) {
-        return;
+    if (block->kernels != 0 && --block->kernels == 0) {
+        lwa_room();
+        lwa_must(lw_gather(lwa_table(), block->lease, &fault), &fault);
+        lwa_log_loan("gathered", block);
     }
-    lwa_give_found(block);
-    lwa_translate(block, block->at, bytes, block->len, false);
-    lwa_must(lw_lease_write(lwa_table(), block->lease, bytes, block->len, &fault), &fault);
-    lwa_translate(block, block->at, bytes, block->len, true);
-    block->current = true;
-    lwa_room();
-    lwa_must(lw_gather(lwa_table(), block->lease, &fault), &fault);
-    lwa_log_loan("gathered", block);
 }
 
 static void gather(lwa_block *block)
@@ -136,24 +122,16 @@ typedef struct lent {
     size_t count, room;
 } lent;
 
-static void lend_for(lent *list, lwa_block *block, uint64_t region)
-{
-    list->at = lwa_grown(list->at, list->count, &list->room, sizeof *list->at);
-    list->at[list->count++] = block;
-    lend(block, region);
-}
-
 static void lend_blocks(lent *list, const lwa_maps *maps, uint64_t region)
 {
     for (size_t i = 0; i < maps->count; i++) {
         lwa_block *block = block_of(maps->at[i], 1);
 
         if (block != NULL) {
-            lend_for(list, block, region);
+            list->at = lwa_grown(list->at, list->count, &list->room, sizeof *list->at);
+            list->at[list->count++] = block;
+            lend(block, region);
         }
-    }
-    for (lwa_block *block = lwa_first_given(); block != NULL; block = block->next_given) {
-        lend_for(list, block, region);
     }
 }
 
@@ -176,50 +154,19 @@ void lwa_kernel(void (*run)(void *), const lwa_maps *maps, const lwa_region *reg
     free(slots);
 }
 
-/* ---- Bytes of the device out of a kernel ---- */
-
-static lwa_block *want_block(uintptr_t address, size_t len, uintptr_t *at)
-{
-    lwa_block *block = lwa_on_device(address, at);
-
-    if (block == NULL || !lwa_has(block, *at, len)) {
-        lwa_unserved("the %zu bytes at %#zx are in no one block of the device", len, (size_t)address);
-    }
-    return block;
-}
-
 /* In a region of no item, since a loan is made in one. */
-void lwa_device_write(uintptr_t to, const void *bytes, size_t len)
+void lwa_write_on_device(const lwa_block *block, uintptr_t at, uint64_t value)
 {
     lwa_directive none = {.way = LWA_DATA};
-    lwa_region *region;
-    lwa_block *block;
-    uintptr_t at;
-
-    if (len != 0) {
-        region = lwa_enter(&none);
-        block = want_block(to, len, &at);
-        lwa_want_memory((uintptr_t)bytes, len);
-        lend(block, region->directive.items.at[0].region);
-        memcpy((void *)to, bytes, len);
-        bring_back(block);
-        lwa_exit(region);
-    }
-}
-
-void lwa_device_read(uintptr_t from, void *bytes, size_t len)
-{
-    lwa_block *block;
-    uintptr_t at;
+    lwa_region *region = lwa_enter(&none);
+    lwa_block pointer = *block;
     lw_fault fault;
 
-    if (len == 0) {
-        return;
-    }
-    do {
-        block = want_block(from, len, &at);
-    } while (lwa_is_lent(block->kernels != 0 ? LW_LENT : LW_DONE));
-    lwa_want_memory((uintptr_t)bytes, len);
-    lwa_must(lw_device_read(lwa_table(), block->told + (at - block->at), bytes, len, &fault), &fault);
-    lwa_translate(block, at, bytes, len, true);
+    pointer.told += at - block->at;
+    pointer.at = at;
+    pointer.len = LWA_POINTER;
+    lend(&pointer, region->directive.items.at[0].region);
+    lwa_must(lw_lease_write(lwa_table(), pointer.lease, (const uint8_t *)&value, LWA_POINTER, &fault), &fault);
+    bring_back(&pointer);
+    lwa_exit(region);
 }

@@ -1,8 +1,5 @@
 /*
- * Bytes between the program and the table's host memory, and the copies that wait.
- *
- * The bytes of a copy to the device are written to the table before it, and those of a copy from it are read behind it.
- * A copy that waits takes its bytes when it is made: so copies are made one by one, each with its bytes.
+ * Bytes between the program and the device, and the copies that wait. The table decides each copy; here it is made.
  */
 #define _GNU_SOURCE
 #include <stdlib.h>
@@ -11,9 +8,6 @@
 #include <unistd.h>
 
 #include "inner.h"
-
-/* The most bytes of one write of a script. */
-#define SCRIPT_WRITE 64
 
 typedef struct waiting {
     lwa_block *block;
@@ -58,22 +52,6 @@ bool lwa_is_memory(uintptr_t at, size_t len)
     return true;
 }
 
-/* A script has at most 64 bytes in one write, and as many events as the table. */
-void lwa_write(uint64_t told, const void *bytes, size_t len)
-{
-    const size_t most = lwa_is_scripted() ? SCRIPT_WRITE : len;
-    lw_fault fault;
-
-    for (size_t done = 0; done < len; done += most) {
-        size_t part = len - done < most ? len - done : most;
-        const uint8_t *from = (const uint8_t *)bytes + done;
-
-        lwa_script_write(told + done, from, part);
-        lwa_room();
-        lwa_must(lw_host_write(lwa_table(), told + done, from, part, &fault), &fault);
-    }
-}
-
 void lwa_want_memory(uintptr_t at, size_t len)
 {
     if (len != 0 && !lwa_is_memory(at, len)) {
@@ -81,39 +59,30 @@ void lwa_want_memory(uintptr_t at, size_t len)
     }
 }
 
-void lwa_mirror_in(uintptr_t at, uint64_t told, size_t len)
+static void move(const lwa_block *block, uintptr_t at, size_t len, bool out)
 {
-    lwa_want_memory(at, len);
-    lwa_write(told, (const void *)at, len);
+    uint8_t *there = block->bytes + (at - block->at);
+
+    memcpy(out ? (void *)at : there, out ? there : (void *)at, len);
 }
 
-static void read_out(const lwa_block *block, uintptr_t at, void *to, size_t len)
-{
-    lw_fault fault;
-
-    lwa_must(lw_host_read(lwa_table(), block->told + (at - block->at), to, len, &fault), &fault);
-}
-
-/* A pointer that the table left out has the bytes that were written there before, and so stays as it is. */
-void lwa_mirror_out(const lwa_block *block, uintptr_t at, size_t len)
+void lwa_copy(const lwa_block *block, uintptr_t at, size_t len, bool out)
 {
     const uintptr_t end = at + len;
+    size_t i = lwa_first_pointer(block, at);
 
     lwa_want_memory(at, len);
-    for (size_t i = 0; i < block->pointer_count && at < end; i++) {
-        const lwa_pointer *p = &block->pointers[i];
-        uintptr_t bytes;
+    for (; i < block->pointer_count && block->pointers[i].at < end; i++) {
+        const uintptr_t pointer = block->pointers[i].at;
 
-        if (p->at + LWA_POINTER <= at || p->at >= end) {
-            continue;
+        if (pointer > at) {
+            move(block, at, pointer - at, out);
         }
-        read_out(block, p->at, &bytes, LWA_POINTER);
-        if (bytes == p->own) {
-            read_out(block, at, (void *)at, p->at > at ? p->at - at : 0);
-            at = p->at + LWA_POINTER;
-        }
+        at = pointer + LWA_POINTER;
     }
-    read_out(block, at, (void *)at, at < end ? end - at : 0);
+    if (at < end) {
+        move(block, at, end - at, out);
+    }
 }
 
 /* ---- Queues ---- */
@@ -144,16 +113,6 @@ uint64_t lwa_queue_len(uint64_t queue)
     return len;
 }
 
-/* The bytes of a copy that goes out are those that the device has then, but for attached pointers. */
-static void before_copy(const waiting *w)
-{
-    if (w->out) {
-        lwa_mirror_pointers(w->block, w->at, w->len);
-    } else {
-        lwa_mirror_in(w->at, w->block->told + (w->at - w->block->at), w->len);
-    }
-}
-
 bool lwa_step(uint64_t queue)
 {
     uint64_t made = 0;
@@ -165,18 +124,13 @@ bool lwa_step(uint64_t queue)
         if (lwa_queue_len(queue) == 0) {
             return false;
         }
-        before_copy(&OWN[queue].list[OWN[queue].first]);
         lwa_room();
         status = lw_step(lwa_table(), queue, &made, &fault);
     } while (lwa_is_lent(status));
     lwa_must(status, &fault);
     lwa_script_copies("step", queue);
     w = take_first(queue);
-    if (w.out) {
-        lwa_mirror_out(w.block, w.at, w.len);
-    } else {
-        w.block->current = false;
-    }
+    lwa_copy(w.block, w.at, w.len, w.out);
     lwa_log_made(queue);
     lwa_made(w.block);
     return true;

@@ -1,25 +1,23 @@
 /*
- * Pointers that were attached (OpenACC 3.3, section 2.6.8), which each block keeps by rising address.
+ * Pointers that are attached (OpenACC 3.3, section 2.6.8), which each block keeps by rising address.
  *
  * The table attaches a pointer at the target that the pointer's bytes in its host memory hold, a table address there.
- * So before an item that attaches, the target's table address is written in place of the program's. What else reads
- * these bytes finds the program's own: they are written before each copy and each detachment. On the device an attached
- * pointer has a place, for which a kernel finds a device address; any other bytes there stay as they are.
+ * So before an item that attaches, the target's table address is written. What a kernel has left in the pointer is told
+ * before, since the table compares it.
  */
 #include <stdlib.h>
 #include <string.h>
 
 #include "inner.h"
 
-/* The place of the first pointer of a block that begins at an address or behind it. */
-static size_t first_from(const lwa_block *block, uintptr_t at)
+size_t lwa_first_pointer(const lwa_block *block, uintptr_t at)
 {
     size_t low = 0, high = block->pointer_count;
 
     while (low < high) {
         const size_t middle = low + (high - low) / 2;
 
-        if (block->pointers[middle].at >= at) {
+        if (block->pointers[middle].at + LWA_POINTER > at) {
             high = middle;
         } else {
             low = middle + 1;
@@ -28,16 +26,32 @@ static size_t first_from(const lwa_block *block, uintptr_t at)
     return low;
 }
 
-static lwa_pointer *kept_pointer(lwa_block *block, uintptr_t at)
+static lwa_pointer *find_pointer(const lwa_block *block, uintptr_t at)
 {
-    const size_t i = first_from(block, at);
+    const size_t i = lwa_first_pointer(block, at);
 
-    if (i == block->pointer_count || block->pointers[i].at != at) {
+    return i < block->pointer_count && block->pointers[i].at == at ? &block->pointers[i] : NULL;
+}
+
+static lwa_pointer *keep_pointer(lwa_block *block, uintptr_t at)
+{
+    const size_t i = lwa_first_pointer(block, at);
+
+    if (find_pointer(block, at) == NULL) {
         block->pointers = lwa_grown(block->pointers, block->pointer_count, &block->pointer_room, sizeof(lwa_pointer));
         memmove(block->pointers + i + 1, block->pointers + i, (block->pointer_count++ - i) * sizeof(lwa_pointer));
-        block->pointers[i] = (lwa_pointer){.at = at};
     }
+    block->pointers[i] = (lwa_pointer){.at = at};
     return &block->pointers[i];
+}
+
+static void drop_pointer(lwa_block *block, uintptr_t at)
+{
+    lwa_pointer *p = find_pointer(block, at);
+
+    if (p != NULL) {
+        memmove(p, p + 1, (size_t)(block->pointers + --block->pointer_count - p) * sizeof *p);
+    }
 }
 
 static uintptr_t value_at(uintptr_t at)
@@ -77,15 +91,40 @@ uint64_t lwa_told_pointer(const lwa_item *item)
     return told != 0 ? told : LWA_NOWHERE + at % LWA_POINTER;
 }
 
+static void write_target(uint64_t told, uint64_t target)
+{
+    uint8_t bytes[LWA_POINTER];
+    lw_fault fault;
+
+    memcpy(bytes, &target, LWA_POINTER);
+    lwa_script_write(told, bytes);
+    lwa_room();
+    lwa_must(lw_host_write(lwa_table(), told, bytes, LWA_POINTER, &fault), &fault);
+}
+
+/* Tells the table whether a kernel has left another value in an attached pointer. */
+static void tell_left(const lwa_block *block, lwa_pointer *p)
+{
+    const bool other = value_at((uintptr_t)block->bytes + (p->at - block->at)) != p->device;
+
+    if (other != p->other && block->kernels == 0) {
+        lwa_write_on_device(block, p->at, other ? 0 : p->place);
+        p->other = other;
+    }
+}
+
 void lwa_aim(const lwa_item *item)
 {
     const uintptr_t at = pointer_of(item);
     const uint64_t told = at != 0 ? told_of(item, at, LWA_POINTER) : 0;
+    lwa_block *block = told != 0 ? lwa_inside(at, LWA_POINTER) : NULL;
+    lwa_pointer *p = block != NULL ? find_pointer(block, at) : NULL;
 
+    if (p != NULL) {
+        tell_left(block, p);
+    }
     if (told != 0 && lwa_is_memory(at, LWA_POINTER)) {
-        const uint64_t target = told_of(item, value_at(at) + item->bias, 1);
-
-        lwa_write(told, &target, LWA_POINTER);
+        write_target(told, told_of(item, value_at(at) + item->bias, 1));
     }
 }
 
@@ -95,44 +134,17 @@ void lwa_aimed(const lwa_item *item, const lwa_did *did)
     lwa_block *block = did->aim != LWA_NO_AIM ? lwa_inside(at, LWA_POINTER) : NULL, *target;
     lwa_pointer *p;
 
-    if (block != NULL) {
-        block->current = false;
+    if (block == NULL) {
+        return;
     }
-    if (did->aim == LWA_AIMED || did->aim == LWA_ATTACHED) {
+    if (did->aim != LWA_DETACHED) {
         target = lwa_meets(value_at(at) + item->bias, 1);
-        p = kept_pointer(block, at);
+        p = keep_pointer(block, at);
         p->place = did->target;
         p->device = lwa_device_of(target, value_at(at));
-        lwa_give(target);
-    }
-}
-
-void lwa_mirror_pointers(lwa_block *block, uintptr_t at, size_t len)
-{
-    for (size_t i = first_from(block, at - LWA_POINTER + 1); i < block->pointer_count; i++) {
-        lwa_pointer *p = &block->pointers[i];
-
-        if (p->at >= at + len) {
-            return;
-        }
-        lwa_mirror_in(p->at, block->told + (p->at - block->at), LWA_POINTER);
-        p->own = value_at(p->at);
-    }
-}
-
-void lwa_translate(const lwa_block *block, uintptr_t at, uint8_t *bytes, size_t len, bool to_device)
-{
-    for (size_t i = first_from(block, at); i < block->pointer_count; i++) {
-        const lwa_pointer *p = &block->pointers[i];
-        uint64_t value;
-
-        if (p->at + LWA_POINTER > at + len) {
-            return;
-        }
-        memcpy(&value, bytes + (p->at - at), LWA_POINTER);
-        if (value == (to_device ? p->place : p->device)) {
-            value = to_device ? p->device : p->place;
-            memcpy(bytes + (p->at - at), &value, LWA_POINTER);
-        }
+        memcpy(block->bytes + (at - block->at), &p->device, LWA_POINTER);
+    } else if (did->attached == 0) {
+        drop_pointer(block, at);
+        lwa_copy(block, at, LWA_POINTER, false);
     }
 }

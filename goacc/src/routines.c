@@ -20,7 +20,6 @@ static void *one_item(const char *name, void *from, lwa_way way, bool finalize, 
         block = len != 0 && way == LWA_ENTER_DATA ? lwa_meets((uintptr_t)at, 1) : NULL;
         found = NULL;
         if (block != NULL) {
-            lwa_give(block);
             found = (void *)lwa_device_of(block, (uintptr_t)at);
         }
     }

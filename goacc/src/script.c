@@ -49,11 +49,6 @@ const char *lwa_clause_name(uint32_t clause)
     return names[clause];
 }
 
-bool lwa_is_scripted(void)
-{
-    return OWN.script != NULL;
-}
-
 /* The file that a variable of the environment names for the table, open, or NULL. */
 static FILE *open_file(const char *word)
 {
@@ -160,13 +155,13 @@ void lwa_script_item(const lwa_directive *d, const lwa_item *item, bool done)
     }
 }
 
-void lwa_script_write(uint64_t told, const uint8_t *bytes, size_t len)
+void lwa_script_write(uint64_t told, const uint8_t bytes[LWA_POINTER])
 {
     if (OWN.script == NULL) {
         return;
     }
     fprintf(OWN.script, "write m[%" PRIu64 "] ", offset(told));
-    for (size_t i = 0; i < len; i++) {
+    for (size_t i = 0; i < LWA_POINTER; i++) {
         fprintf(OWN.script, "%02x", bytes[i]);
     }
     fputc('\n', OWN.script);

@@ -4,9 +4,8 @@
  */
 #include "inner.h"
 
-/* What the item names, before it: how many copies wait in its queue, its range, and its pointer. */
-static uint64_t waiting, attached, target;
-static lw_mapped_range range;
+/* The pointer of the item, before it. One with a pointer is told by itself. */
+static uint64_t attached, target;
 
 static bool find(uint64_t told, lw_mapped_range *found)
 {
@@ -28,12 +27,11 @@ static uint64_t look_at_pointer(const lwa_item *item, uint64_t *there)
     return times;
 }
 
-void lwa_look(const lwa_directive *d, const lwa_item *item)
+void lwa_look(lwa_item *item)
 {
-    waiting = d->queue != LW_NO_QUEUE_GIVEN ? lwa_queue_len(d->queue) : 0;
     attached = look_at_pointer(item, &target);
     if (lwa_logged && item->block != NULL) {
-        find(item->block->told, &range);
+        find(item->block->told, &item->before);
     }
 }
 
@@ -52,10 +50,10 @@ static lwa_step_kind step_of(const lwa_directive *d, const lwa_item *item, lw_ma
         return lwa_enters(d) ? LWA_COUNTED : LWA_MOVED;
     }
     if (!find(item->block->told, now)) {
-        *now = range;
+        *now = item->before;
         return LWA_ENDED;
     }
-    return d->way == LWA_EXIT_DATA && range.dynamic == 0 ? LWA_KEPT : LWA_DROPPED;
+    return d->way == LWA_EXIT_DATA && item->before.dynamic == 0 ? LWA_KEPT : LWA_DROPPED;
 }
 
 lwa_did lwa_what_became(const lwa_directive *d, const lwa_item *item)
@@ -64,8 +62,7 @@ lwa_did lwa_what_became(const lwa_directive *d, const lwa_item *item)
 
     did.step = step_of(d, item, &did.range);
     did.out = !lwa_enters(d) && item->clause != LW_DEVICE;
-    did.copied = d->queue != LW_NO_QUEUE_GIVEN ? lwa_queue_len(d->queue) > waiting
-               : did.step == LWA_BORN ? lwa_copies_in(item->clause)
+    did.copied = did.step == LWA_BORN ? lwa_copies_in(item->clause)
                : did.step == LWA_ENDED ? lwa_copies_out(item->clause) : did.step == LWA_MOVED;
     did.attached = look_at_pointer(item, &did.target);
     if (!lwa_enters(d)) {

@@ -41,6 +41,7 @@ static void tell_section(const lwa_directive *d, lwa_item *item)
         item->told.start = lwa_outside();
         item->told.len = item->len;
     } else if (maps) {
+        item->taken = true;
         item->told.start = lwa_take_addresses(item->at, item->len);
         item->told.len = item->len;
     } else if (met == NULL) {
@@ -92,6 +93,7 @@ static void note(const lwa_item *item, int first, int second)
 static void after(const lwa_directive *d, lwa_item *item, const lwa_did *did)
 {
     if (did->step == LWA_BORN) {
+        item->taken = false;
         item->block = lwa_born(item->at, item->len, item->told.start, d->device);
         if (!did->copied || d->queue != LW_NO_QUEUE_GIVEN) {
             memset(item->block->bytes, NEW_BYTE, item->len);
@@ -112,80 +114,152 @@ static void after(const lwa_directive *d, lwa_item *item, const lwa_did *did)
 
 /* ---- The call ---- */
 
-static uint32_t ask(const lwa_directive *d, lwa_item *item, lw_fault *fault)
+/* The most items of one directive of the table. */
+#define MOST_ITEMS 64
+
+static uint32_t ask(const lwa_directive *d, size_t first, size_t end, lw_fault *fault)
 {
+    static lw_item told[MOST_ITEMS];
+    lwa_item *items = d->items.at;
+    uint32_t status;
+
+    for (size_t i = first; i < end && d->way != LWA_END_DATA; i++) {
+        told[i - first] = items[i].told;
+    }
     lwa_room();
     switch (d->way) {
-    case LWA_DATA: return lw_enter(lwa_table(), &item->told, 1, &item->region, fault);
-    case LWA_END_DATA: return lw_exit(lwa_table(), item->region, fault);
-    case LWA_ENTER_DATA: return lw_enter_data(lwa_table(), &item->told, 1, d->queue, fault);
-    case LWA_EXIT_DATA: return lw_exit_data(lwa_table(), &item->told, 1, d->option, d->queue, fault);
-    case LWA_UPDATE: return lw_update(lwa_table(), &item->told, 1, d->option, d->queue, fault);
+    case LWA_DATA:
+        status = lw_enter(lwa_table(), told, end - first, &items[first].region, fault);
+        for (size_t i = first + 1; i < end; i++) {
+            items[i].region = items[first].region;
+        }
+        return status;
+    case LWA_END_DATA: return lw_exit(lwa_table(), items[first].region, fault);
+    case LWA_ENTER_DATA: return lw_enter_data(lwa_table(), told, end - first, d->queue, fault);
+    case LWA_EXIT_DATA: return lw_exit_data(lwa_table(), told, end - first, d->option, d->queue, fault);
+    case LWA_UPDATE: return lw_update(lwa_table(), told, end - first, d->option, d->queue, fault);
     }
     abort();
 }
 
-/* Whether an item is to be told again: a block was lent, or the queue was full, and has room now. */
+/* Whether items are to be told again: a block was lent, or the queue was full, and has room now. */
 static bool is_to_wait(const lwa_directive *d, uint32_t status)
 {
     return lwa_is_lent(status) || (status == LW_QUEUE_FULL && lwa_step(d->queue));
 }
 
-static void give_back(const lwa_directive *d, const lwa_item *item)
+static void give_back(lwa_directive *d, size_t first, size_t end)
 {
-    if (item->len != 0 && item->block == NULL && may_map(d, item) && !lwa_is_pointer(item)) {
-        lwa_give_addresses(item->told.start, item->len);
+    for (lwa_item *item = d->items.at + first; item < d->items.at + end; item++) {
+        if (item->taken) {
+            lwa_give_addresses(item->told.start, item->len);
+            item->taken = false;
+        }
     }
 }
 
-/* One item of a directive. No: there was no room on the device. */
-static bool act(lwa_directive *d, size_t i)
+static bool has_pointer(const lwa_item *item)
+{
+    return lwa_is_pointer(item) || item->pointer != 0;
+}
+
+/* Whether an item can be told with those before it: none names the block that another does, or has a pointer. */
+static bool may_join(const lwa_item *first, const lwa_item *item)
+{
+    for (const lwa_item *other = first; other < item; other++) {
+        if (has_pointer(other) || (item->block != NULL && item->block == other->block)
+            || (item->at < other->at + other->len && other->at < item->at + item->len)) {
+            return false;
+        }
+    }
+    return !has_pointer(item);
+}
+
+/* Tells items from one on, and answers the end of those that are told together. */
+static size_t tell_some(lwa_directive *d, size_t first)
+{
+    lwa_item *items = d->items.at;
+    size_t end = first;
+
+    do {
+        tell(d, &items[end]);
+        if (!may_join(&items[first], &items[end]) && end != first) {
+            give_back(d, end, end + 1);
+            return end;
+        }
+        end++;
+    } while (end < d->items.count && end - first < MOST_ITEMS);
+    return end;
+}
+
+static void finish(lwa_directive *d, size_t i)
 {
     lwa_item *item = &d->items.at[i];
-    uint32_t status;
-    lw_fault fault;
-    lwa_did did;
+    const lwa_did did = lwa_what_became(d, item);
 
-    for (bool again = true; again;) {
-        if (d->way != LWA_END_DATA) {
-            tell(d, item);
-        }
-        if (lwa_enters(d)) {
-            lwa_aim(item);
-        }
-        lwa_look(d, item);
-        status = ask(d, item, &fault);
-        again = is_to_wait(d, status);
-        if (again) {
-            give_back(d, item);
-        }
-    }
-    fault.item = i;
-    if (status == LW_DEVICE_FULL && d->may_be_full) {
-        give_back(d, item);
-        lwa_log_refused(&fault);
-        return false;
-    }
-    lwa_script_item(d, item, status == LW_DONE);
-    lwa_must(status, &fault);
-    did = lwa_what_became(d, item);
     after(d, item, &did);
     lwa_log_item(d, i, &did);
     if (did.step == LWA_ENDED) {
         note(item, acc_ev_delete, acc_ev_free);
         lwa_ended(item->block);
     }
-    return true;
 }
 
+/* Some items of a directive from one on; those of a region's end are told already. Answers the end of them, or 0 where
+   there was no room on the device. */
+static size_t act(lwa_directive *d, size_t first, size_t end)
+{
+    uint32_t status;
+    lw_fault fault;
+
+    for (bool again = true; again;) {
+        if (d->way != LWA_END_DATA) {
+            end = tell_some(d, first);
+        }
+        for (size_t i = first; i < end; i++) {
+            if (lwa_enters(d)) {
+                lwa_aim(&d->items.at[i]);
+            }
+            lwa_look(&d->items.at[i]);
+        }
+        status = ask(d, first, end, &fault);
+        if (status != LW_DONE) {
+            give_back(d, first, end);
+        }
+        again = is_to_wait(d, status);
+    }
+    fault.item += first;
+    if (status == LW_DEVICE_FULL && d->may_be_full) {
+        lwa_log_refused(&fault);
+        return 0;
+    }
+    lwa_script_items(d, first, end, status == LW_DONE);
+    lwa_must(status, &fault);
+    for (size_t i = first; i < end; i++) {
+        finish(d, d->way == LWA_END_DATA ? first + end - 1 - i : i);
+    }
+    return end;
+}
+
+/* At the end of a region the last items first, those of one region of the table together. */
 static bool act_on_all(lwa_directive *d)
 {
-    const size_t count = d->items.count;
+    const lwa_item *items = d->items.at;
+    size_t first = 0, end = d->items.count;
     bool done = true;
 
     lwa_log_directive(d);
-    for (size_t i = 0; i < count && done; i++) {
-        done = act(d, d->way == LWA_END_DATA ? count - 1 - i : i);
+    if (d->way == LWA_END_DATA) {
+        for (; end != 0; end = first) {
+            for (first = end - 1; first != 0 && items[first - 1].region == items[first].region; first--) {
+            }
+            act(d, first, end);
+        }
+    } else {
+        for (; first < d->items.count && done; first = end) {
+            end = act(d, first, 0);
+            done = end != 0;
+        }
     }
     lwa_log_region(d);
     return done;

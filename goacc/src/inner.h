@@ -2,8 +2,8 @@
  * What the files of liblamwiest_acc.so share. All of it is used under the lock, which each entry point and each routine
  * takes once, by lwa_take. A kernel runs without it.
  *
- * The table is told one item at a time, so that what became of each is what the table answers before and after it. A
- * directive of several items is as many directives of the table, in their order, and a region as many regions.
+ * The table is told some items at a time, of which no two name one block, so that what became of each is what the table
+ * answers before and after. A directive may be several directives of the table, in their order, and a region several.
  *
  * Four kinds of addresses: the program's own; table addresses, of the host memory that the table has; places, of the
  * table's device memory; and device addresses, of the memory of this process in which kernels find a block's bytes.
@@ -69,8 +69,10 @@ typedef struct lwa_item {
     uintptr_t pointer; /* the program's address of the pointer to the section, or 0 */
     intptr_t bias;     /* how far behind the pointer's value the section begins */
     lw_item told;
+    bool taken;       /* table addresses were taken for it, which are no block's yet */
     lwa_block *block; /* that has the section; of a region's item, until the region ends */
     uint64_t region;  /* the number of its region */
+    lw_mapped_range before; /* the block's range before the directive, for the log */
 } lwa_item;
 
 /* The items of a directive. */
@@ -257,7 +259,7 @@ size_t lwa_first_pointer(const lwa_block *block, uintptr_t at);
 /* ---- did.c: what the table did ---- */
 
 /* Before the call of an item, and behind it. */
-void lwa_look(const lwa_directive *directive, const lwa_item *item);
+void lwa_look(lwa_item *item);
 lwa_did lwa_what_became(const lwa_directive *directive, const lwa_item *item);
 
 /* ---- directives.c ---- */
@@ -302,8 +304,8 @@ void lwa_start_script(void);
 /* A child of the program writes neither. */
 void lwa_forget_script(void);
 
-/* The lines of a script: an item that is done, or is the program's last; and the other statements. */
-void lwa_script_item(const lwa_directive *directive, const lwa_item *item, bool done);
+/* The lines of a script: items that are done at once, or are the program's last; and the other statements. */
+void lwa_script_items(const lwa_directive *directive, size_t first, size_t end, bool done);
 void lwa_script_write(uint64_t told, const uint8_t bytes[LWA_POINTER]);
 void lwa_script_kernel(const lwa_block *block);
 void lwa_script_copies(const char *statement, uint64_t queue);

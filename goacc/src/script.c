@@ -132,17 +132,19 @@ static void close_region(uint64_t region)
     fputs("end data\n", OWN.script);
 }
 
-void lwa_script_item(const lwa_directive *d, const lwa_item *item, bool done)
+void lwa_script_items(const lwa_directive *d, size_t first, size_t end, bool done)
 {
     if (OWN.script == NULL) {
         return;
     }
     if (d->way == LWA_END_DATA) {
-        close_region(item->region);
+        close_region(d->items.at[first].region);
         return;
     }
     fputs(lwa_name_of(d->way), OWN.script);
-    write_item(item);
+    for (size_t i = first; i < end; i++) {
+        write_item(&d->items.at[i]);
+    }
     if (d->option) {
         fputs(d->way == LWA_UPDATE ? " if_present" : " finalize", OWN.script);
     }
@@ -151,7 +153,7 @@ void lwa_script_item(const lwa_directive *d, const lwa_item *item, bool done)
     }
     fputc('\n', OWN.script);
     if (d->way == LWA_DATA && done) {
-        open_region(item->region);
+        open_region(d->items.at[first].region);
     }
 }
 

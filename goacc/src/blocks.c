@@ -186,13 +186,17 @@ uintptr_t lwa_device_of(const lwa_block *block, uintptr_t at)
 lwa_block *lwa_on_device(uintptr_t device, uintptr_t *at)
 {
     const lwa_block key = {.device = device, .len = 1};
-    lwa_block **found = tfind(&key, &OWN.device_tree, compare_on_device);
+    lwa_block **found = tfind(&key, &OWN.device_tree, compare_on_device), *block;
 
     if (found == NULL) {
         return NULL;
     }
-    *at = (*found)->at + (device - (*found)->device);
-    return *found;
+    block = *found;
+    for (lwa_block *part = block->parts; part != NULL; part = part->next) {
+        block = device - part->device < part->len ? part : block;
+    }
+    *at = block->at + (device - block->device);
+    return block;
 }
 
 /* ---- Births and ends ---- */
@@ -211,17 +215,20 @@ lwa_block *lwa_born(uintptr_t at, size_t len, uint64_t told, uintptr_t device)
     *block = (lwa_block){.at = at, .len = len, .told = told, .mapped = true};
     block->device = device != 0 ? device : device_for(at, len);
     block->bytes = (uint8_t *)block->device;
+    block->root = block;
     insert(block, &OWN.tree, compare);
     insert(block, &OWN.device_tree, compare_on_device);
     return block;
 }
 
-void lwa_move(lwa_block *block, uintptr_t at)
+void lwa_map_part(lwa_block *root, uintptr_t at, size_t len, uintptr_t device)
 {
-    tdelete(block, &OWN.tree, compare);
-    block->at = at;
-    block->moved = at != block->device;
-    insert(block, &OWN.tree, compare);
+    lwa_block *part = lwa_memory(NULL, sizeof *part);
+
+    *part = (lwa_block){.at = at, .len = len, .told = root->told + (device - root->device), .device = device,
+                        .bytes = (uint8_t *)device, .mapped = true, .root = root, .next = root->parts};
+    root->parts = part;
+    insert(part, &OWN.tree, compare);
 }
 
 static void drop(lwa_block *block)
@@ -237,7 +244,9 @@ static void drop(lwa_block *block)
 static void drop_unused(lwa_block *block)
 {
     if (!block->mapped && block->waiting == 0) {
-        lwa_give_addresses(block->told, block->len);
+        if (block->root == block) {
+            lwa_give_addresses(block->told, block->len);
+        }
         drop(block);
     }
 }
@@ -245,8 +254,20 @@ static void drop_unused(lwa_block *block)
 /* Another may be mapped at its device address, while its copies wait. */
 void lwa_ended(lwa_block *block)
 {
+    while (block->parts != NULL) {
+        lwa_ended(block->parts);
+    }
     tdelete(block, &OWN.tree, compare);
-    tdelete(block, &OWN.device_tree, compare_on_device);
+    if (block->root == block) {
+        tdelete(block, &OWN.device_tree, compare_on_device);
+    } else {
+        lwa_block **link = &block->root->parts;
+
+        while (*link != block) {
+            link = &(*link)->next;
+        }
+        *link = block->next;
+    }
     block->mapped = false;
     if (block->waiting != 0) {
         block->bytes = memcpy(lwa_memory(NULL, block->len), block->bytes, block->len);

@@ -74,8 +74,8 @@ static void free_block(void *address)
     uintptr_t at;
     const lwa_block *block = lwa_on_device((uintptr_t)address, &at);
 
-    if (block == NULL || is_of_program(block) || block->device != (uintptr_t)address) {
-        lwa_unserved("%p is not an address that acc_malloc gave", address);
+    if (block == NULL || is_of_program(block) || block->device != (uintptr_t)address || block->parts != NULL) {
+        lwa_unserved("%p is not an address that acc_malloc gave, or some of it is mapped", address);
     }
     direct(LWA_EXIT_DATA, LW_DELETE, address, block->len);
     free(address);
@@ -105,7 +105,7 @@ static void *bytes_at(uintptr_t address, size_t len)
         if (block == NULL || !lwa_has(block, at, len)) {
             lwa_unserved("the %zu bytes at %#zx are in no one block of the device", len, (size_t)address);
         }
-    } while (lwa_is_lent(block->kernels != 0 ? LW_LENT : LW_DONE));
+    } while (lwa_is_lent(block->root->kernels != 0 ? LW_LENT : LW_DONE));
     return block->bytes + (at - block->at);
 }
 
@@ -146,7 +146,17 @@ LWA_EXPORT void acc_memcpy_from_device_async(void *to, void *address, size_t len
     copy("acc_memcpy_from_device_async", LWA_FROM, to, address, len, async, true);
 }
 
-/* All of a block of acc_malloc is mapped to the program's bytes, or is so no more. The counters stay. */
+static bool has_part(const lwa_block *block, uintptr_t device, size_t len)
+{
+    const lwa_block *part = block->parts;
+
+    while (part != NULL && (part->device + part->len <= device || device + len <= part->device)) {
+        part = part->next;
+    }
+    return part != NULL;
+}
+
+/* Some of a block of acc_malloc is mapped to the program's bytes, or is so no more. The counters stay. */
 LWA_EXPORT void acc_map_data(void *at, void *address, size_t len)
 {
     lwa_block *block;
@@ -155,13 +165,13 @@ LWA_EXPORT void acc_map_data(void *at, void *address, size_t len)
     lwa_take("acc_map_data", LWA_FROM);
     if (lwa_is_for_table()) {
         block = lwa_on_device((uintptr_t)address, &start);
-        if (block == NULL || is_of_program(block) || start != block->at || len != block->len) {
-            lwa_unserved("the %zu bytes at %p are not all of what acc_malloc gave", len, address);
+        if (len == 0 || block == NULL || is_of_program(block) || !lwa_has(block, start, len) || has_part(block, start, len)) {
+            lwa_unserved("the %zu bytes at %p are not what acc_malloc gave, or are mapped already", len, address);
         }
         if (at == NULL || lwa_meets((uintptr_t)at, len) != NULL) {
             lwa_unserved("some of the %zu bytes at %p are mapped already, or it is a null pointer", len, at);
         }
-        lwa_move(block, (uintptr_t)at);
+        lwa_map_part(block, (uintptr_t)at, len, start);
     }
     lwa_leave();
 }
@@ -173,10 +183,10 @@ LWA_EXPORT void acc_unmap_data(void *at)
     lwa_take("acc_unmap_data", LWA_FROM);
     if (lwa_is_for_table()) {
         block = lwa_meets((uintptr_t)at, 1);
-        if (block == NULL || !block->moved || block->at != (uintptr_t)at) {
+        if (block == NULL || block->root == block || block->at != (uintptr_t)at) {
             lwa_unserved("%p is not an address that acc_map_data has mapped", at);
         }
-        lwa_move(block, block->device);
+        lwa_ended(block);
     }
     lwa_leave();
 }

@@ -31,7 +31,7 @@ void lwa_look(lwa_item *item)
 {
     attached = look_at_pointer(item, &target);
     if (lwa_logged && item->block != NULL) {
-        find(item->block->told, &item->before);
+        find(item->block->root->told, &item->before);
     }
 }
 
@@ -45,11 +45,11 @@ static lwa_step_kind step_of(const lwa_directive *d, const lwa_item *item, lw_ma
     }
     if (lwa_enters(d) || d->way == LWA_UPDATE) {
         if (lwa_logged) {
-            find(item->block->told, now);
+            find(item->block->root->told, now);
         }
         return lwa_enters(d) ? LWA_COUNTED : LWA_MOVED;
     }
-    if (!find(item->block->told, now)) {
+    if (!find(item->block->root->told, now)) {
         *now = item->before;
         return LWA_ENDED;
     }

@@ -167,7 +167,7 @@ static bool has_pointer(const lwa_item *item)
 static bool may_join(const lwa_item *first, const lwa_item *item)
 {
     for (const lwa_item *other = first; other < item; other++) {
-        if (has_pointer(other) || (item->block != NULL && item->block == other->block)
+        if (has_pointer(other) || (item->block != NULL && other->block != NULL && item->block->root == other->block->root)
             || (item->at < other->at + other->len && other->at < item->at + item->len)) {
             return false;
         }
@@ -201,7 +201,7 @@ static void finish(lwa_directive *d, size_t i)
     lwa_log_item(d, i, &did);
     if (did.step == LWA_ENDED) {
         note(item, acc_ev_delete, acc_ev_free);
-        lwa_ended(item->block);
+        lwa_ended(item->block->root);
     }
 }
 

@@ -53,7 +53,7 @@ typedef struct lwa_block {
     uintptr_t device; /* the device address */
     uint8_t *bytes;   /* that the device has; at the device address while it is mapped */
     bool mapped;
-    bool moved;     /* by acc_map_data */
+    struct lwa_block *root, *parts, *next; /* a part that acc_map_data maps has another root, that of acc_malloc */
     size_t waiting; /* the copies that wait */
     size_t kernels; /* the kernels that have it; while there are some it is lent */
     uint64_t lease;
@@ -205,8 +205,8 @@ uint64_t lwa_outside(void);
 /* A section that is mapped now, at table addresses that were taken for it. */
 lwa_block *lwa_born(uintptr_t at, size_t len, uint64_t told, uintptr_t device);
 
-/* Gives a block of acc_malloc, which has all of its bytes, another address of the program; its device address for none. */
-void lwa_move(lwa_block *block, uintptr_t at);
+/* A part of a block of acc_malloc gets an address of the program. */
+void lwa_map_part(lwa_block *root, uintptr_t at, size_t len, uintptr_t device);
 
 /* It is mapped no more; and a copy of it waits no more. */
 void lwa_ended(lwa_block *block);

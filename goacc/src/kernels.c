@@ -128,6 +128,7 @@ static void lend_blocks(lent *list, const lwa_maps *maps, uint64_t region)
         lwa_block *block = block_of(maps->at[i], 1);
 
         if (block != NULL) {
+            block = block->root;
             list->at = lwa_grown(list->at, list->count, &list->room, sizeof *list->at);
             list->at[list->count++] = block;
             lend(block, region);

@@ -107,7 +107,7 @@ static void tell_left(const lwa_block *block, lwa_pointer *p)
 {
     const bool other = value_at((uintptr_t)block->bytes + (p->at - block->at)) != p->device;
 
-    if (other != p->other && block->kernels == 0) {
+    if (other != p->other && block->root->kernels == 0) {
         lwa_write_on_device(block, p->at, other ? 0 : p->place);
         p->other = other;
     }

@@ -178,6 +178,7 @@ LWA_EXPORT void acc_map_data(void *at, void *address, size_t len)
 
 LWA_EXPORT void acc_unmap_data(void *at)
 {
+    lw_counters_of counters = {0, 0};
     lwa_block *block;
 
     lwa_take("acc_unmap_data", LWA_FROM);
@@ -185,6 +186,10 @@ LWA_EXPORT void acc_unmap_data(void *at)
         block = lwa_meets((uintptr_t)at, 1);
         if (block == NULL || block->root == block || block->at != (uintptr_t)at) {
             lwa_unserved("%p is not an address that acc_map_data has mapped", at);
+        }
+        lw_counters(lwa_table(), block->told, block->len, &counters);
+        if (counters.structured != 0) {
+            lwa_unserved("a data region holds the memory at %p", at);
         }
         lwa_ended(block);
     }

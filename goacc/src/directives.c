@@ -163,12 +163,21 @@ static bool has_pointer(const lwa_item *item)
     return lwa_is_pointer(item) || item->pointer != 0;
 }
 
-/* Whether an item can be told with those before it: none names the block that another does, or has a pointer. */
+/* Whether what one item names, or the block that has it, meets what the other does. */
+static bool meet(const lwa_item *a, const lwa_item *b)
+{
+    const uintptr_t from = a->block != NULL ? a->block->at : a->at, other = b->block != NULL ? b->block->at : b->at;
+    const size_t len = a->block != NULL ? a->block->len : a->len, other_len = b->block != NULL ? b->block->len : b->len;
+
+    return (from < other + other_len && other < from + len)
+        || (a->block != NULL && b->block != NULL && a->block->root == b->block->root);
+}
+
+/* Whether an item can be told with those before it: none names the block of another, or has a pointer. */
 static bool may_join(const lwa_item *first, const lwa_item *item)
 {
     for (const lwa_item *other = first; other < item; other++) {
-        if (has_pointer(other) || (item->block != NULL && other->block != NULL && item->block->root == other->block->root)
-            || (item->at < other->at + other->len && other->at < item->at + item->len)) {
+        if (has_pointer(other) || meet(item, other)) {
             return false;
         }
     }

@@ -193,7 +193,7 @@ lwa_block *lwa_on_device(uintptr_t device, uintptr_t *at)
     }
     block = *found;
     for (lwa_block *part = block->parts; part != NULL; part = part->next) {
-        block = device - part->device < part->len ? part : block;
+        block = part->mapped && device - part->device < part->len ? part : block;
     }
     *at = block->at + (device - block->device);
     return block;
@@ -226,7 +226,7 @@ void lwa_map_part(lwa_block *root, uintptr_t at, size_t len, uintptr_t device)
     lwa_block *part = lwa_memory(NULL, sizeof *part);
 
     *part = (lwa_block){.at = at, .len = len, .told = root->told + (device - root->device), .device = device,
-                        .bytes = (uint8_t *)device, .mapped = true, .root = root, .next = root->parts};
+                        .bytes = (uint8_t *)device, .mapped = true, .part = true, .root = root, .next = root->parts};
     root->parts = part;
     insert(part, &OWN.tree, compare);
 }
@@ -240,11 +240,12 @@ static void drop(lwa_block *block)
     free(block);
 }
 
-/* Its addresses can be taken again where nothing more is to be read or written there. */
+/* Its addresses can be taken again where nothing more is to be read or written there. A part stays as long as its root,
+   since a region may hold it. */
 static void drop_unused(lwa_block *block)
 {
-    if (!block->mapped && block->waiting == 0) {
-        if (block->root == block) {
+    if (!block->mapped && block->waiting == 0 && block->root == block) {
+        if (!block->part) {
             lwa_give_addresses(block->told, block->len);
         }
         drop(block);
@@ -255,18 +256,18 @@ static void drop_unused(lwa_block *block)
 void lwa_ended(lwa_block *block)
 {
     while (block->parts != NULL) {
-        lwa_ended(block->parts);
+        lwa_block *part = block->parts;
+
+        block->parts = part->next;
+        if (part->mapped) {
+            lwa_ended(part);
+        }
+        part->root = part;
+        drop_unused(part);
     }
     tdelete(block, &OWN.tree, compare);
-    if (block->root == block) {
+    if (!block->part) {
         tdelete(block, &OWN.device_tree, compare_on_device);
-    } else {
-        lwa_block **link = &block->root->parts;
-
-        while (*link != block) {
-            link = &(*link)->next;
-        }
-        *link = block->next;
     }
     block->mapped = false;
     if (block->waiting != 0) {

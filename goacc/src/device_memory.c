@@ -44,7 +44,8 @@ LWA_EXPORT void *acc_hostptr(void *address)
 /* A directive of one item on the memory of acc_malloc. No: there is no room on the device. */
 static bool direct(lwa_way way, uint32_t clause, void *memory, size_t len)
 {
-    lwa_directive directive = {.way = way, .queue = LW_NO_QUEUE_GIVEN, .may_be_full = true};
+    lwa_directive directive = {.way = way, .queue = LW_NO_QUEUE_GIVEN, .may_be_full = true,
+                               .option = way == LWA_EXIT_DATA};
 
     directive.device = (uintptr_t)memory;
     lwa_add_item(&directive.items, clause, (uintptr_t)memory, len);
@@ -69,13 +70,30 @@ LWA_EXPORT void *acc_malloc(size_t len)
     return memory;
 }
 
+static bool has_part(const lwa_block *block, uintptr_t device, size_t len)
+{
+    const lwa_block *part = block->parts;
+
+    while (part != NULL && (!part->mapped || part->device + part->len <= device || device + len <= part->device)) {
+        part = part->next;
+    }
+    return part != NULL;
+}
+
+/* Its counters end, but for that of a region, which may hold what was mapped of it. */
 static void free_block(void *address)
 {
+    lw_counters_of counters = {0, 0};
     uintptr_t at;
     const lwa_block *block = lwa_on_device((uintptr_t)address, &at);
 
-    if (block == NULL || is_of_program(block) || block->device != (uintptr_t)address || block->parts != NULL) {
+    if (block == NULL || is_of_program(block) || block->device != (uintptr_t)address
+        || has_part(block, block->device, block->len)) {
         lwa_unserved("%p is not an address that acc_malloc gave, or some of it is mapped", address);
+    }
+    lw_counters(lwa_table(), block->told, block->len, &counters);
+    if (counters.structured != 0) {
+        lwa_unserved("a data region holds the memory at %p", address);
     }
     direct(LWA_EXIT_DATA, LW_DELETE, address, block->len);
     free(address);
@@ -146,16 +164,6 @@ LWA_EXPORT void acc_memcpy_from_device_async(void *to, void *address, size_t len
     copy("acc_memcpy_from_device_async", LWA_FROM, to, address, len, async, true);
 }
 
-static bool has_part(const lwa_block *block, uintptr_t device, size_t len)
-{
-    const lwa_block *part = block->parts;
-
-    while (part != NULL && (part->device + part->len <= device || device + len <= part->device)) {
-        part = part->next;
-    }
-    return part != NULL;
-}
-
 /* Some of a block of acc_malloc is mapped to the program's bytes, or is so no more. The counters stay. */
 LWA_EXPORT void acc_map_data(void *at, void *address, size_t len)
 {
@@ -178,18 +186,13 @@ LWA_EXPORT void acc_map_data(void *at, void *address, size_t len)
 
 LWA_EXPORT void acc_unmap_data(void *at)
 {
-    lw_counters_of counters = {0, 0};
     lwa_block *block;
 
     lwa_take("acc_unmap_data", LWA_FROM);
     if (lwa_is_for_table()) {
         block = lwa_meets((uintptr_t)at, 1);
-        if (block == NULL || block->root == block || block->at != (uintptr_t)at) {
+        if (block == NULL || !block->part || block->at != (uintptr_t)at) {
             lwa_unserved("%p is not an address that acc_map_data has mapped", at);
-        }
-        lw_counters(lwa_table(), block->told, block->len, &counters);
-        if (counters.structured != 0) {
-            lwa_unserved("a data region holds the memory at %p", at);
         }
         lwa_ended(block);
     }

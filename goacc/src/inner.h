@@ -53,7 +53,8 @@ typedef struct lwa_block {
     uintptr_t device; /* the device address */
     uint8_t *bytes;   /* that the device has; at the device address while it is mapped */
     bool mapped;
-    struct lwa_block *root, *parts, *next; /* a part that acc_map_data maps has another root, that of acc_malloc */
+    struct lwa_block *root, *parts, *next; /* a part that acc_map_data maps has another root, until that ends */
+    bool part;
     size_t waiting; /* the copies that wait */
     size_t kernels; /* the kernels that have it; while there are some it is lent */
     uint64_t lease;

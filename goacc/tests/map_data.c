@@ -27,6 +27,25 @@ static void parts(void)
     acc_free(there);
 }
 
+/* The device memory stays, whatever counted what was mapped of it. */
+static void held(void)
+{
+    int b[4] = {1, 2, 3, 4}, back[4], *there = acc_malloc(sizeof b);
+
+    acc_memcpy_to_device(there, tens, sizeof tens);
+    acc_map_data(b, there, sizeof b);
+#pragma acc data copy(b)
+    {
+#pragma acc enter data copyin(b)
+        acc_unmap_data(b);
+        printf("%d\n", acc_is_present(b, sizeof b));
+    }
+    numbers("host", b, 4);
+    acc_memcpy_from_device(back, there, sizeof back);
+    numbers("device", back, 4);
+    acc_free(there);
+}
+
 int main(void)
 {
     int *there = acc_malloc(sizeof a), back[4];
@@ -47,5 +66,6 @@ int main(void)
     numbers("device", back, 4);
     acc_free(there);
     parts();
+    held();
     return 0;
 }

@@ -51,8 +51,8 @@ enum {
     LW_NO_LEASE = 17,      /* no lease of that number is out: there was none, or it was spent; value: the number */
     LW_NO_DEVICE = 22,     /* there is no such device; value: its number. No call here names one, so none answers it */
     LW_ENDED = 32,         /* the handle has no table: none was made, or it was ended */
-    LW_BAD_CLAUSE = 33,    /* the clause number of an item is none of the directive's; item. It is told before all that a
-                              table refuses */
+    LW_BAD_CLAUSE = 33,    /* the clause number of an item is none of the directive's; item. It is told before all else
+                              that a table refuses */
     LW_BAD_LENGTH = 34,    /* a buffer is too short, or not as long as a lease; value: the length that is wanted */
     LW_ABSENT = 35         /* there is no such thing: nothing is mapped there, or no refusal has that status */
 };

@@ -1,4 +1,4 @@
-/* Section 2.13: declare copyout and create in a function. */
+/* Section 2.13: declare copyout, create and device_resident in a function. */
 #include "show.h"
 
 static void use(int n)
@@ -16,8 +16,17 @@ static void use(int n)
     printf("%d %d\n", acc_is_present(a, sizeof a), acc_is_present(b, sizeof b));
 }
 
+static void resident(void)
+{
+    int c[4];
+#pragma acc declare device_resident(c)
+
+    printf("%d\n", acc_is_present(c, sizeof c));
+}
+
 int main(void)
 {
     use(3);
+    resident();
     return 0;
 }

@@ -581,9 +581,6 @@ static void direct(const directive *d)
     int refused = 0;
     const refusal told = judge(d, &refused);
 
-    if (d->queue != NO_QUEUE && (d->way == KERNEL || queue_len[d->queue] > MOST_COPIES - MOST_ITEMS)) {
-        wait_for(d->queue);
-    }
     if (told != NONE) {
         if (number(8) == 0) {
             try_refused(d, told, refused);
@@ -646,6 +643,9 @@ static void draw(directive *d)
     *d = (directive){.way = (way)number(5), .option = number(4) == 0, .queue = number(3) ? NO_QUEUE : number(QUEUES)};
     if (d->way == DATA) {
         d->queue = NO_QUEUE;
+    }
+    if (d->queue != NO_QUEUE && (d->way == KERNEL || queue_len[d->queue] > MOST_COPIES - MOST_ITEMS)) {
+        wait_for(d->queue); /* here, since it may change the pointers by which items are drawn */
     }
     for (int i = 1 + number(number(2) ? 2 : MOST_ITEMS); i > 0; i--) {
         d->count += draw_item(d, &d->at[d->count]);

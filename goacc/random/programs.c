@@ -240,14 +240,16 @@ static map *attach(int cell, long bias, int real)
     map *target = at >= 0 && at < BYTES ? whole((int)at, 1) : NULL;
     attachment *a;
     uintptr_t address;
+    int place;
 
     if (m == NULL || target == NULL || !real) {
         return NULL;
     }
     address = (uintptr_t)host + at + distance - bias;
     a = &m->cells[cell];
-    *a = (attachment){a->count != 0 && !a->other && a->place == target->place + (int)at - target->start ? a->count + 1 : 1,
-                      target, (int)at - target->start, target->place + (int)at - target->start, 0, bias};
+    place = target->place + (int)at - target->start;
+    *a = (attachment){a->count != 0 && !a->other && a->place == place ? a->count + 1 : 1, target,
+                      (int)at - target->start, place, 0, bias};
     memcpy(m->bytes + (CELLS + 8 * cell - m->start), &address, 8);
     return m;
 }
@@ -471,7 +473,8 @@ static void run_kernel(void *maps)
         const item *it = &kernel->at[i];
         map *m = it->clause != POINTER ? whole(it->start, it->len) : NULL;
 
-        if (it->clause != POINTER && (uintptr_t)*addresses != (uintptr_t)host + it->start + (m != NULL ? distance : 0)) {
+        if (it->clause != POINTER
+            && (uintptr_t)*addresses != (uintptr_t)host + it->start + (m != NULL ? distance : 0)) {
             say_wrong("a kernel has another address");
         } else if (m != NULL) {
             work_on(*addresses, it, m);

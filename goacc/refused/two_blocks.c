@@ -1,4 +1,4 @@
-/* exit data of a section that meets two mapped ones, the first of which an item before it ends, which names other bytes. */
+/* exit data of a section that meets two mapped ones, the first of which an item of other bytes ends before it. */
 static char a[64];
 
 int main(void)

@@ -1,6 +1,6 @@
 /*
- * What is mapped: for each mapped range of the table where its bytes lie in the program, in the table's host memory, and
- * on the device.
+ * What is mapped: for each mapped range of the table where it lies in the program, in the table's host memory, and on
+ * the device.
  *
  * Blocks do not overlap in the program's addresses, so a tree has them in order, and finds one that meets a section: if
  * it has not all of it, none has.
@@ -122,7 +122,7 @@ uint64_t lwa_take_addresses(uintptr_t at, size_t len)
         }
         OWN.next_free++;
     }
-    lwa_unserved("there is no room for %zu bytes more: LAMWIEST_HOST is %llu", len, (unsigned long long)lwa_limits.host);
+    lwa_unserved("there is no room for %zu bytes more: LAMWIEST_HOST is %zu", len, (size_t)lwa_limits.host);
 }
 
 void lwa_give_addresses(uint64_t told, size_t len)

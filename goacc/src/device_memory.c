@@ -173,7 +173,8 @@ LWA_EXPORT void acc_map_data(void *at, void *address, size_t len)
     lwa_take("acc_map_data", LWA_FROM);
     if (lwa_is_for_table()) {
         block = lwa_on_device((uintptr_t)address, &start);
-        if (len == 0 || block == NULL || is_of_program(block) || !lwa_has(block, start, len) || has_part(block, start, len)) {
+        if (len == 0 || block == NULL || is_of_program(block) || !lwa_has(block, start, len)
+            || has_part(block, start, len)) {
             lwa_unserved("the %zu bytes at %p are not what acc_malloc gave, or are mapped already", len, address);
         }
         if (at == NULL || lwa_meets((uintptr_t)at, len) != NULL) {

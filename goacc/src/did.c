@@ -1,6 +1,6 @@
 /*
- * What the table did with an item: here alone it is told by what the table answers before and after. So a call of the
- * static library that tells it takes the place of this file.
+ * What the table did with an item: here alone it is told by what the table answers before and after. A call of the
+ * static library that tells it would take the place of this file.
  */
 #include "inner.h"
 
@@ -35,7 +35,7 @@ void lwa_look(lwa_item *item)
     }
 }
 
-static lwa_step_kind step_of(const lwa_directive *d, const lwa_item *item, lw_mapped_range *now)
+static enum lwa_step step_of(const lwa_directive *d, const lwa_item *item, lw_mapped_range *now)
 {
     if (lwa_is_pointer(item) || item->len == 0) {
         return LWA_NOTHING;
@@ -68,7 +68,8 @@ lwa_did lwa_what_became(const lwa_directive *d, const lwa_item *item)
     if (!lwa_enters(d)) {
         did.aim = did.attached < attached ? LWA_DETACHED : LWA_NO_AIM;
     } else if (did.attached != 0) {
-        did.aim = attached == 0 || did.target != target ? LWA_AIMED : did.attached > attached ? LWA_ATTACHED : LWA_NO_AIM;
+        did.aim = attached == 0 || did.target != target ? LWA_AIMED
+                : did.attached > attached ? LWA_ATTACHED : LWA_NO_AIM;
     }
     return did;
 }

@@ -149,7 +149,8 @@ DIRECTIVE(GOACC_enter_exit_data, "enter or exit data", lwa_is_entry(&maps) ? LWA
           lwa_is_entry(&maps) ? acc_ev_enter_data_start : acc_ev_exit_data_start,
           lwa_is_entry(&maps) ? acc_construct_enter_data : acc_construct_exit_data)
 
-/* One item of declare in a function: its start enters data, and its end exits. present is a region that ends at once. */
+/* One item of declare in a function: its start enters data, and its end exits. present is a region that ends at
+   once. */
 static void declare(const lwa_maps *one)
 {
     const unsigned kind = one->kinds[0] & 0xff;

@@ -96,9 +96,8 @@ typedef struct lwa_directive {
 } lwa_directive;
 
 /* What the table did with an item. */
-typedef enum lwa_step_kind { LWA_NOTHING, LWA_BORN, LWA_COUNTED, LWA_DROPPED, LWA_KEPT, LWA_ENDED, LWA_MOVED } lwa_step_kind;
 typedef struct lwa_did {
-    lwa_step_kind step;
+    enum lwa_step { LWA_NOTHING, LWA_BORN, LWA_COUNTED, LWA_DROPPED, LWA_KEPT, LWA_ENDED, LWA_MOVED } step;
     bool copied, out;      /* whether its bytes are copied, or put into the queue, and which way */
     lw_mapped_range range; /* with the counters behind it; of one that has ended, those before */
     enum { LWA_NO_AIM, LWA_AIMED, LWA_ATTACHED, LWA_DETACHED } aim;
@@ -115,7 +114,8 @@ typedef struct lwa_region {
 
 /* ---- table.c: the lock, the tables, the refusals ---- */
 
-/* Each device has a table, and each file has what it keeps beside one as often; this is the device that a thread is on. */
+/* Each device has a table, and each file has what it keeps beside one as often. This is the device that a thread is
+   on. */
 #define LWA_DEVICES 4
 extern _Thread_local unsigned lwa_on;
 extern lw_limits lwa_limits;

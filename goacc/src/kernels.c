@@ -1,7 +1,8 @@
 /*
  * Kernels run on the host, one gang of one worker, with the lock free.
  *
- * The blocks of a kernel's maps are lent before it, and brought back behind it: so what else needs one waits until then.
+ * The blocks of a kernel's maps are lent before it, and brought back behind it: so what else needs one waits until
+ * then.
  * Kernels that run at a time share what is lent, and the last one brings it back. The compiled function finds the bytes
  * at their device addresses, which stay as they are between kernels.
  */

@@ -68,7 +68,8 @@ static void say_copy(size_t item, const copy *c)
     }
     OWN.waiting = lwa_grown(OWN.waiting, OWN.count, &OWN.room, sizeof *OWN.waiting);
     OWN.waiting[OWN.count++] = *c;
-    say("  item %zu: put %s %#" PRIxPTR " %zu at %#" PRIx64 " queue %" PRIu64, item, way, c->at, c->len, c->place, c->queue);
+    say("  item %zu: put %s %#" PRIxPTR " %zu at %#" PRIx64 " queue %" PRIu64, item, way, c->at, c->len, c->place,
+        c->queue);
 }
 
 void lwa_log_copies(const char *statement, uint64_t queue)
@@ -92,7 +93,8 @@ void lwa_log_made(uint64_t queue)
     if (i < OWN.count) {
         c = OWN.waiting[i];
         count_copy(&c);
-        say("  copied %s %#" PRIxPTR " %zu at %#" PRIx64 " queue %" PRIu64, c.out ? "out" : "in", c.at, c.len, c.place, queue);
+        say("  copied %s %#" PRIxPTR " %zu at %#" PRIx64 " queue %" PRIu64, c.out ? "out" : "in", c.at, c.len, c.place,
+            queue);
         OWN.count--;
         memmove(&OWN.waiting[i], &OWN.waiting[i + 1], (OWN.count - i) * sizeof c);
     }

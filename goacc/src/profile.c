@@ -129,8 +129,8 @@ static void call_tools(acc_event_info *event)
 {
     const acc_event_t type = event->event_type;
     const acc_device_t device = lwa_is_for_table() ? acc_device_not_host : acc_device_host;
-    acc_prof_info info = {type, _ACC_PROF_INFO_VALID_BYTES, _ACC_PROF_INFO_VERSION, device, (int)lwa_chosen_device(), -1,
-                          acc_async_sync, acc_async_sync, NULL, NULL, -1, -1, -1, -1};
+    acc_prof_info info = {type, _ACC_PROF_INFO_VALID_BYTES, _ACC_PROF_INFO_VERSION, device, (int)lwa_chosen_device(),
+                          -1, acc_async_sync, acc_async_sync, NULL, NULL, -1, -1, -1, -1};
     acc_api_info api = {acc_device_api_other, _ACC_API_INFO_VALID_BYTES, device, -1, NULL, NULL, NULL};
 
     pthread_mutex_lock(&lock);
@@ -154,8 +154,8 @@ void lwa_tell(int event, int construct)
     memset(&told, 0, sizeof told);
     told.other_event = (acc_other_event_info){event, _ACC_OTHER_EVENT_INFO_VALID_BYTES, construct, 0, NULL};
     if (event == acc_ev_enqueue_launch_start || event == acc_ev_enqueue_launch_end) {
-        told.launch_event = (acc_launch_event_info){event, _ACC_LAUNCH_EVENT_INFO_VALID_BYTES, construct, 0, NULL, NULL, 1,
-                                                    1, 1};
+        told.launch_event = (acc_launch_event_info){event, _ACC_LAUNCH_EVENT_INFO_VALID_BYTES, construct, 0, NULL, NULL,
+                                                    1, 1, 1};
     }
     call_tools(&told);
 }

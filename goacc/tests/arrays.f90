@@ -1,5 +1,5 @@
-! Fortran: explicit, allocatable, pointer and assumed-shape arrays, optional arguments, module variables of declare, and the
-! routines.
+! Fortran: explicit, allocatable, pointer and assumed-shape arrays, optional arguments, module variables of declare, and
+! the routines.
 module m
     integer :: g(4) = [1, 2, 3, 4]
     !$acc declare create(g)

@@ -1,4 +1,4 @@
-/* The routines of section 3.2 that no other test names, each with what OpenACC says of it, and the host as the device. */
+/* The routines of section 3.2 that no other test names, each with what OpenACC says of it, and the host. */
 #include "show.h"
 
 #include <string.h>

@@ -1,5 +1,5 @@
-/* Eight threads at once, a thousand rounds each: regions, queues, kernels, attached pointers and device addresses of their
-   own, with one array that all count in. Each looks at what came of it. */
+/* Eight threads at once, a thousand rounds each: regions, queues, kernels, attached pointers and device addresses of
+   their own, with one array that all count in. Each looks at what came of it. */
 #include <openacc.h>
 #include <pthread.h>
 #include <stdio.h>

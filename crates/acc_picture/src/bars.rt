@@ -52,7 +52,9 @@ impl Bar {
     /// answers up to which pixel some were put.
     fn put_next(self, page: &mut Page, put: u64, kind: Kind, start: u64, len: u64) -> u64 {
         let from = self.pixel(start).min(BAR_WIDTH - 1);
-        let until = self.pixel(start.saturating_add(len)).max(from.saturating_add(1));
+        let until = self
+            .pixel(start.saturating_add(len))
+            .max(from.saturating_add(1));
         if until <= put || matches!(kind, Kind::Hole) {
             return put;
         }

@@ -1,9 +1,7 @@
 //! The rows of the device: blocks and holes.
 
 use crate::gathering::{Entry, Kind};
-use crate::places::{
-    ATTACHED, DEVICE_ADDRESS, DEVICE_BYTES, NAME, STATE, device_area, text_in,
-};
+use crate::places::{ATTACHED, DEVICE_ADDRESS, DEVICE_BYTES, NAME, STATE, device_area, text_in};
 use crate::shapes::{
     Area, close_group, close_text, close_title, open_text, open_titled, put_address, put_box,
     put_number, put_text,

@@ -1,9 +1,7 @@
 //! The rows of host memory: mapped ranges, and bytes of arrays that are not mapped.
 
 use crate::gathering::{Part, end_of};
-use crate::places::{
-    DYNAMIC, HOST_ADDRESS, HOST_BYTES, NAME, STRUCTURED, host_area, text_in,
-};
+use crate::places::{DYNAMIC, HOST_ADDRESS, HOST_BYTES, NAME, STRUCTURED, host_area, text_in};
 use crate::shapes::{
     Area, close_group, close_text, close_title, open_text, open_titled, put_address, put_box,
     put_number, put_text,

@@ -11,7 +11,9 @@ use crate::places::{
 };
 use crate::queues::put_queues;
 use crate::scenes::Scene;
-use crate::shapes::{Area, Point, close_group, close_text, close_title, open_text, put_box, put_text};
+use crate::shapes::{
+    Area, Point, close_group, close_text, close_title, open_text, put_box, put_text,
+};
 use crate::styles::STYLE;
 use acc_page::{Names, Page};
 use acc_table::Table;

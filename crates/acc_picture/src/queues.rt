@@ -187,10 +187,6 @@ impl Queue {
 impl Queued {
     fn put(self, page: &mut Page, alloc: Global, names: &Names) {
         put_short_name(page, alloc, names, self.section);
-        page.text(if self.out {
-            " to host"
-        } else {
-            " to device"
-        });
+        page.text(if self.out { " to host" } else { " to device" });
     }
 }

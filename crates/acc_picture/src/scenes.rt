@@ -84,7 +84,11 @@ fn add_rows(entries: &[Entry], rows: &mut Vec<DeviceRow>) -> Result<(), AllocErr
 /// Adds attached pointers to the rows of the blocks that have them.
 fn attach_all(rows: &mut [DeviceRow], table: &Table, device: u64, all: &[Attachment]) {
     for attached in all {
-        attach(rows, table.device_address(device, attached.pointer), *attached);
+        attach(
+            rows,
+            table.device_address(device, attached.pointer),
+            *attached,
+        );
     }
 }
 

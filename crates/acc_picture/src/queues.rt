@@ -41,14 +41,17 @@ pub fn add_queues(
     for number in 0..QUEUE_COUNT {
         let len = table.queue_len(device, number);
         if len > 0 {
-            let copies = Vec::new(alloc);
             queues.push(Queue {
                 number,
                 len,
-                copies,
+                copies: Vec::new(alloc),
             })?;
         }
     }
+    add_all(table, device, queues)
+}
+
+fn add_all(table: &Table, device: u64, queues: &mut [Queue]) -> Result<(), AllocError> {
     for queue in queues {
         add_copies(table, device, queue.number, &mut queue.copies)?;
     }
@@ -95,21 +98,25 @@ fn count_in(event: &Event, number: u64) -> usize {
 fn copy_in(event: &Event, nth: usize) -> Option<Queued> {
     match event {
         Event::EnteredData { items, did, .. } => {
-            entered(items.as_slice().get(nth)?, did.as_slice().get(nth)?)
+            entered(items.as_slice().get(nth), did.as_slice().get(nth))
         }
         Event::ExitedData { items, did, .. } => {
-            exited(items.as_slice().get(nth)?, did.as_slice().get(nth)?)
+            exited(items.as_slice().get(nth), did.as_slice().get(nth))
         }
         Event::Updated { items, did, .. } => {
-            updated(items.as_slice().get(nth)?, did.as_slice().get(nth)?)
+            updated(items.as_slice().get(nth), did.as_slice().get(nth))
         }
         _ => None,
     }
 }
 
-fn entered(item: &Item<EnterClause>, did: &Did) -> Option<Queued> {
-    let section = item.section;
-    match (item.clause, did.step) {
+fn entered(item: Option<&Item<EnterClause>>, did: Option<&Did>) -> Option<Queued> {
+    let Item {
+        clause,
+        section,
+        ..
+    } = *item?;
+    match (clause, did?.step) {
         (EnterClause::Copyin, Step::Born { .. }) => Some(Queued {
             section,
             out: false,
@@ -118,9 +125,13 @@ fn entered(item: &Item<EnterClause>, did: &Did) -> Option<Queued> {
     }
 }
 
-fn exited(item: &Item<ExitClause>, did: &Did) -> Option<Queued> {
-    let section = item.section;
-    match (item.clause, did.step) {
+fn exited(item: Option<&Item<ExitClause>>, did: Option<&Did>) -> Option<Queued> {
+    let Item {
+        clause,
+        section,
+        ..
+    } = *item?;
+    match (clause, did?.step) {
         (ExitClause::Copyout, Step::Dropped { ended, .. }) if ended => {
             Some(Queued { section, out: true })
         }
@@ -128,12 +139,16 @@ fn exited(item: &Item<ExitClause>, did: &Did) -> Option<Queued> {
     }
 }
 
-fn updated(item: &Item<UpdateClause>, did: &Did) -> Option<Queued> {
-    let section = item.section;
-    match did.step {
+fn updated(item: Option<&Item<UpdateClause>>, did: Option<&Did>) -> Option<Queued> {
+    let Item {
+        clause,
+        section,
+        ..
+    } = *item?;
+    match did?.step {
         Step::Moved { .. } => Some(Queued {
             section,
-            out: matches!(item.clause, UpdateClause::ToSelf),
+            out: matches!(clause, UpdateClause::ToSelf),
         }),
         _ => None,
     }
@@ -157,12 +172,7 @@ impl Queue {
         page.text(" waits to copy ");
         let waiting = self.waiting();
         let shown = waiting.get(..COPY_LIMIT).unwrap_or(waiting);
-        let mut before = "";
-        for copy in shown {
-            page.text(before);
-            copy.put(page, alloc, names);
-            before = ", ";
-        }
+        put_copies(page, alloc, names, shown);
         self.put_rest(page, shown.len() as u64);
         close_text(page);
     }
@@ -188,5 +198,14 @@ impl Queued {
     fn put(self, page: &mut Page, alloc: Global, names: &Names) {
         put_short_name(page, alloc, names, self.section);
         page.text(if self.out { " to host" } else { " to device" });
+    }
+}
+
+fn put_copies(page: &mut Page, alloc: Global, names: &Names, copies: &[Queued]) {
+    let mut before = "";
+    for copy in copies {
+        page.text(before);
+        copy.put(page, alloc, names);
+        before = ", ";
     }
 }

@@ -51,7 +51,8 @@ enum {
     LW_NO_LEASE = 17,      /* no lease of that number is out: there was none, or it was spent; value: the number */
     LW_NO_DEVICE = 22,     /* there is no such device; value: its number. No call here names one, so none answers it */
     LW_ENDED = 32,         /* the handle has no table: none was made, or it was ended */
-    LW_BAD_CLAUSE = 33,    /* the clause number of an item is none of the directive's; item */
+    LW_BAD_CLAUSE = 33,    /* the clause number of an item is none of the directive's; item. It is told before all else
+                              that a table refuses */
     LW_BAD_LENGTH = 34,    /* a buffer is too short, or not as long as a lease; value: the length that is wanted */
     LW_ABSENT = 35         /* there is no such thing: nothing is mapped there, or no refusal has that status */
 };
@@ -192,7 +193,8 @@ uint32_t lw_lease_read(lw_table *table, uint64_t lease, uint8_t *bytes, size_t l
 /* Writes the bytes of a lease, as the kernel leaves them. LW_BAD_LENGTH as above. It is no event. */
 uint32_t lw_lease_write(lw_table *table, uint64_t lease, const uint8_t *bytes, size_t len, lw_fault *fault);
 
-/* Brings a lease back: the device has its bytes again, as they were last written. A lease that is refused stays. */
+/* Brings a lease back: the device has its bytes again, as they were last written. A lease that is refused stays.
+   LW_NO_LEASE is told before all else. */
 uint32_t lw_gather(lw_table *table, uint64_t lease, lw_fault *fault);
 
 /* ---- Queries ---- */

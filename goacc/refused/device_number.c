@@ -3,6 +3,6 @@
 
 int main(void)
 {
-    acc_set_device_num(3, acc_device_default);
+    acc_set_device_num(4, acc_device_default);
     return 0;
 }

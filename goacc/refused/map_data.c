@@ -1,10 +1,10 @@
-/* A routine that is not served. */
+/* acc_map_data of what acc_malloc did not give. */
 #include <openacc.h>
 
 int main(void)
 {
-    char a[16];
+    char a[16], b[16];
 
-    acc_map_data(a, acc_malloc(sizeof a), sizeof a);
+    acc_map_data(a, acc_copyin(b, sizeof b), sizeof a);
     return 0;
 }

@@ -1,8 +1,8 @@
-/* An array at no address. */
-int main(int argc, char **argv)
-{
-    char *a = argc > 5 ? argv[0] : 0;
+/* acc_copyin of no array. */
+#include <openacc.h>
 
-#pragma acc enter data copyin(a[0:16])
+int main(void)
+{
+    acc_copyin(0, 16);
     return 0;
 }

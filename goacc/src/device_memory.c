@@ -5,14 +5,24 @@
 
 #include "inner.h"
 
+/* A block of acc_malloc has no byte of the program: in place of the program's address it has the device's. */
+static bool is_of_program(const lwa_block *block)
+{
+    return block != NULL && block->at != block->device;
+}
+
 LWA_EXPORT void *acc_deviceptr(void *at)
 {
     void *found = at;
+    lwa_block *block;
 
     lwa_take("acc_deviceptr", LWA_FROM);
     if (lwa_is_for_table()) {
-        found = (void *)lwa_device_of((uintptr_t)at);
-        lwa_lend_all();
+        block = lwa_meets((uintptr_t)at, 1);
+        found = NULL;
+        if (is_of_program(block)) {
+            found = (void *)lwa_device_of(block, (uintptr_t)at);
+        }
     }
     lwa_leave();
     return found;
@@ -20,134 +30,172 @@ LWA_EXPORT void *acc_deviceptr(void *at)
 
 LWA_EXPORT void *acc_hostptr(void *address)
 {
-    lw_mapped_range range;
     void *found = address;
-    uint64_t place;
+    uintptr_t at;
 
     lwa_take("acc_hostptr", LWA_FROM);
     if (lwa_is_for_table()) {
-        place = lwa_place_of((uintptr_t)address);
-        found = lwa_range_at(place, &range) ? (void *)lwa_untold(range.start + (place - range.place)) : NULL;
+        found = is_of_program(lwa_on_device((uintptr_t)address, &at)) ? (void *)at : NULL;
     }
     lwa_leave();
     return found;
 }
 
-/* A directive of one item that no byte of the program lies in. */
-static bool call_for_block(lwa_way way, uint32_t clause, uint64_t told, size_t len, bool may_be_refused)
+/* A directive of one item on the memory of acc_malloc. No: there is no room on the device. */
+static bool direct(lwa_way way, uint32_t clause, void *memory, size_t len)
 {
-    lwa_directive directive = {.way = way, .queue = LW_NO_QUEUE_GIVEN};
-    bool done;
+    lwa_directive directive = {.way = way, .queue = LW_NO_QUEUE_GIVEN, .may_be_full = true,
+                               .option = way == LWA_EXIT_DATA};
 
-    lwa_add_item(&directive.items, clause, told, len);
-    directive.items.at[0].told = (lw_item){clause, told, len, 0};
-    done = lwa_call(&directive, may_be_refused);
-    lwa_drop_items(&directive.items);
-    return done;
+    directive.device = (uintptr_t)memory;
+    lwa_add_item(&directive.items, clause, (uintptr_t)memory, len);
+    return lwa_direct(&directive);
 }
 
-/* A block of no bytes of the program is mapped to table addresses that no object has. */
+/* The memory is this process's own, so the program has no array there. */
 LWA_EXPORT void *acc_malloc(size_t len)
 {
-    uint64_t told, place = 0;
+    void *memory;
 
     if (!lwa_is_for_table()) {
         return malloc(len);
     }
     lwa_take("acc_malloc", LWA_FROM);
-    told = len != 0 ? lwa_reserve(len) : 0;
-    if (told != 0 && call_for_block(LWA_ENTER_DATA, LW_CREATE, told, len, true)) {
-        lw_device_address(&lwa_table, told, &place);
-    } else if (told != 0) {
-        lwa_unreserve(told);
+    memory = len != 0 && len <= lwa_limits.device ? aligned_alloc(64, (len + 63) / 64 * 64) : NULL;
+    if (memory != NULL && !direct(LWA_ENTER_DATA, LW_CREATE, memory, len)) {
+        free(memory);
+        memory = NULL;
     }
-    lwa_lend_all();
     lwa_leave();
-    return place != 0 ? (void *)lwa_arena_of(place) : NULL;
+    return memory;
 }
 
-static void free_block(uint64_t place, void *address)
+static bool has_part(const lwa_block *block, uintptr_t device, size_t len)
 {
-    lw_mapped_range range;
+    const lwa_block *part = block->parts;
 
-    if (!lwa_range_at(place, &range) || range.place != place || lwa_untold(range.start) != 0) {
-        lwa_unserved("%p is not an address that acc_malloc gave", address);
+    while (part != NULL && (!part->mapped || part->device + part->len <= device || device + len <= part->device)) {
+        part = part->next;
     }
-    call_for_block(LWA_EXIT_DATA, LW_DELETE, range.start, range.len, false);
-    lwa_unreserve(range.start);
+    return part != NULL;
+}
+
+/* Its counters end, but for that of a region, which may hold what was mapped of it. */
+static void free_block(void *address)
+{
+    lw_counters_of counters = {0, 0};
+    uintptr_t at;
+    const lwa_block *block = lwa_on_device((uintptr_t)address, &at);
+
+    if (block == NULL || is_of_program(block) || block->device != (uintptr_t)address
+        || has_part(block, block->device, block->len)) {
+        lwa_unserved("%p is not an address that acc_malloc gave, or some of it is mapped", address);
+    }
+    lw_counters(lwa_table(), block->told, block->len, &counters);
+    if (counters.structured != 0) {
+        lwa_unserved("a data region holds the memory at %p", address);
+    }
+    direct(LWA_EXIT_DATA, LW_DELETE, address, block->len);
+    free(address);
 }
 
 LWA_EXPORT void acc_free(void *address)
 {
-    uint64_t place;
+    uintptr_t at;
 
     lwa_take("acc_free", LWA_FROM);
-    place = lwa_place_of((uintptr_t)address);
-    if (place == 0 && !lwa_is_for_table()) {
+    if (!lwa_is_for_table() && lwa_on_device((uintptr_t)address, &at) == NULL) {
         free(address);
     } else if (address != NULL) {
-        free_block(place, address);
+        free_block(address);
     }
     lwa_leave();
 }
 
-static void to_device(const char *name, void *from, void *to, void *bytes, size_t len, int async)
+/* The bytes that a block of the device has, and no kernel. */
+static void *bytes_at(uintptr_t address, size_t len)
 {
-    lwa_take(name, from);
-    if (!lwa_is_for_table()) {
-        memmove(to, bytes, len);
-    } else {
-        if (lwa_queue(async) != LW_NO_QUEUE_GIVEN) {
-            lwa_wait(lwa_queue(async));
+    lwa_block *block;
+    uintptr_t at;
+
+    do {
+        block = lwa_on_device(address, &at);
+        if (block == NULL || !lwa_has(block, at, len)) {
+            lwa_unserved("the %zu bytes at %#zx are in no one block of the device", len, (size_t)address);
         }
-        lwa_device_write((uintptr_t)to, bytes, len);
-    }
-    lwa_leave();
+    } while (lwa_is_lent(block->root->kernels != 0 ? LW_LENT : LW_DONE));
+    return block->bytes + (at - block->at);
 }
 
-static void from_device(const char *name, void *from, void *to, void *address, size_t len, int async)
+/* Copies bytes to the device, or from it. What waits in the queue is made before. */
+static void copy(const char *name, void *from, void *to, void *at, size_t len, int async, bool out)
 {
     lwa_take(name, from);
-    if (!lwa_is_for_table()) {
-        memmove(to, address, len);
-    } else {
-        if (lwa_queue(async) != LW_NO_QUEUE_GIVEN) {
-            lwa_wait(lwa_queue(async));
+    if (lwa_is_for_table() && lwa_queue(async) != LW_NO_QUEUE_GIVEN) {
+        lwa_wait(lwa_queue(async));
+    }
+    if (len != 0) {
+        if (lwa_is_for_table()) {
+            *(out ? &at : &to) = bytes_at((uintptr_t)(out ? at : to), len);
+            lwa_want_memory((uintptr_t)(out ? to : at), len);
         }
-        lwa_device_read((uintptr_t)address, to, len);
+        memmove(to, at, len);
     }
     lwa_leave();
 }
 
 LWA_EXPORT void acc_memcpy_to_device(void *to, void *bytes, size_t len)
 {
-    to_device("acc_memcpy_to_device", LWA_FROM, to, bytes, len, LWA_NO_ASYNC);
+    copy("acc_memcpy_to_device", LWA_FROM, to, bytes, len, acc_async_sync, false);
 }
 
 LWA_EXPORT void acc_memcpy_to_device_async(void *to, void *bytes, size_t len, int async)
 {
-    to_device("acc_memcpy_to_device_async", LWA_FROM, to, bytes, len, async);
+    copy("acc_memcpy_to_device_async", LWA_FROM, to, bytes, len, async, false);
 }
 
 LWA_EXPORT void acc_memcpy_from_device(void *to, void *address, size_t len)
 {
-    from_device("acc_memcpy_from_device", LWA_FROM, to, address, len, LWA_NO_ASYNC);
+    copy("acc_memcpy_from_device", LWA_FROM, to, address, len, acc_async_sync, true);
 }
 
 LWA_EXPORT void acc_memcpy_from_device_async(void *to, void *address, size_t len, int async)
 {
-    from_device("acc_memcpy_from_device_async", LWA_FROM, to, address, len, async);
+    copy("acc_memcpy_from_device_async", LWA_FROM, to, address, len, async, true);
 }
 
-/* A block of the table has its bytes from one place alone, so another's cannot be mapped. */
+/* Some of a block of acc_malloc is mapped to the program's bytes, or is so no more. The counters stay. */
 LWA_EXPORT void acc_map_data(void *at, void *address, size_t len)
 {
+    lwa_block *block;
+    uintptr_t start;
+
     lwa_take("acc_map_data", LWA_FROM);
-    lwa_unserved("this routine is not served (%p, %p, %zu)", at, address, len);
+    if (lwa_is_for_table()) {
+        block = lwa_on_device((uintptr_t)address, &start);
+        if (len == 0 || block == NULL || is_of_program(block) || !lwa_has(block, start, len)
+            || has_part(block, start, len)) {
+            lwa_unserved("the %zu bytes at %p are not what acc_malloc gave, or are mapped already", len, address);
+        }
+        if (at == NULL || lwa_meets((uintptr_t)at, len) != NULL) {
+            lwa_unserved("some of the %zu bytes at %p are mapped already, or it is a null pointer", len, at);
+        }
+        lwa_map_part(block, (uintptr_t)at, len, start);
+    }
+    lwa_leave();
 }
 
 LWA_EXPORT void acc_unmap_data(void *at)
 {
+    lwa_block *block;
+
     lwa_take("acc_unmap_data", LWA_FROM);
-    lwa_unserved("this routine is not served (%p)", at);
+    if (lwa_is_for_table()) {
+        block = lwa_meets((uintptr_t)at, 1);
+        if (block == NULL || !block->part || block->at != (uintptr_t)at) {
+            lwa_unserved("%p is not an address that acc_map_data has mapped", at);
+        }
+        lwa_ended(block);
+    }
+    lwa_leave();
 }

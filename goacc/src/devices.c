@@ -1,172 +1,226 @@
 /* The routines of devices and of queues (OpenACC 3.3, section 3.2), as GCC 12's openacc.h has them. */
+#include <stdlib.h>
+#include <strings.h>
+
 #include "inner.h"
 
-/* The numbers of openacc.h. */
-enum { DEVICE_CURRENT = -1, DEVICE_NONE = 0, DEVICE_DEFAULT = 1, DEVICE_HOST = 2, DEVICE_NOT_HOST = 4 };
-enum {
-    PROPERTY_MEMORY = 1,
-    PROPERTY_FREE_MEMORY = 2,
-    PROPERTY_NAME = 0x10001,
-    PROPERTY_VENDOR = 0x10002,
-    PROPERTY_DRIVER = 0x10003
-};
+/* What the directives of this thread are for, and whether acc_init is about to say it. */
+static _Thread_local struct {
+    enum { BY_ENVIRONMENT, HOST, TABLE } kind;
+    unsigned device;
+    bool begins;
+} chosen;
 
-#define QUEUES 16
+static void choose_by_environment(void)
+{
+    if (chosen.kind == BY_ENVIRONMENT) {
+        const char *type = getenv("ACC_DEVICE_TYPE"), *number = getenv("ACC_DEVICE_NUM");
 
-/* async without a number. */
-#define ASYNC_WITHOUT_NUMBER (-1)
-
-/* The device that the directives of this thread are for is the host, which shares its memory. */
-static _Thread_local bool host_chosen;
+        chosen.kind = type != NULL && strcasecmp(type, "host") == 0 ? HOST : TABLE;
+        chosen.device = number != NULL ? (unsigned)strtoul(number, NULL, 10) : 0;
+    }
+}
 
 bool lwa_is_for_table(void)
 {
-    return !host_chosen;
+    choose_by_environment();
+    return chosen.kind == TABLE;
+}
+
+unsigned lwa_chosen_device(void)
+{
+    choose_by_environment();
+    return chosen.device;
 }
 
 /* ---- Devices ---- */
 
-static bool is_table_type(int type)
+static bool is_table_type(acc_device_t type)
 {
-    return type == DEVICE_DEFAULT || type == DEVICE_NOT_HOST || (type == DEVICE_CURRENT && lwa_is_for_table());
+    return type == acc_device_default || type == acc_device_not_host
+        || (type == acc_device_current && lwa_is_for_table());
 }
 
-static bool is_host_type(int type)
+static bool is_host_type(acc_device_t type)
 {
-    return type == DEVICE_HOST || (type == DEVICE_CURRENT && !lwa_is_for_table());
+    return type == acc_device_host || (type == acc_device_current && !lwa_is_for_table());
 }
 
-static void want_type(int type)
+static bool is_device(int number, acc_device_t type)
 {
-    if (!is_table_type(type) && !is_host_type(type)) {
+    return number >= 0 && number < acc_get_num_devices(type);
+}
+
+/* A device that there is. */
+static void want(int number, acc_device_t type)
+{
+    if (acc_get_num_devices(type) == 0) {
         lwa_unserved("there is no device of the type %d", type);
+    }
+    if (!is_device(number, type)) {
+        lwa_unserved("there is no device of the number %d; the last one is %d", number, acc_get_num_devices(type) - 1);
     }
 }
 
-LWA_EXPORT void acc_init(int type)
+static void choose(const char *name, void *from, int event, int number, acc_device_t type)
 {
-    lwa_take("acc_init", LWA_FROM);
-    want_type(type);
+    lwa_take_for(name, from, event, acc_construct_runtime_api);
+    want(number, type);
+    choose_by_environment();
+    chosen.kind = is_host_type(type) ? HOST : TABLE;
+    chosen.device = chosen.kind == TABLE ? (unsigned)number : chosen.device;
     lwa_leave();
 }
 
-LWA_EXPORT void acc_shutdown(int type)
+LWA_EXPORT void acc_init(acc_device_t type)
+{
+    chosen.begins = true;
+    choose("acc_init", LWA_FROM, acc_ev_device_init_start, 0, type);
+    chosen.begins = false;
+}
+
+static void want_no_region(void)
 {
     uint64_t regions = 0;
 
-    lwa_take("acc_shutdown", LWA_FROM);
-    want_type(type);
+    lw_regions(lwa_table(), &regions);
+    if (regions != 0) {
+        lwa_unserved("%llu data regions are open", (unsigned long long)regions);
+    }
+}
+
+LWA_EXPORT void acc_shutdown(acc_device_t type)
+{
+    lwa_take_for("acc_shutdown", LWA_FROM, acc_ev_device_shutdown_start, acc_construct_runtime_api);
+    want(0, type);
     if (is_table_type(type)) {
-        lw_regions(&lwa_table, &regions);
-        if (regions != 0) {
-            lwa_unserved("%llu data regions are open", (unsigned long long)regions);
-        }
-        lwa_end_table();
+        lwa_each_device(want_no_region);
+        lwa_each_device(lwa_end_table);
     }
     lwa_leave();
 }
 
-LWA_EXPORT int acc_get_num_devices(int type)
+LWA_EXPORT int acc_get_num_devices(acc_device_t type)
 {
-    return is_table_type(type) || is_host_type(type);
+    return is_table_type(type) ? LWA_DEVICES : is_host_type(type);
 }
 
-LWA_EXPORT void acc_set_device_type(int type)
+LWA_EXPORT void acc_set_device_type(acc_device_t type)
 {
-    lwa_take("acc_set_device_type", LWA_FROM);
-    want_type(type);
-    host_chosen = is_host_type(type);
-    lwa_leave();
+    choose("acc_set_device_type", LWA_FROM, acc_ev_none, 0, type);
 }
 
-LWA_EXPORT int acc_get_device_type(void)
+LWA_EXPORT acc_device_t acc_get_device_type(void)
 {
-    return lwa_is_for_table() ? DEVICE_NOT_HOST : DEVICE_HOST;
+    return chosen.begins ? acc_device_none : lwa_is_for_table() ? acc_device_not_host : acc_device_host;
 }
 
-LWA_EXPORT void acc_set_device_num(int number, int type)
+/* A type of 0 stands for all. */
+LWA_EXPORT void acc_set_device_num(int number, acc_device_t type)
 {
-    lwa_take("acc_set_device_num", LWA_FROM);
-    want_type(type);
-    if (number != 0) {
-        lwa_unserved("there is no device of the number %d; there is device 0", number);
-    }
-    host_chosen = is_host_type(type);
-    lwa_leave();
+    choose("acc_set_device_num", LWA_FROM, acc_ev_none, number, type != acc_device_none ? type : acc_device_current);
 }
 
-LWA_EXPORT int acc_get_device_num(int type)
+LWA_EXPORT int acc_get_device_num(acc_device_t type)
 {
     lwa_take("acc_get_device_num", LWA_FROM);
-    want_type(type);
+    want(0, type);
     lwa_leave();
-    return 0;
+    return is_table_type(type) ? (int)lwa_chosen_device() : 0;
 }
 
-LWA_EXPORT size_t acc_get_property(int number, int type, int property)
+LWA_EXPORT size_t acc_get_property(int number, acc_device_t type, acc_device_property_t property)
 {
     uint64_t used = 0;
     size_t answer = 0;
 
     lwa_take("acc_get_property", LWA_FROM);
-    want_type(type);
-    if (number == 0 && is_table_type(type)) {
-        lw_used(&lwa_table, &used);
-        answer = property == PROPERTY_MEMORY ? lwa_limits.device
-               : property == PROPERTY_FREE_MEMORY ? lwa_limits.device - used : 0;
+    if (is_device(number, type) && is_table_type(type)) {
+        lwa_go_to((unsigned)number);
+        lw_used(lwa_table(), &used);
+        answer = property == acc_property_memory ? lwa_limits.device
+               : property == acc_property_free_memory ? lwa_limits.device - used : 0;
     }
     lwa_leave();
     return answer;
 }
 
-LWA_EXPORT const char *acc_get_property_string(int number, int type, int property)
+LWA_EXPORT const char *acc_get_property_string(int number, acc_device_t type, acc_device_property_t property)
 {
-    if (number != 0 || !is_table_type(type)) {
+    if (!is_device(number, type)) {
         return NULL;
     }
     switch (property) {
-    case PROPERTY_NAME: return "Lamwiest's table";
-    case PROPERTY_VENDOR: return "Lamwiest";
-    case PROPERTY_DRIVER: return "liblamwiest_acc";
+    case acc_property_name: return is_table_type(type) ? "Lamwiest's table" : "the host";
+    case acc_property_vendor: return "Lamwiest";
+    case acc_property_driver: return "liblamwiest_acc";
     default: return NULL;
     }
 }
 
 /* Where gcc has not answered it itself: code of the host asks, since a kernel runs there. */
-LWA_EXPORT int acc_on_device(int type)
+LWA_EXPORT int acc_on_device(acc_device_t type)
 {
-    return type == DEVICE_HOST || type == DEVICE_NONE;
+    return type == acc_device_host || type == acc_device_none;
 }
 
 /* ---- Queues ---- */
 
-uint64_t lwa_queue(int async)
+/* The number of async that each queue of a device was first named by, and one more; 0 for none. */
+static unsigned named[LWA_DEVICES][LWA_QUEUES];
+
+static unsigned number_of(int async)
 {
-    if (async == ASYNC_WITHOUT_NUMBER) {
-        return 0;
-    }
-    if (async < LWA_NO_ASYNC) {
+    if (async < acc_async_sync) {
         lwa_unserved("async has the number %d, which names no queue", async);
     }
-    return async == LWA_NO_ASYNC ? LW_NO_QUEUE_GIVEN : (uint64_t)async;
+    return async == acc_async_noval ? 0 : (unsigned)async;
+}
+
+uint64_t lwa_queue_of(int async)
+{
+    const unsigned number = async == acc_async_sync ? 0 : number_of(async);
+    bool all = true;
+
+    for (uint64_t queue = 0; async != acc_async_sync && queue < LWA_QUEUES; queue++) {
+        if (named[lwa_on][queue] == number + 1) {
+            return queue;
+        }
+        all &= named[lwa_on][queue] != 0;
+    }
+    return async != acc_async_sync && all ? number % LWA_QUEUES : LW_NO_QUEUE_GIVEN;
+}
+
+/* The first sixteen numbers have a queue each, that of their own number where it is free; the others share them. */
+uint64_t lwa_queue(int async)
+{
+    uint64_t queue = lwa_queue_of(async);
+
+    if (queue == LW_NO_QUEUE_GIVEN && async != acc_async_sync) {
+        queue = number_of(async) % LWA_QUEUES;
+        while (named[lwa_on][queue] != 0) {
+            queue = (queue + 1) % LWA_QUEUES;
+        }
+        named[lwa_on][queue] = number_of(async) + 1;
+    }
+    return queue;
 }
 
 static int test_queue(uint64_t queue)
 {
-    uint64_t len = 0;
-
-    lw_queue_len(&lwa_table, queue, &len);
-    return len == 0 || lwa_step(queue);
+    return !lwa_step(queue) || lwa_queue_len(queue) == 0;
 }
 
 /* Each test makes the next copy, so that a program that only asks comes to an end. */
 LWA_EXPORT int acc_async_test(int async)
 {
+    uint64_t queue;
     int done = 1;
 
     lwa_take("acc_async_test", LWA_FROM);
-    if (lwa_is_for_table() && lwa_queue(async) != LW_NO_QUEUE_GIVEN) {
-        done = test_queue(lwa_queue(async));
+    queue = lwa_queue_of(async);
+    if (lwa_is_for_table() && queue != LW_NO_QUEUE_GIVEN) {
+        done = test_queue(queue);
     }
     lwa_leave();
     return done;
@@ -177,18 +231,18 @@ LWA_EXPORT int acc_async_test_all(void)
     int done = 1;
 
     lwa_take("acc_async_test_all", LWA_FROM);
-    for (uint64_t queue = 0; lwa_is_for_table() && queue < QUEUES; queue++) {
+    for (uint64_t queue = 0; lwa_is_for_table() && queue < LWA_QUEUES; queue++) {
         done &= test_queue(queue);
     }
     lwa_leave();
     return done;
 }
 
-static void wait_for(const char *name, void *from, int async, bool all)
+static void wait_for(const char *name, void *from, int async, bool every)
 {
-    lwa_take(name, from);
-    if (lwa_is_for_table() && (all || lwa_queue(async) != LW_NO_QUEUE_GIVEN)) {
-        lwa_wait(all ? LW_NO_QUEUE_GIVEN : lwa_queue(async));
+    lwa_take_for(name, from, acc_ev_wait_start, acc_construct_runtime_api);
+    if (lwa_is_for_table() && (every || lwa_queue_of(async) != LW_NO_QUEUE_GIVEN)) {
+        lwa_wait(every ? LW_NO_QUEUE_GIVEN : lwa_queue_of(async));
     }
     lwa_leave();
 }

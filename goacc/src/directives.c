@@ -1,308 +1,307 @@
 /*
- * Directives: the bytes before and after, and the call of the table that decides.
- *
- * What a directive will do is not known before it is done. So what it may copy in is written to the table before it,
- * and what it may have copied out is read after it. Where a part alone may be copied out, the program's bytes of all
- * are written before, and so stay as they are.
+ * Directives: for each item the call of the table that decides, and what follows from what did.c tells of it.
  */
 #include <stdlib.h>
 #include <string.h>
 
 #include "inner.h"
 
-/* ---- What a directive may do ---- */
+/* ---- What the table is told ---- */
 
-static bool copies_in(uint32_t clause)
+bool lwa_copies_in(uint32_t clause)
 {
     return clause == LW_COPY || clause == LW_COPYIN;
 }
 
-static bool copies_out(uint32_t clause)
+bool lwa_copies_out(uint32_t clause)
 {
     return clause == LW_COPY || clause == LW_COPYOUT || clause == LW_COPYOUT_ZERO;
 }
 
-/* Whether no other item is in the same object: then what becomes of its mapping is its own doing. */
-static bool is_alone(const lwa_items *items, size_t of)
+bool lwa_enters(const lwa_directive *d)
 {
-    for (size_t i = 0; items->count > 1 && i < items->count; i++) {
-        if (i != of && items->at[i].len != 0 && lwa_first_of(items->at[i].at) == lwa_first_of(items->at[of].at)) {
-            return false;
+    return d->way == LWA_DATA || d->way == LWA_ENTER_DATA;
+}
+
+/* Whether an item maps its section where that is absent. */
+static bool may_map(const lwa_directive *d, const lwa_item *item)
+{
+    return lwa_enters(d) && item->clause != LW_NO_CREATE && item->clause != LW_PRESENT;
+}
+
+/* A section that is absent is told at new table addresses where it is to be mapped, and else with one address that is
+   never mapped. A section that is partly present is told so: with an address of a block, and the one before it. */
+static void tell_section(const lwa_directive *d, lwa_item *item)
+{
+    lwa_block *met = lwa_meets(item->at, item->len);
+    const bool maps = met == NULL && may_map(d, item);
+
+    if (item->len > UINTPTR_MAX - item->at
+        || (maps && lwa_copies_in(item->clause) && !lwa_is_memory(item->at, item->len))) {
+        item->told.start = lwa_outside();
+        item->told.len = item->len;
+    } else if (maps) {
+        item->taken = true;
+        item->told.start = lwa_take_addresses(item->at, item->len);
+        item->told.len = item->len;
+    } else if (met == NULL) {
+        item->told.start = LWA_NOWHERE;
+        item->told.len = 1;
+    } else if (!lwa_has(met, item->at, item->len)) {
+        item->told.start = met->told - 1;
+        item->told.len = 2;
+    } else {
+        item->block = met;
+        item->told.start = met->told + (item->at - met->at);
+        item->told.len = item->len;
+    }
+}
+
+bool lwa_is_pointer(const lwa_item *item)
+{
+    return item->clause == LW_ATTACH || item->clause == LW_DETACH;
+}
+
+static void tell(const lwa_directive *d, lwa_item *item)
+{
+    item->told = (lw_item){item->clause, LW_HOST_BASE, 0, 0};
+    item->block = NULL;
+    if (lwa_is_pointer(item)) {
+        item->told.start = lwa_told_pointer(item);
+        return;
+    }
+    if (item->len != 0) {
+        tell_section(d, item);
+    }
+    if (item->pointer != 0) {
+        item->told.pointer = lwa_told_pointer(item);
+    }
+}
+
+/* ---- After the call ---- */
+
+/* The bytes of a block to which nothing was copied. */
+#define NEW_BYTE 0xa5
+
+static void note(const lwa_item *item, int first, int second)
+{
+    lwa_note(first, item->block, item->at, item->len);
+    lwa_note(second, item->block, item->at, item->len);
+}
+
+/* Does what the table has told. */
+static void after(const lwa_directive *d, lwa_item *item, const lwa_did *did)
+{
+    if (did->step == LWA_BORN) {
+        item->taken = false;
+        item->block = lwa_born(item->at, item->len, item->told.start, d->device);
+        if (!did->copied || d->queue != LW_NO_QUEUE_GIVEN) {
+            memset(item->block->bytes, NEW_BYTE, item->len);
+        }
+        note(item, acc_ev_alloc, acc_ev_create);
+    }
+    if (did->copied) {
+        note(item, did->out ? acc_ev_enqueue_download_start : acc_ev_enqueue_upload_start,
+             did->out ? acc_ev_enqueue_download_end : acc_ev_enqueue_upload_end);
+        if (d->queue != LW_NO_QUEUE_GIVEN) {
+            lwa_put_waiting(d->queue, item->block, item->at, item->len, did->out);
+        } else {
+            lwa_copy(item->block, item->at, item->len, did->out);
         }
     }
-    return true;
-}
-
-/* Whether the directive may end the mapping of an item: where it is alone, its counters tell. */
-static bool may_end(const lwa_directive *d, const lwa_item *item)
-{
-    const lw_counters_of *counters = &item->counters;
-
-    if (!item->alone) {
-        return true;
-    }
-    if (d->way == LWA_END_DATA) {
-        return counters->dynamic == 0 && counters->structured <= 1;
-    }
-    return counters->structured == 0 && (d->option || counters->dynamic <= 1);
-}
-
-/* Whether the table knows all bytes of the item: not of one that it will refuse. */
-static bool is_told(const lwa_item *item)
-{
-    return item->len != 0 && item->told.len == item->len && item->told.start + item->len <= lwa_outside();
-}
-
-/* Whether the directive may copy bytes of an item. */
-static bool may_copy(const lwa_directive *d, const lwa_item *item)
-{
-    if (!is_told(item)) {
-        return false;
-    }
-    switch (d->way) {
-    case LWA_DATA:
-    case LWA_ENTER_DATA: return copies_in(item->clause) && !item->before;
-    case LWA_EXIT_DATA:
-    case LWA_END_DATA: return copies_out(item->clause) && item->before && may_end(d, item);
-    case LWA_UPDATE: return item->before;
-    }
-    return false;
-}
-
-/* Whether what the directive copies of an item goes to the program. */
-static bool goes_out(const lwa_directive *d, const lwa_item *item)
-{
-    return d->way == LWA_UPDATE ? item->clause == LW_SELF : d->way == LWA_EXIT_DATA || d->way == LWA_END_DATA;
+    lwa_aimed(item, did);
 }
 
 /* ---- The call ---- */
 
-/* The items as the table wants them, until the next directive. */
-static const lw_item *told_items(const lwa_items *items)
+/* The most items of one directive of the table. */
+#define MOST_ITEMS 64
+
+static uint32_t ask(const lwa_directive *d, size_t first, size_t end, lw_fault *fault)
 {
-    static lw_item *told;
-    static size_t room;
+    static lw_item told[MOST_ITEMS];
+    lwa_item *items = d->items.at;
+    uint32_t status;
 
-    if (items->count > room) {
-        room = items->count;
-        told = lwa_memory(told, room * sizeof *told);
+    for (size_t i = first; i < end && d->way != LWA_END_DATA; i++) {
+        told[i - first] = items[i].told;
     }
-    for (size_t i = 0; i < items->count; i++) {
-        told[i] = items->at[i].told;
-    }
-    return told;
-}
-
-static uint32_t ask(lwa_directive *d, lw_fault *fault)
-{
-    const lw_item *told = told_items(&d->items);
-    const size_t count = d->items.count;
-
     lwa_room();
     switch (d->way) {
-    case LWA_DATA: return lw_enter(&lwa_table, told, count, &d->region, fault);
-    case LWA_END_DATA: return lw_exit(&lwa_table, d->region, fault);
-    case LWA_ENTER_DATA: return lw_enter_data(&lwa_table, told, count, d->queue, fault);
-    case LWA_EXIT_DATA: return lw_exit_data(&lwa_table, told, count, d->option, d->queue, fault);
-    case LWA_UPDATE: return lw_update(&lwa_table, told, count, d->option, d->queue, fault);
+    case LWA_DATA:
+        status = lw_enter(lwa_table(), told, end - first, &items[first].region, fault);
+        for (size_t i = first + 1; i < end; i++) {
+            items[i].region = items[first].region;
+        }
+        return status;
+    case LWA_END_DATA: return lw_exit(lwa_table(), items[first].region, fault);
+    case LWA_ENTER_DATA: return lw_enter_data(lwa_table(), told, end - first, d->queue, fault);
+    case LWA_EXIT_DATA: return lw_exit_data(lwa_table(), told, end - first, d->option, d->queue, fault);
+    case LWA_UPDATE: return lw_update(lwa_table(), told, end - first, d->option, d->queue, fault);
     }
     abort();
 }
 
-bool lwa_call(lwa_directive *d, bool may_be_refused)
+/* Whether items are to be told again: a block was lent, or the queue was full, and has room now. */
+static bool is_to_wait(const lwa_directive *d, uint32_t status)
 {
-    lw_fault fault;
+    return lwa_is_lent(status) || (status == LW_QUEUE_FULL && lwa_step(d->queue));
+}
+
+static void give_back(lwa_directive *d, size_t first, size_t end)
+{
+    for (lwa_item *item = d->items.at + first; item < d->items.at + end; item++) {
+        if (item->taken) {
+            lwa_give_addresses(item->told.start, item->len);
+            item->taken = false;
+        }
+    }
+}
+
+static bool has_pointer(const lwa_item *item)
+{
+    return lwa_is_pointer(item) || item->pointer != 0;
+}
+
+/* Whether what one item names, or the block that has it, meets what the other does. */
+static bool meet(const lwa_item *a, const lwa_item *b)
+{
+    const uintptr_t from = a->block != NULL ? a->block->at : a->at, other = b->block != NULL ? b->block->at : b->at;
+    const size_t len = a->block != NULL ? a->block->len : a->len, other_len = b->block != NULL ? b->block->len : b->len;
+
+    return (from < other + other_len && other < from + len)
+        || (a->block != NULL && b->block != NULL && a->block->root == b->block->root);
+}
+
+/* Whether an item can be told with those before it: none names the block of another, or has a pointer. */
+static bool may_join(const lwa_item *first, const lwa_item *item)
+{
+    for (const lwa_item *other = first; other < item; other++) {
+        if (has_pointer(other) || meet(item, other)) {
+            return false;
+        }
+    }
+    return !has_pointer(item);
+}
+
+/* Tells items from one on, and answers the end of those that are told together. */
+static size_t tell_some(lwa_directive *d, size_t first)
+{
+    lwa_item *items = d->items.at;
+    size_t end = first;
+
+    do {
+        tell(d, &items[end]);
+        if (!may_join(&items[first], &items[end]) && end != first) {
+            give_back(d, end, end + 1);
+            return end;
+        }
+        end++;
+    } while (end < d->items.count && end - first < MOST_ITEMS);
+    return end;
+}
+
+static void finish(lwa_directive *d, size_t i)
+{
+    lwa_item *item = &d->items.at[i];
+    const lwa_did did = lwa_what_became(d, item);
+
+    after(d, item, &did);
+    lwa_log_item(d, i, &did);
+    if (did.step == LWA_ENDED) {
+        note(item, acc_ev_delete, acc_ev_free);
+        lwa_ended(item->block->root);
+    }
+}
+
+/* Some items of a directive from one on; those of a region's end are told already. Answers the end of them, or 0 where
+   there was no room on the device. */
+static size_t act(lwa_directive *d, size_t first, size_t end)
+{
     uint32_t status;
+    lw_fault fault;
 
-    lwa_log_before(d);
-    status = ask(d, &fault);
-    if (status != LW_DONE && may_be_refused) {
+    for (bool again = true; again;) {
+        if (d->way != LWA_END_DATA) {
+            end = tell_some(d, first);
+        }
+        for (size_t i = first; i < end; i++) {
+            if (lwa_enters(d)) {
+                lwa_aim(&d->items.at[i]);
+            }
+            lwa_look(&d->items.at[i]);
+        }
+        status = ask(d, first, end, &fault);
+        if (status != LW_DONE) {
+            give_back(d, first, end);
+        }
+        again = is_to_wait(d, status);
+    }
+    fault.item += first;
+    if (status == LW_DEVICE_FULL && d->may_be_full) {
         lwa_log_refused(&fault);
-        return false;
+        return 0;
     }
-    lwa_script_directive(d, status == LW_DONE);
+    lwa_script_items(d, first, end, status == LW_DONE);
     lwa_must(status, &fault);
-    lwa_log_after(d);
-    return true;
+    for (size_t i = first; i < end; i++) {
+        finish(d, d->way == LWA_END_DATA ? first + end - 1 - i : i);
+    }
+    return end;
 }
 
-/* ---- Before and after ---- */
-
-static bool is_mapped(const lwa_item *item)
+/* At the end of a region the last items first, those of one region of the table together. */
+static bool act_on_all(lwa_directive *d)
 {
-    uint64_t present = 0;
+    const lwa_item *items = d->items.at;
+    size_t first = 0, end = d->items.count;
+    bool done = true;
 
-    lw_is_present(&lwa_table, item->told.start, item->told.len, &present);
-    return present != 0;
-}
-
-/* Finds what a directive may do to each of its items. The counters, which take longer, decide where it leaves. */
-static void look_up(lwa_directive *d)
-{
-    const bool leaves = d->way == LWA_EXIT_DATA || d->way == LWA_END_DATA;
-
-    for (size_t i = 0; i < d->items.count; i++) {
-        lwa_item *item = &d->items.at[i];
-        const lw_item *told = &item->told;
-
-        item->before = item->len != 0
-            && (leaves ? lw_counters(&lwa_table, told->start, told->len, &item->counters) == LW_DONE : is_mapped(item));
-        item->alone = is_alone(&d->items, i);
-        item->may_copy = may_copy(d, item);
-    }
-}
-
-/* Finds what the table is told. Bytes that may be copied and cannot be read are outside of its host memory. */
-static void prepare(lwa_directive *d)
-{
-    lwa_place_items(&d->items);
-    look_up(d);
-    for (size_t i = 0; i < d->items.count; i++) {
-        lwa_item *item = &d->items.at[i];
-
-        if (item->may_copy && !lwa_is_memory(item->at, item->len)) {
-            item->told.start = lwa_outside();
-            item->may_copy = false;
+    lwa_log_directive(d);
+    if (d->way == LWA_END_DATA) {
+        for (; end != 0; end = first) {
+            for (first = end - 1; first != 0 && items[first - 1].region == items[first].region; first--) {
+            }
+            act(d, first, end);
+        }
+    } else {
+        for (; first < d->items.count && done; first = end) {
+            end = act(d, first, 0);
+            done = end != 0;
         }
     }
-}
-
-/* Writes the program's bytes of the pointers that an item names, which a detachment reads. */
-static void mirror_named_pointers(const lwa_item *item)
-{
-    if (item->pointer != 0) {
-        lwa_mirror_pointers(item->pointer, LWA_POINTER);
-    }
-    if (item->clause == LW_DETACH || item->clause == LW_ATTACH) {
-        lwa_mirror_pointers(item->at, LWA_POINTER);
-    }
-}
-
-/* Writes what the table reads of the program's bytes. A copy that waits reads them when it is made. */
-static void mirror_before(const lwa_directive *d)
-{
-    for (size_t i = 0; i < d->items.count; i++) {
-        const lwa_item *item = &d->items.at[i];
-
-        if (d->way == LWA_EXIT_DATA || d->way == LWA_END_DATA) {
-            mirror_named_pointers(item);
-        }
-        if (d->queue != LW_NO_QUEUE_GIVEN || !item->may_copy) {
-            continue;
-        }
-        if (goes_out(d, item) && (d->way == LWA_UPDATE || item->alone)) {
-            lwa_mirror_pointers(item->at, item->len);
-        } else {
-            lwa_mirror_in(item->at, item->told.start, item->len);
-        }
-    }
-    if (d->way == LWA_DATA || d->way == LWA_ENTER_DATA) {
-        lwa_aim_pointers(&d->items);
-    }
-}
-
-/* Reads what the table copied to the program's bytes, and keeps the copies that wait. */
-static void mirror_after(const lwa_directive *d)
-{
-    for (size_t i = 0; i < d->items.count; i++) {
-        const lwa_item *item = &d->items.at[i];
-        const bool out = goes_out(d, item);
-
-        if (!item->may_copy) {
-            continue;
-        }
-        if (d->queue != LW_NO_QUEUE_GIVEN) {
-            lwa_put_waiting(d->queue, item, out);
-        } else if (out && (d->way == LWA_UPDATE || !item->alone || !is_mapped(item))) {
-            lwa_mirror_out(item->at, item->told.start, item->len);
-        }
-    }
-}
-
-static void mark_members(const lwa_items *items)
-{
-    for (size_t i = 0; i < items->count; i++) {
-        if (items->at[i].len != 0 && !items->at[i].before) {
-            lwa_mark_members(items->at[i].at, items->at[i].members);
-        }
-    }
+    lwa_log_region(d);
+    return done;
 }
 
 /* ---- Directives ---- */
 
-void lwa_direct(lwa_directive *d)
+bool lwa_direct(lwa_directive *d)
 {
-    prepare(d);
-    mirror_before(d);
-    lwa_call(d, false);
-    mirror_after(d);
-    if (d->way == LWA_ENTER_DATA) {
-        mark_members(&d->items);
-    }
-    lwa_drop_items(&d->items);
+    const bool done = act_on_all(d);
+
+    free(d->items.at);
+    return done;
 }
 
+/* A region of no item is one of an item that does nothing, since a kernel wants one. */
 lwa_region *lwa_enter(lwa_directive *d)
 {
     lwa_region *region = lwa_memory(NULL, sizeof *region);
 
     d->queue = LW_NO_QUEUE_GIVEN;
-    prepare(d);
-    mirror_before(d);
-    lwa_call(d, false);
-    mark_members(&d->items);
-    *region = (lwa_region){NULL, true, *d};
+    if (d->items.count == 0) {
+        lwa_add_item(&d->items, LW_CREATE, 0, 0);
+    }
+    act_on_all(d);
+    *region = (lwa_region){.in_table = true, .directive = *d};
     region->directive.way = LWA_END_DATA;
     return region;
 }
 
 void lwa_exit(lwa_region *region)
 {
-    lwa_directive *d = &region->directive;
-
-    look_up(d);
-    for (size_t i = 0; i < d->items.count; i++) {
-        if (d->items.at[i].may_copy) {
-            lwa_want_memory(d->items.at[i].at, d->items.at[i].len);
-        }
-    }
-    mirror_before(d);
-    lwa_call(d, false);
-    mirror_after(d);
-    lwa_drop_items(&d->items);
+    act_on_all(&region->directive);
+    free(region->directive.items.at);
     free(region);
-}
-
-void lwa_wait(uint64_t queue)
-{
-    uint64_t made;
-    lw_fault fault;
-    uint32_t status;
-
-    lwa_before_copies(queue);
-    lwa_log_copies("wait", queue);
-    lwa_script_copies("wait", queue);
-    lwa_room();
-    status = lw_wait(&lwa_table, queue, &made, &fault);
-    lwa_must(status, &fault);
-    lwa_after_copies(queue, true);
-    lwa_log_made(queue, made);
-}
-
-bool lwa_step(uint64_t queue)
-{
-    uint64_t made, left = 0;
-    lw_fault fault;
-    uint32_t status;
-
-    lwa_before_copies(queue);
-    lwa_log_copies("step", queue);
-    lwa_script_copies("step", queue);
-    lwa_room();
-    status = lw_step(&lwa_table, queue, &made, &fault);
-    lwa_must(status, &fault);
-    lw_queue_len(&lwa_table, queue, &left);
-    lwa_after_copies(queue, left == 0);
-    lwa_log_made(queue, made);
-    return left == 0;
 }

@@ -15,12 +15,14 @@ enum { TAG_END = 0, TAG_DIMENSIONS = 1, TAG_ASYNC = 2, TAG_WAITS = 3 };
 
 typedef void kernel_function(void *);
 
-/* The innermost open region of this thread. */
-static _Thread_local lwa_region *innermost;
-
-static void wait_for(int queue)
+/* In a list of queues -1 stands for all, and acc_async_sync for none. */
+static void wait_for(int async)
 {
-    lwa_wait(queue < 0 ? LW_NO_QUEUE_GIVEN : (uint64_t)queue);
+    if (async == -1) {
+        lwa_wait(LW_NO_QUEUE_GIVEN);
+    } else if (lwa_queue_of(async) != LW_NO_QUEUE_GIVEN) {
+        lwa_wait(lwa_queue_of(async));
+    }
 }
 
 static bool is_shared(int flags)
@@ -30,8 +32,9 @@ static bool is_shared(int flags)
 
 static void push(lwa_region *region)
 {
-    region->below = innermost;
-    innermost = region;
+    region->below = lwa_innermost();
+    region->device = lwa_on;
+    lwa_set_innermost(region);
 }
 
 /* A region that the table does not know. */
@@ -50,21 +53,20 @@ static bool use_device(const lwa_maps *maps)
 
     for (size_t i = 0; i < maps->count; i++) {
         const unsigned kind = maps->kinds[i] & 0xff;
-        uintptr_t found;
+        lwa_block *block;
 
         if (kind != KIND_USE_DEVICE && kind != KIND_USE_DEVICE_IF_PRESENT) {
             continue;
         }
         some = true;
-        found = lwa_device_of((uintptr_t)maps->at[i]);
-        if (found == 0 && kind == KIND_USE_DEVICE) {
+        block = lwa_meets((uintptr_t)maps->at[i], 1);
+        if (block == NULL && kind == KIND_USE_DEVICE && maps->at[i] != NULL) {
             const lw_fault absent = {LW_NOT_PRESENT, i, 0};
 
             lwa_refuse(&absent);
         }
-        if (found != 0) {
-            lwa_lend_all();
-            maps->at[i] = (void *)found;
+        if (block != NULL) {
+            maps->at[i] = (void *)lwa_device_of(block, (uintptr_t)maps->at[i]);
         }
     }
     return some;
@@ -75,7 +77,7 @@ LWA_EXPORT void GOACC_data_start(int flags, size_t count, void **at, size_t *siz
     const lwa_maps maps = {count, at, sizes, kinds};
     lwa_directive directive;
 
-    lwa_take("data", LWA_FROM);
+    lwa_take_for("data", LWA_FROM, acc_ev_enter_data_start, acc_construct_data);
     if (is_shared(flags) || use_device(&maps)) {
         push(outside_region());
     } else {
@@ -89,13 +91,14 @@ LWA_EXPORT void GOACC_data_end(void)
 {
     lwa_region *region;
 
-    lwa_take("end data", LWA_FROM);
-    region = innermost;
+    lwa_take_for("end data", LWA_FROM, acc_ev_exit_data_start, acc_construct_data);
+    region = lwa_innermost();
     if (region == NULL) {
         lwa_unserved("no data region of this thread is open");
     }
-    innermost = region->below;
+    lwa_set_innermost(region->below);
     if (region->in_table) {
+        lwa_go_to(region->device);
         lwa_exit(region);
     } else {
         free(region);
@@ -111,71 +114,64 @@ static void wait_for_list(int waits, va_list *words)
 }
 
 /* A directive of no region, behind its wait clause. */
-static void direct(const lwa_maps *maps, lwa_way way, int async, int waits, va_list *words)
+static void direct(int flags, const lwa_maps *maps, lwa_way way, int async, int waits, va_list *words)
 {
     lwa_directive directive;
 
-    wait_for_list(waits, words);
-    lwa_read_maps(maps, way, &directive);
-    directive.queue = lwa_queue(async);
-    lwa_direct(&directive);
-}
-
-LWA_EXPORT void GOACC_enter_data(int flags, size_t count, void **at, size_t *sizes, unsigned short *kinds, int async,
-                                 int waits, ...)
-{
-    const lwa_maps maps = {count, at, sizes, kinds};
-    va_list words;
-
-    lwa_take("enter data", LWA_FROM);
-    va_start(words, waits);
     if (!is_shared(flags)) {
-        direct(&maps, LWA_ENTER_DATA, async, waits, &words);
+        wait_for_list(waits, words);
+        lwa_read_maps(maps, way, &directive);
+        directive.queue = lwa_queue(async);
+        lwa_direct(&directive);
     }
-    va_end(words);
     lwa_leave();
 }
 
-LWA_EXPORT void GOACC_exit_data(int flags, size_t count, void **at, size_t *sizes, unsigned short *kinds, int async,
-                                int waits, ...)
-{
-    const lwa_maps maps = {count, at, sizes, kinds};
-    va_list words;
-
-    lwa_take("exit data", LWA_FROM);
-    va_start(words, waits);
-    if (!is_shared(flags)) {
-        direct(&maps, LWA_EXIT_DATA, async, waits, &words);
+#define DIRECTIVE(entry, name, way, event, construct) \
+    LWA_EXPORT void entry(int flags, size_t count, void **at, size_t *sizes, unsigned short *kinds, int async, \
+                          int waits, ...) \
+    { \
+        const lwa_maps maps = {count, at, sizes, kinds}; \
+        va_list words; \
+\
+        lwa_take_for(name, LWA_FROM, event, construct); \
+        va_start(words, waits); \
+        direct(flags, &maps, way, async, waits, &words); \
+        va_end(words); \
     }
-    va_end(words);
-    lwa_leave();
+
+DIRECTIVE(GOACC_enter_data, "enter data", LWA_ENTER_DATA, acc_ev_enter_data_start, acc_construct_enter_data)
+DIRECTIVE(GOACC_exit_data, "exit data", LWA_EXIT_DATA, acc_ev_exit_data_start, acc_construct_exit_data)
+DIRECTIVE(GOACC_update, "update", LWA_UPDATE, acc_ev_update_start, acc_construct_update)
+
+/* What compilers before GCC 12 make of both; which it is stands in the kinds alone. */
+DIRECTIVE(GOACC_enter_exit_data, "enter or exit data", lwa_is_entry(&maps) ? LWA_ENTER_DATA : LWA_EXIT_DATA,
+          lwa_is_entry(&maps) ? acc_ev_enter_data_start : acc_ev_exit_data_start,
+          lwa_is_entry(&maps) ? acc_construct_enter_data : acc_construct_exit_data)
+
+/* One item of declare in a function: its start enters data, and its end exits. present is a region that ends at
+   once. */
+static void declare(const lwa_maps *one)
+{
+    const unsigned kind = one->kinds[0] & 0xff;
+    lwa_directive directive;
+
+    if (kind == KIND_PRESENT) {
+        lwa_read_maps(one, LWA_DATA, &directive);
+        lwa_exit(lwa_enter(&directive));
+    } else if (kind != KIND_DEVICE_POINTER && kind != KIND_POINTER) {
+        lwa_read_maps(one, lwa_is_entry(one) ? LWA_ENTER_DATA : LWA_EXIT_DATA, &directive);
+        lwa_direct(&directive);
+    }
 }
 
-LWA_EXPORT void GOACC_update(int flags, size_t count, void **at, size_t *sizes, unsigned short *kinds, int async,
-                             int waits, ...)
-{
-    const lwa_maps maps = {count, at, sizes, kinds};
-    va_list words;
-
-    lwa_take("update", LWA_FROM);
-    va_start(words, waits);
-    if (!is_shared(flags)) {
-        direct(&maps, LWA_UPDATE, async, waits, &words);
-    }
-    va_end(words);
-    lwa_leave();
-}
-
-/* declare in a function: its start enters data, and its end exits. */
 LWA_EXPORT void GOACC_declare(int flags, size_t count, void **at, size_t *sizes, unsigned short *kinds)
 {
     lwa_take("declare", LWA_FROM);
     for (size_t i = 0; i < count && !is_shared(flags); i++) {
         const lwa_maps one = {1, at + i, sizes + i, kinds + i};
-        lwa_directive directive;
 
-        lwa_read_maps(&one, lwa_is_end(kinds[i] & 0xff) ? LWA_EXIT_DATA : LWA_ENTER_DATA, &directive);
-        lwa_direct(&directive);
+        declare(&one);
     }
     lwa_leave();
 }
@@ -185,7 +181,7 @@ LWA_EXPORT void GOACC_wait(int async, int waits, ...)
     va_list words;
 
     (void)async; /* another queue would go on behind those; here they are made at once, so that it may */
-    lwa_take("wait", LWA_FROM);
+    lwa_take_for("wait", LWA_FROM, acc_ev_wait_start, acc_construct_wait);
     if (lwa_is_for_table()) {
         va_start(words, waits);
         wait_for_list(waits, &words);
@@ -241,19 +237,22 @@ LWA_EXPORT void GOACC_parallel_keyed(int flags, kernel_function *run, size_t cou
     lwa_region *region;
     va_list words;
 
-    lwa_take("compute construct", LWA_FROM);
+    lwa_take_for("compute construct", LWA_FROM, acc_ev_compute_construct_start, acc_construct_parallel);
     if (is_shared(flags)) {
-        lwa_leave();
-        run(at);
-        return;
+        lwa_run_free(run, at, false);
+    } else {
+        va_start(words, kinds);
+        wait_before_kernel(&words);
+        va_end(words);
+        lwa_read_maps(&maps, LWA_DATA, &directive);
+        lwa_note(acc_ev_enter_data_start, NULL, 0, 0);
+        region = lwa_enter(&directive);
+        lwa_note(acc_ev_enter_data_end, NULL, 0, 0);
+        lwa_kernel(run, &maps, region);
+        lwa_note(acc_ev_exit_data_start, NULL, 0, 0);
+        lwa_exit(region);
+        lwa_note(acc_ev_exit_data_end, NULL, 0, 0);
     }
-    va_start(words, kinds);
-    wait_before_kernel(&words);
-    va_end(words);
-    lwa_read_maps(&maps, LWA_DATA, &directive);
-    region = lwa_enter(&directive);
-    lwa_kernel(run, &maps, region);
-    lwa_exit(region);
     lwa_leave();
 }
 
@@ -268,15 +267,10 @@ LWA_EXPORT int GOACC_get_thread_num(void)
     return 0;
 }
 
-/* What compilers before GCC 12 emit. */
-LWA_EXPORT void GOACC_parallel(void)
+/* What GCC 5 emits: the host runs it. */
+LWA_EXPORT void GOACC_parallel(int flags, kernel_function *run, size_t count, void **at)
 {
-    lwa_take("GOACC_parallel", LWA_FROM);
-    lwa_unserved("this entry point of older compilers is not served");
-}
-
-LWA_EXPORT void GOACC_enter_exit_data(void)
-{
-    lwa_take("GOACC_enter_exit_data", LWA_FROM);
-    lwa_unserved("this entry point of older compilers is not served");
+    (void)flags;
+    (void)count;
+    run(at);
 }

@@ -10,10 +10,6 @@ typedef struct tried {
     void *at;
 } tried;
 
-tried rattle_alloc(size_t size, size_t align);
-tried rattle_realloc(void *at, size_t kept, size_t size, size_t align);
-void rattle_dealloc(void *at);
-
 static uint8_t nowhere;
 
 static tried answer(void *at)

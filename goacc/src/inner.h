@@ -1,14 +1,17 @@
 /*
  * What the files of liblamwiest_acc.so share. All of it is used under the lock, which each entry point and each routine
- * takes once, by lwa_take.
+ * takes once, by lwa_take. A kernel runs without it.
  *
- * Three kinds of addresses: the program's own; table addresses, of the host memory that the table has; and places, of
- * the table's device memory. What the program gets as a device address is a byte of the arena, where kernels find
- * their bytes.
+ * The table is told some items at a time, of which no two name one block, so that what became of each is what the table
+ * answers before and after. A directive may be several directives of the table, in their order, and a region several.
+ *
+ * Four kinds of addresses: the program's own; table addresses, of the host memory that the table has; places, of the
+ * table's device memory; and device addresses, of the memory of this process in which kernels find a block's bytes.
  */
 #ifndef LWA_INNER_H
 #define LWA_INNER_H
 
+#include <acc_prof.h>
 #include <stdarg.h>
 #include <stdbool.h>
 #include <stddef.h>
@@ -34,21 +37,43 @@ typedef struct lwa_maps {
     unsigned short *kinds;
 } lwa_maps;
 
+/* A pointer that is attached. On the device the table has a place in it, and a kernel finds a device address. */
+typedef struct lwa_pointer {
+    uintptr_t at;
+    uint64_t place;
+    uintptr_t device;
+    bool other; /* the table was told that a kernel has left another value */
+} lwa_pointer;
+
+/* A mapped range; or one that has ended, while copies of it wait. */
+typedef struct lwa_block {
+    uintptr_t at; /* the program's address; of acc_malloc, the device address, since there is no other */
+    size_t len;
+    uint64_t told;    /* the table's address */
+    uintptr_t device; /* the device address */
+    uint8_t *bytes;   /* that the device has; at the device address while it is mapped */
+    bool mapped;
+    struct lwa_block *root, *parts, *next; /* a part that acc_map_data maps has another root, until that ends */
+    bool part;
+    size_t waiting; /* the copies that wait */
+    size_t kernels; /* the kernels that have it; while there are some it is lent */
+    uint64_t lease;
+    lwa_pointer *pointers; /* by rising address */
+    size_t pointer_count, pointer_room;
+} lwa_block;
+
 /* One item of a directive, in the program's addresses and as the table is told. */
 typedef struct lwa_item {
-    uint32_t clause;         /* LW_COPY and so on */
-    uintptr_t at;            /* the program's address of the section; of attach and detach, of the pointer */
-    size_t len;              /* its length in bytes */
-    uintptr_t pointer;       /* the program's address of the pointer to the section, or 0 */
-    intptr_t bias;           /* how far behind the pointer's value the section begins */
+    uint32_t clause;   /* LW_COPY and so on */
+    uintptr_t at;      /* the program's address of the section; of attach and detach, of the pointer */
+    size_t len;        /* its length in bytes */
+    uintptr_t pointer; /* the program's address of the pointer to the section, or 0 */
+    intptr_t bias;     /* how far behind the pointer's value the section begins */
     lw_item told;
-    bool members;            /* whether the section is several members of a structure */
-    bool held;               /* whether a region holds it, and its pointer, which the log alone reads */
-    bool attached;
-    bool before;             /* whether it was present before the directive */
-    lw_counters_of counters; /* its counters then, where the directive leaves it */
-    bool alone;              /* whether no other item of the directive is in the same object */
-    bool may_copy;           /* whether the directive may copy bytes of it */
+    bool taken;       /* table addresses were taken for it, which are no block's yet */
+    lwa_block *block; /* that has the section; of a region's item, until the region ends */
+    uint64_t region;  /* the number of its region */
+    lw_mapped_range before; /* the block's range before the directive, for the log */
 } lwa_item;
 
 /* The items of a directive. */
@@ -64,28 +89,65 @@ typedef enum lwa_way { LWA_DATA, LWA_END_DATA, LWA_ENTER_DATA, LWA_EXIT_DATA, LW
 typedef struct lwa_directive {
     lwa_way way;
     lwa_items items;
-    bool option;     /* finalize of exit data, if_present of update */
-    uint64_t queue;  /* of enter data, exit data and update */
-    uint64_t region; /* the number of the region that data enters, or that its end exits from */
+    bool option;      /* finalize of exit data, if_present of update */
+    bool may_be_full; /* that there is no room on the device is an answer, and no refusal */
+    uintptr_t device; /* of acc_malloc, the device address */
+    uint64_t queue;   /* of enter data, exit data and update */
 } lwa_directive;
+
+/* What the table did with an item. */
+typedef struct lwa_did {
+    enum lwa_step { LWA_NOTHING, LWA_BORN, LWA_COUNTED, LWA_DROPPED, LWA_KEPT, LWA_ENDED, LWA_MOVED } step;
+    bool copied, out;      /* whether its bytes are copied, or put into the queue, and which way */
+    lw_mapped_range range; /* with the counters behind it; of one that has ended, those before */
+    enum { LWA_NO_AIM, LWA_AIMED, LWA_ATTACHED, LWA_DETACHED } aim;
+    uint64_t attached, target; /* the pointer's counter behind it, and what the device has there */
+} lwa_did;
 
 /* A data region of a thread; regions of one thread are nested. */
 typedef struct lwa_region {
     struct lwa_region *below;
+    unsigned device;
     bool in_table; /* no: the region is of host_data, or of a device that shares memory */
     lwa_directive directive;
 } lwa_region;
 
-/* ---- table.c: the lock, the table, the refusals ---- */
+/* ---- table.c: the lock, the tables, the refusals ---- */
 
-extern lw_table lwa_table;
+/* Each device has a table, and each file has what it keeps beside one as often. This is the device that a thread is
+   on. */
+#define LWA_DEVICES 4
+extern _Thread_local unsigned lwa_on;
 extern lw_limits lwa_limits;
+lw_table *lwa_table(void);
 
-/* Takes the lock for a call of the program, and makes the table where there is none. */
-void lwa_take(const char *name, void *from);
+/* How often the lock was taken. */
+extern uint64_t lwa_turn;
+
+/* Takes the lock for a call of the program on the thread's device, and makes its table where there is none. event: what
+   tools are told at its start, with the construct; the next one is told behind it. */
+void lwa_take_for(const char *name, void *from, int event, int construct);
+#define lwa_take(name, from) lwa_take_for(name, from, acc_ev_none, acc_construct_runtime_api)
 void lwa_leave(void);
 
-/* Ends the table, and forgets all that is kept beside it. */
+/* Goes on with another device, whose table is made where there is none. */
+void lwa_go_to(unsigned device);
+
+/* Does something for each device that has a table. */
+void lwa_each_device(void (*act)(void));
+
+/* Runs a compiled function of this thread with the lock free; on the device it may call no routine. */
+void lwa_run_free(void (*run)(void *), void *addresses, bool on_device);
+
+/* Whether a call was refused since a block is lent; then the lock is given away until some block is brought back, and
+   all is to be looked at again. */
+bool lwa_is_lent(uint32_t status);
+
+/* The innermost open region of this thread. */
+lwa_region *lwa_innermost(void);
+void lwa_set_innermost(lwa_region *region);
+
+/* Ends the device's table, and forgets all that is kept beside it. */
 void lwa_end_table(void);
 
 /* Makes room for one more event. It stands before each call that may be one. */
@@ -111,155 +173,142 @@ void *lwa_grown(void *list, size_t count, size_t *room, size_t size);
 
 /* ---- devices.c ---- */
 
-/* Whether the directives of this thread are for the table; else they are for the host, which shares its memory. */
+/* Whether the directives of this thread are for a table; else they are for the host, which shares its memory. */
 bool lwa_is_for_table(void);
 
+/* The device of a table that this thread has chosen. */
+unsigned lwa_chosen_device(void);
+
 /* The queue of a number of async as gcc and openacc.h have it, or LW_NO_QUEUE_GIVEN. */
-#define LWA_NO_ASYNC (-2)
+#define LWA_QUEUES 16
 uint64_t lwa_queue(int async);
 
-/* ---- addresses.c: table addresses ---- */
+/* The same of a wait: LW_NO_QUEUE_GIVEN also for a number that no async ever had, of which nothing waits. */
+uint64_t lwa_queue_of(int async);
 
-/* An address that is outside of the table's host memory. */
+/* ---- blocks.c: what is mapped, and where ---- */
+
+/* A mapped range that has a byte of a section, or NULL; and whether it has all of them. */
+lwa_block *lwa_meets(uintptr_t at, size_t len);
+bool lwa_has(const lwa_block *block, uintptr_t at, size_t len);
+
+/* The block that has all of a section, or NULL. */
+lwa_block *lwa_inside(uintptr_t at, size_t len);
+
+/* Table addresses for a section that is to be mapped, with an address behind it that is never mapped. */
+uint64_t lwa_take_addresses(uintptr_t at, size_t len);
+void lwa_give_addresses(uint64_t told, size_t len);
+
+/* Sixteen table addresses that are never mapped; and an address behind the table's host memory. */
+#define LWA_NOWHERE LW_HOST_BASE
 uint64_t lwa_outside(void);
 
-/* Takes table addresses for a section, with one more before and behind it. 0 where there is no room. */
-uint64_t lwa_take_addresses(uintptr_t at, size_t len);
+/* A section that is mapped now, at table addresses that were taken for it. */
+lwa_block *lwa_born(uintptr_t at, size_t len, uint64_t told, uintptr_t device);
 
-/* Table addresses without bytes of the program, for acc_malloc. 0 where there is no room. */
-uint64_t lwa_reserve(size_t len);
-void lwa_unreserve(uint64_t told);
+/* A part of a block of acc_malloc gets an address of the program. */
+void lwa_map_part(lwa_block *root, uintptr_t at, size_t len, uintptr_t device);
 
-/* A range of addresses: the first, and behind the last. */
-typedef struct lwa_taken {
-    uint64_t start, end;
-} lwa_taken;
+/* It is mapped no more; and a copy of it waits no more. */
+void lwa_ended(lwa_block *block);
+void lwa_made(lwa_block *block);
 
-/* Says which addresses objects have, so that all others, but those that are reserved, can be taken again. */
-void lwa_set_taken(const lwa_taken *list, size_t count);
-void lwa_forget_addresses(void);
+/* The device address of a byte of a block. */
+uintptr_t lwa_device_of(const lwa_block *block, uintptr_t at);
 
-/* ---- objects.c: where the program's bytes lie in the table's host memory ---- */
+/* The block of a device address; at: the program's address of that byte. */
+lwa_block *lwa_on_device(uintptr_t device, uintptr_t *at);
 
-/* Gives table addresses to the sections and pointers of a directive, and says what the table is told. */
-void lwa_place_items(lwa_items *items);
+void lwa_each_block(void (*act)(lwa_block *));
+void lwa_forget_blocks(void);
 
-/* The table address of a byte of the program, and the first one of its object. 0 where it has none. */
-uint64_t lwa_told(uintptr_t at);
-uint64_t lwa_first_of(uintptr_t at);
+/* ---- mirror.c: bytes between the program and the device ---- */
 
-/* The program's address of a table address, or 0. */
-uintptr_t lwa_untold(uint64_t told);
-
-/* The mapped range that has a byte of the program. */
-bool lwa_range_of(uintptr_t at, lw_mapped_range *range);
-
-/* Says whether the object of an address is several members of a structure; and whether it is, and is mapped. */
-void lwa_mark_members(uintptr_t at, bool members);
-bool lwa_is_members(uintptr_t at, uint64_t *object);
-
-/* Drops the objects that need not stay, so that their table addresses can be taken again. */
-void lwa_sweep(void);
-void lwa_forget_objects(void);
-
-/* ---- mirror.c: bytes between the program and the table's host memory ---- */
-
-/* Whether all addresses of a section can be read. */
+/* Whether all addresses of a section can be read; and that they have to. */
 bool lwa_is_memory(uintptr_t at, size_t len);
-
-/* Ends the program where a section that is to be copied cannot be read any more. */
 void lwa_want_memory(uintptr_t at, size_t len);
 
-/* Writes bytes to table addresses. */
-void lwa_write(uint64_t told, const void *bytes, size_t len);
+/* Makes a copy of a section of a block, in or out, which leaves attached pointers as they are. */
+void lwa_copy(const lwa_block *block, uintptr_t at, size_t len, bool out);
 
-/* Copies a section that is known to be memory to the table, or from it. */
-void lwa_mirror_in(uintptr_t at, uint64_t told, size_t len);
-void lwa_mirror_out(uintptr_t at, uint64_t told, size_t len);
+/* One more copy that waits in a queue. */
+void lwa_put_waiting(uint64_t queue, lwa_block *block, uintptr_t at, size_t len, bool out);
 
-/* Copies that may wait in a queue: one more; before some are made, and after it. */
-void lwa_put_waiting(uint64_t queue, const lwa_item *item, bool out);
-void lwa_before_copies(uint64_t queue);
-void lwa_after_copies(uint64_t queue, bool all_made);
+/* The device makes the next copy of a queue. No: none waits. Where its block is lent that is waited for. */
+bool lwa_step(uint64_t queue);
 
-/* How many there are, and the table addresses of one. */
-size_t lwa_waiting_count(void);
-lwa_taken lwa_waiting_at(size_t i);
+/* Makes what waits in a queue, or in all. */
+void lwa_wait(uint64_t queue);
+
+/* How many copies wait in a queue. */
+uint64_t lwa_queue_len(uint64_t queue);
 void lwa_forget_waiting(void);
 
 /* ---- pointers.c: pointers that were attached ---- */
 
-/* Writes the targets of the pointers that a directive attaches, as table addresses. */
-void lwa_aim_pointers(const lwa_items *items);
+/* What the table is told of the pointer of an item. */
+uint64_t lwa_told_pointer(const lwa_item *item);
 
-/* Writes the program's own bytes of the attached pointers in a section. */
-void lwa_mirror_pointers(uintptr_t at, size_t len);
-bool lwa_any_attached(void);
+/* Before an item may attach its pointer: tells the table its target, and what a kernel has left there. After it: gives
+   the device what it has then. */
+void lwa_aim(const lwa_item *item);
+void lwa_aimed(const lwa_item *item, const lwa_did *did);
 
-/* Changes attached pointers in bytes that the device has of a section: places to addresses of the arena, or back. */
-void lwa_translate(uint64_t start, uint8_t *bytes, size_t len, bool to_arena);
-void lwa_forget_pointers(void);
+/* The place of the first pointer of a block that ends behind an address. */
+size_t lwa_first_pointer(const lwa_block *block, uintptr_t at);
+
+/* ---- did.c: what the table did ---- */
+
+/* Before the call of an item, and behind it. */
+void lwa_look(lwa_item *item);
+lwa_did lwa_what_became(const lwa_directive *directive, const lwa_item *item);
 
 /* ---- directives.c ---- */
 
-/* enter data, exit data or update. What the items take is given back. */
-void lwa_direct(lwa_directive *directive);
+bool lwa_is_pointer(const lwa_item *item);
+bool lwa_enters(const lwa_directive *directive);
+bool lwa_copies_in(uint32_t clause);
+bool lwa_copies_out(uint32_t clause);
+
+/* enter data, exit data or update. What the items take is given back. No: there was no room on the device. */
+bool lwa_direct(lwa_directive *directive);
 
 /* The start of a data region, which keeps the items, and its end. */
 lwa_region *lwa_enter(lwa_directive *directive);
 void lwa_exit(lwa_region *region);
 
-/* One call of the table, with its lines of the script and the log. No: it was refused, where that is an answer. */
-bool lwa_call(lwa_directive *directive, bool may_be_refused);
-
-/* Makes what waits in a queue, or in all; or the next copy of a queue, and answers whether the queue is empty then. */
-void lwa_wait(uint64_t queue);
-bool lwa_step(uint64_t queue);
-
 /* ---- items.c: what gcc passes, as items ---- */
 
 void lwa_add_item(lwa_items *items, uint32_t clause, uintptr_t at, size_t len);
-void lwa_drop_items(lwa_items *items);
 
 /* The items and the option of a directive of this kind. */
 void lwa_read_maps(const lwa_maps *maps, lwa_way way, lwa_directive *directive);
 
-/* Whether a map of declare is of its end. */
-bool lwa_is_end(unsigned kind);
+/* Whether maps that say no more than that are of enter data, and not of exit data. */
+bool lwa_is_entry(const lwa_maps *maps);
 
 /* ---- kernels.c ---- */
-
-/* The device address that the program gets of a place, and back. 0 for none. */
-uintptr_t lwa_arena_of(uint64_t place);
-uint64_t lwa_place_of(uintptr_t address);
-
-/* The device address of a byte of the program, or 0. */
-uintptr_t lwa_device_of(uintptr_t at);
-
-/* From now on kernels are lent all blocks, since the program has device addresses of its own. */
-void lwa_lend_all(void);
 
 /* Runs the compiled function in a region. */
 void lwa_kernel(void (*run)(void *), const lwa_maps *maps, const lwa_region *region);
 
-/* Copies bytes to a device address, or from one, out of a kernel. */
-void lwa_device_write(uintptr_t to, const void *bytes, size_t len);
-void lwa_device_read(uintptr_t from, void *bytes, size_t len);
+/* Writes to the table what its device has of a pointer. */
+void lwa_write_on_device(const lwa_block *block, uintptr_t at, uint64_t value);
 
-/* The mapped range that a place lies in. */
-bool lwa_range_at(uint64_t place, lw_mapped_range *range);
-void lwa_forget_kernels(void);
+/* In a child of the program no kernel runs: what was lent is brought back. */
+void lwa_gather_all(void);
 
 /* ---- script.c: what the program did as a script, and the report ---- */
 
-/* Whether a script is written: then one write brings at most 64 bytes. */
-extern bool lwa_scripted;
 void lwa_start_script(void);
 
-/* The lines of a script: a directive that is done, or is the program's last; and the other statements. */
-void lwa_script_directive(const lwa_directive *directive, bool done);
-void lwa_script_write(uint64_t told, const uint8_t *bytes, size_t len);
-void lwa_script_kernel(const lw_mapped_range *range);
+/* A child of the program writes neither. */
+void lwa_forget_script(void);
+
+/* The lines of a script: items that are done at once, or are the program's last; and the other statements. */
+void lwa_script_items(const lwa_directive *directive, size_t first, size_t end, bool done);
+void lwa_script_write(uint64_t told, const uint8_t bytes[LWA_POINTER]);
+void lwa_script_kernel(const lwa_block *block);
 void lwa_script_copies(const char *statement, uint64_t queue);
 
 /* Writes the report, and ends the script. */
@@ -269,19 +318,31 @@ void lwa_finish_script(void);
 const char *lwa_name_of(lwa_way way);
 const char *lwa_clause_name(uint32_t clause);
 
+/* ---- profile.c: what tools are told ---- */
+
+/* Finds the tools, once. */
+void lwa_find_tools(void);
+
+/* Tells the tools an event, out of the lock; and notes one under it, of some bytes of a block or of none. */
+void lwa_tell(int event, int construct);
+void lwa_note(int event, const lwa_block *block, uintptr_t at, size_t len);
+void lwa_tell_notes(int construct);
+
 /* ---- log.c: a line on standard error for each thing done ---- */
 
+extern bool lwa_logged;
 void lwa_start_log(void);
 
-/* Before a directive, and after it. */
-void lwa_log_before(const lwa_directive *directive);
-void lwa_log_after(lwa_directive *directive);
+/* The head line of a directive; of each of its items; and the region's line. */
+void lwa_log_directive(const lwa_directive *directive);
+void lwa_log_item(const lwa_directive *directive, size_t i, const lwa_did *did);
+void lwa_log_region(const lwa_directive *directive);
 
 /* wait and step, and the copies that they made. */
 void lwa_log_copies(const char *statement, uint64_t queue);
-void lwa_log_made(uint64_t queue, uint64_t made);
+void lwa_log_made(uint64_t queue);
 
-void lwa_log_loan(const char *what, const lw_mapped_range *range, uint64_t lease);
+void lwa_log_loan(const char *what, const lwa_block *block);
 void lwa_log_refused(const lw_fault *fault);
 void lwa_finish_log(void);
 

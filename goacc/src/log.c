@@ -1,39 +1,43 @@
-/*
- * A line on standard error for each thing done (LAMWIEST_LOG=1), in the form of the log of accrun, with the program's
- * addresses. log_items.c has what became of each item; here are the other lines, and the copies.
- */
+/* A line on standard error for each thing done (LAMWIEST_LOG=1), in the form of the log of accrun, with the program's
+   addresses. */
 #include <inttypes.h>
 #include <stdio.h>
 #include <stdlib.h>
 #include <string.h>
 
 #include "inner.h"
-#include "log.h"
 
-#define QUEUES 16
+/* A copy; at once where the queue is LW_NO_QUEUE_GIVEN. */
+typedef struct copy {
+    uint64_t queue;
+    uintptr_t at;
+    size_t len;
+    uint64_t place;
+    bool out;
+} copy;
 
 bool lwa_logged;
 
-/* The copies that wait, in the order in which they were put. */
-static lwa_copy *waiting;
-static size_t count, room;
-
-/* The line at the end: of the copies, [0] is of those in, and [1] of those out. */
+/* What is kept beside one table: the copies that wait, in the order in which they were put, and the line at the end. Of
+   the copies, [0] is of those in, and [1] of those out. */
 static struct {
-    uint64_t mapped, ended, refused;
-    uint64_t copies[2], bytes[2];
-} total;
+    copy *waiting;
+    size_t count, room;
+    uint64_t mapped, ended, refused, copies[2], bytes[2];
+} all[LWA_DEVICES];
+
+#define OWN all[lwa_on]
 
 void lwa_start_log(void)
 {
     const char *word = getenv("LAMWIEST_LOG");
 
     lwa_logged = word != NULL && strcmp(word, "") != 0 && strcmp(word, "0") != 0;
-    memset(&total, 0, sizeof total);
-    count = 0;
+    free(OWN.waiting);
+    memset(&OWN, 0, sizeof OWN);
 }
 
-void lwa_say(const char *format, ...)
+__attribute__((format(printf, 1, 2))) static void say(const char *format, ...)
 {
     char text[512];
     va_list words;
@@ -44,99 +48,190 @@ void lwa_say(const char *format, ...)
     fprintf(stderr, "lamwiest: %s\n", text);
 }
 
-void lwa_count_mapped(void)
+/* ---- Copies ---- */
+
+static void count_copy(const copy *c)
 {
-    total.mapped++;
+    OWN.copies[c->out]++;
+    OWN.bytes[c->out] += c->len;
 }
 
-void lwa_count_ended(void)
+/* A copy of an item, which is made or put into its queue. */
+static void say_copy(size_t item, const copy *c)
 {
-    total.ended++;
-}
+    const char *way = c->out ? "out" : "in";
 
-static void count_copy(const lwa_copy *copy)
-{
-    total.copies[copy->out]++;
-    total.bytes[copy->out] += copy->len;
-}
-
-void lwa_say_copy(size_t item, const lwa_copy *copy)
-{
-    const char *way = copy->out ? "out" : "in";
-
-    if (copy->queue == LW_NO_QUEUE_GIVEN) {
-        count_copy(copy);
-        lwa_say("  item %zu: copied %s %#" PRIxPTR " %zu at %#" PRIx64, item, way, copy->at, copy->len, copy->place);
+    if (c->queue == LW_NO_QUEUE_GIVEN) {
+        count_copy(c);
+        say("  item %zu: copied %s %#" PRIxPTR " %zu at %#" PRIx64, item, way, c->at, c->len, c->place);
         return;
     }
-    waiting = lwa_grown(waiting, count, &room, sizeof *waiting);
-    waiting[count++] = *copy;
-    lwa_say("  item %zu: put %s %#" PRIxPTR " %zu at %#" PRIx64 " queue %" PRIu64, item, way, copy->at, copy->len,
-            copy->place, copy->queue);
+    OWN.waiting = lwa_grown(OWN.waiting, OWN.count, &OWN.room, sizeof *OWN.waiting);
+    OWN.waiting[OWN.count++] = *c;
+    say("  item %zu: put %s %#" PRIxPTR " %zu at %#" PRIx64 " queue %" PRIu64, item, way, c->at, c->len, c->place,
+        c->queue);
 }
-
-/* ---- Queues ---- */
 
 void lwa_log_copies(const char *statement, uint64_t queue)
 {
-    if (!lwa_logged) {
-        return;
-    }
-    if (queue == LW_NO_QUEUE_GIVEN) {
-        lwa_say("%s", statement);
-    } else {
-        lwa_say("%s(%" PRIu64 ")", statement, queue);
+    if (lwa_logged && queue == LW_NO_QUEUE_GIVEN) {
+        say("%s", statement);
+    } else if (lwa_logged) {
+        say("%s(%" PRIu64 ")", statement, queue);
     }
 }
 
-/* Says the next copy of a queue. No: the queue is empty. */
-static bool say_made(uint64_t queue)
+/* The copy of a queue that was put first is made. */
+void lwa_log_made(uint64_t queue)
 {
     size_t i = 0;
-    lwa_copy copy;
+    copy c;
 
-    while (i < count && waiting[i].queue != queue) {
+    while (i < OWN.count && OWN.waiting[i].queue != queue) {
         i++;
     }
-    if (i == count) {
-        return false;
+    if (i < OWN.count) {
+        c = OWN.waiting[i];
+        count_copy(&c);
+        say("  copied %s %#" PRIxPTR " %zu at %#" PRIx64 " queue %" PRIu64, c.out ? "out" : "in", c.at, c.len, c.place,
+            queue);
+        OWN.count--;
+        memmove(&OWN.waiting[i], &OWN.waiting[i + 1], (OWN.count - i) * sizeof c);
     }
-    copy = waiting[i];
-    count_copy(&copy);
-    lwa_say("  copied %s %#" PRIxPTR " %zu at %#" PRIx64 " queue %" PRIu64, copy.out ? "out" : "in", copy.at, copy.len,
-            copy.place, copy.queue);
-    count--;
-    memmove(&waiting[i], &waiting[i + 1], (count - i) * sizeof copy);
-    return true;
 }
 
-void lwa_log_made(uint64_t queue, uint64_t made)
+/* ---- Directives ---- */
+
+void lwa_log_directive(const lwa_directive *d)
 {
+    const bool leaves = d->way == LWA_END_DATA;
+
     if (!lwa_logged) {
         return;
     }
-    if (made == 0) {
-        lwa_say("  idle");
+    fprintf(stderr, "lamwiest: %s", lwa_name_of(d->way));
+    for (size_t i = 0; !leaves && i < d->items.count; i++) {
+        const lwa_item *item = &d->items.at[i];
+
+        fprintf(stderr, " %s(%#" PRIxPTR, lwa_clause_name(item->clause), item->at);
+        if (!lwa_is_pointer(item)) {
+            fprintf(stderr, ":%zu", item->len);
+        }
+        if (item->pointer != 0) {
+            fprintf(stderr, " via %#" PRIxPTR, item->pointer);
+        }
+        fputc(')', stderr);
     }
-    for (uint64_t q = 0; q < QUEUES; q++) {
-        if (queue != LW_NO_QUEUE_GIVEN && queue != q) {
-            continue;
+    if (d->option && !leaves) {
+        fputs(d->way == LWA_UPDATE ? " if_present" : " finalize", stderr);
+    }
+    if (d->queue != LW_NO_QUEUE_GIVEN) {
+        fprintf(stderr, " async(%" PRIu64 ")", d->queue);
+    }
+    fputc('\n', stderr);
+}
+
+void lwa_log_region(const lwa_directive *d)
+{
+    if (lwa_logged && (d->way == LWA_DATA || d->way == LWA_END_DATA)) {
+        say("  %s region %" PRIu64, d->way == LWA_DATA ? "entered" : "exited", d->items.at[0].region);
+    }
+}
+
+/* ---- Items ---- */
+
+static void say_range(size_t i, const char *what, const lwa_block *block, const lw_mapped_range *range)
+{
+    say("  item %zu: %s %#" PRIxPTR " %zu at %#" PRIx64 " structured %" PRIu64 " dynamic %" PRIu64, i, what, block->at,
+        block->len, range->place, range->structured, range->dynamic);
+}
+
+/* The copy of an item, or why it is none, if it could be one. */
+static void say_item_copy(const lwa_directive *d, size_t i, const lwa_did *did, bool could, const char *why_not)
+{
+    const lwa_item *item = &d->items.at[i];
+
+    if (did->copied) {
+        say_copy(i, &(copy){d->queue, item->at, item->len, did->range.place + (item->at - item->block->at), did->out});
+    } else if (could) {
+        say("  item %zu: skipped %s %#" PRIxPTR " %zu %s", i, did->out ? "out" : "in", item->at, item->len, why_not);
+    }
+}
+
+static void say_pointer(const lwa_item *item, size_t i, const lwa_did *did)
+{
+    const uintptr_t at = lwa_is_pointer(item) ? item->at : item->pointer;
+
+    if (did->aim == LWA_AIMED) {
+        say("  item %zu: attached %#" PRIxPTR " to %#" PRIx64 " count %" PRIu64, i, at, did->target, did->attached);
+    } else if (did->aim != LWA_NO_AIM) {
+        say("  item %zu: %s %#" PRIxPTR " count %" PRIu64, i, did->aim == LWA_ATTACHED ? "attached" : "detached", at,
+            did->attached);
+    } else if (lwa_is_pointer(item)) {
+        say("  item %zu: unattached %#" PRIxPTR, i, at);
+    }
+}
+
+static void say_nothing(const lwa_item *item, size_t i, const lwa_did *did)
+{
+    if (lwa_is_pointer(item)) {
+        say_pointer(item, i, did);
+    } else if (item->len == 0) {
+        say("  item %zu: empty", i);
+    } else {
+        say("  item %zu: absent %#" PRIxPTR " %zu", i, item->at, item->len);
+    }
+}
+
+/* At the end of a region only of what it holds. */
+void lwa_log_item(const lwa_directive *d, size_t i, const lwa_did *did)
+{
+    const lwa_item *item = &d->items.at[i];
+
+    if (!lwa_logged) {
+        return;
+    }
+    switch (did->step) {
+    case LWA_NOTHING:
+        if (d->way != LWA_END_DATA || did->aim != LWA_NO_AIM) {
+            say_nothing(item, i, did);
         }
-        while (made != 0 && say_made(q)) {
-            made--;
-        }
+        break;
+    case LWA_MOVED:
+        say_item_copy(d, i, did, false, NULL);
+        break;
+    case LWA_KEPT:
+        say_range(i, "kept", item->block, &did->range);
+        break;
+    case LWA_BORN:
+    case LWA_COUNTED:
+        OWN.mapped += did->step == LWA_BORN;
+        say_range(i, did->step == LWA_BORN ? "mapped" : "counted", item->block, &did->range);
+        say_item_copy(d, i, did, lwa_copies_in(item->clause), "present");
+        say_pointer(item, i, did);
+        break;
+    case LWA_DROPPED:
+        say_pointer(item, i, did);
+        say_item_copy(d, i, did, lwa_copies_out(item->clause), "held");
+        say_range(i, "dropped", item->block, &did->range);
+        break;
+    case LWA_ENDED:
+        OWN.ended++;
+        say_pointer(item, i, did);
+        say_item_copy(d, i, did, false, NULL);
+        say("  item %zu: ended %#" PRIxPTR " %zu at %#" PRIx64, i, item->block->at, item->block->len, did->range.place);
     }
 }
 
 /* ---- Kernels, refusals, the end ---- */
 
-void lwa_log_loan(const char *what, const lw_mapped_range *range, uint64_t lease)
+void lwa_log_loan(const char *what, const lwa_block *block)
 {
-    uintptr_t at = lwa_logged ? lwa_untold(range->start) : 0;
+    uint64_t place = 0;
 
     if (lwa_logged) {
-        lwa_say("  %s %#" PRIxPTR " %" PRIu64 " at %#" PRIx64 " serial %" PRIu64, what,
-                at != 0 ? at : (uintptr_t)range->start, range->len, range->place, lease);
+        lw_device_address(lwa_table(), block->told, &place);
+        say("  %s %#" PRIxPTR " %zu at %#" PRIx64 " serial %" PRIu64, what, block->at, block->len, place, block->lease);
     }
 }
 
@@ -145,17 +240,17 @@ void lwa_log_refused(const lw_fault *fault)
     char text[LWA_REFUSAL];
 
     if (lwa_logged) {
-        total.refused++;
+        OWN.refused++;
         lwa_refusal_text(fault, text);
-        lwa_say("  refused %s", text);
+        say("  refused %s", text);
     }
 }
 
 void lwa_finish_log(void)
 {
     if (lwa_logged) {
-        lwa_say("total mapped %" PRIu64 " ended %" PRIu64 " copied in %" PRIu64 " bytes %" PRIu64 " copied out %" PRIu64
-                " bytes %" PRIu64 " waiting %zu refused %" PRIu64, total.mapped, total.ended, total.copies[0],
-                total.bytes[0], total.copies[1], total.bytes[1], count, total.refused);
+        say("total mapped %" PRIu64 " ended %" PRIu64 " copied in %" PRIu64 " bytes %" PRIu64 " copied out %" PRIu64
+            " bytes %" PRIu64 " waiting %zu refused %" PRIu64, OWN.mapped, OWN.ended, OWN.copies[0], OWN.bytes[0],
+            OWN.copies[1], OWN.bytes[1], OWN.count, OWN.refused);
     }
 }

@@ -1,10 +1,5 @@
 /*
- * Bytes between the program and the table's host memory.
- *
- * Before a directive the bytes that it may copy in are written to the table, and after it those that it copied out are
- * read. A copy that waits takes its bytes when it is made. So this keeps a list of the copies that may wait. Before
- * copies of a queue are made the program's bytes of all of them are written, of those that go out too: so an entry of
- * the list that the table has no copy for changes no byte.
+ * Bytes between the program and the device, and the copies that wait. The table decides each copy; here it is made.
  */
 #define _GNU_SOURCE
 #include <stdlib.h>
@@ -14,125 +9,161 @@
 
 #include "inner.h"
 
-/* The most bytes of one write of a script. */
-#define SCRIPT_WRITE 64
-
 typedef struct waiting {
-    uint64_t queue;
+    lwa_block *block;
     uintptr_t at;
-    uint64_t told;
     size_t len;
     bool out;
 } waiting;
 
-static waiting *list;
-static size_t count, room;
+/* The copies of each device's queues that wait, in the order in which they were put. */
+static struct {
+    waiting *list;
+    size_t first, end, room;
+} all[LWA_DEVICES][LWA_QUEUES];
 
-/* msync tells of pages that are mapped nowhere, and does nothing to the others. */
+#define OWN all[lwa_on]
+
+/* msync tells of pages that are mapped nowhere, and does nothing to the others. What it told is so until the lock is
+   free. */
 bool lwa_is_memory(uintptr_t at, size_t len)
 {
-    static uintptr_t page;
+    static uintptr_t page, known_from, known_until;
+    static uint64_t turn;
     uintptr_t from, until;
 
     if (page == 0) {
         page = (uintptr_t)sysconf(_SC_PAGESIZE);
     }
     from = at / page * page;
-    if (len == 0) {
-        return true;
-    }
     if (at + len < at || from == 0) {
         return false;
     }
     until = (at + len + page - 1) / page * page;
-    return msync((void *)from, until - from, MS_ASYNC) == 0;
-}
-
-/* A script has at most 64 bytes in one write, and as many events as the table. */
-void lwa_write(uint64_t told, const void *bytes, size_t len)
-{
-    const size_t most = lwa_scripted ? SCRIPT_WRITE : len;
-    lw_fault fault;
-
-    for (size_t done = 0; done < len; done += most) {
-        size_t part = len - done < most ? len - done : most;
-        const uint8_t *from = (const uint8_t *)bytes + done;
-
-        lwa_script_write(told + done, from, part);
-        lwa_room();
-        lwa_must(lw_host_write(&lwa_table, told + done, from, part, &fault), &fault);
+    if (turn == lwa_turn && known_from <= from && until <= known_until) {
+        return true;
     }
+    if (msync((void *)from, until - from, MS_ASYNC) != 0) {
+        return false;
+    }
+    turn = lwa_turn;
+    known_from = from;
+    known_until = until;
+    return true;
 }
 
 void lwa_want_memory(uintptr_t at, size_t len)
 {
-    if (!lwa_is_memory(at, len)) {
-        lwa_unserved("the %zu bytes of host memory at %#zx are to be copied, and are there no more", len, (size_t)at);
+    if (len != 0 && !lwa_is_memory(at, len)) {
+        lwa_unserved("the %zu bytes of host memory at %#zx are to be copied, and are not there", len, (size_t)at);
     }
 }
 
-void lwa_mirror_in(uintptr_t at, uint64_t told, size_t len)
+static void move(const lwa_block *block, uintptr_t at, size_t len, bool out)
 {
-    lwa_write(told, (const void *)at, len);
+    uint8_t *there = block->bytes + (at - block->at);
+
+    memcpy(out ? (void *)at : there, out ? there : (void *)at, len);
 }
 
-void lwa_mirror_out(uintptr_t at, uint64_t told, size_t len)
+void lwa_copy(const lwa_block *block, uintptr_t at, size_t len, bool out)
 {
+    const uintptr_t end = at + len;
+    size_t i = lwa_first_pointer(block, at);
+
+    lwa_want_memory(at, len);
+    for (; i < block->pointer_count && block->pointers[i].at < end; i++) {
+        const uintptr_t pointer = block->pointers[i].at;
+
+        if (pointer > at) {
+            move(block, at, pointer - at, out);
+        }
+        at = pointer + LWA_POINTER;
+    }
+    if (at < end) {
+        move(block, at, end - at, out);
+    }
+}
+
+/* ---- Queues ---- */
+
+void lwa_put_waiting(uint64_t queue, lwa_block *block, uintptr_t at, size_t len, bool out)
+{
+    OWN[queue].list = lwa_grown(OWN[queue].list, OWN[queue].end, &OWN[queue].room, sizeof(waiting));
+    OWN[queue].list[OWN[queue].end++] = (waiting){block, at, len, out};
+    block->waiting++;
+}
+
+/* The first copy of a queue waits no more. */
+static waiting take_first(uint64_t queue)
+{
+    const waiting first = OWN[queue].list[OWN[queue].first++];
+
+    if (OWN[queue].first == OWN[queue].end) {
+        OWN[queue].first = OWN[queue].end = 0;
+    }
+    return first;
+}
+
+uint64_t lwa_queue_len(uint64_t queue)
+{
+    uint64_t len = 0;
+
+    lw_queue_len(lwa_table(), queue, &len);
+    return len;
+}
+
+bool lwa_step(uint64_t queue)
+{
+    uint64_t made = 0;
+    uint32_t status;
     lw_fault fault;
+    waiting w;
 
-    lwa_must(lw_host_read(&lwa_table, told, (uint8_t *)at, len, &fault), &fault);
+    do {
+        if (lwa_queue_len(queue) == 0) {
+            return false;
+        }
+        lwa_room();
+        status = lw_step(lwa_table(), queue, &made, &fault);
+    } while (lwa_is_lent(status));
+    lwa_must(status, &fault);
+    lwa_script_copies("step", queue);
+    w = take_first(queue);
+    lwa_copy(w.block, w.at, w.len, w.out);
+    lwa_log_made(queue);
+    lwa_made(w.block);
+    return true;
 }
 
-void lwa_put_waiting(uint64_t queue, const lwa_item *item, bool out)
+/* Behind its copies, which are made before, the table is told of the wait itself. */
+void lwa_wait(uint64_t queue)
 {
-    if (item->len == 0) {
-        return;
-    }
-    list = lwa_grown(list, count, &room, sizeof *list);
-    list[count++] = (waiting){queue, item->at, item->told.start, item->len, out};
-}
+    bool idle = true;
+    uint64_t made;
+    lw_fault fault;
+    uint32_t status;
 
-static bool is_of(const waiting *w, uint64_t queue)
-{
-    return queue == LW_NO_QUEUE_GIVEN || w->queue == queue;
-}
-
-void lwa_before_copies(uint64_t queue)
-{
-    for (size_t i = 0; i < count; i++) {
-        if (is_of(&list[i], queue)) {
-            lwa_want_memory(list[i].at, list[i].len);
-            lwa_mirror_in(list[i].at, list[i].told, list[i].len);
+    lwa_log_copies("wait", queue);
+    for (uint64_t q = 0; q < LWA_QUEUES; q++) {
+        while ((queue == LW_NO_QUEUE_GIVEN || queue == q) && lwa_step(q)) {
+            idle = false;
         }
     }
-}
-
-void lwa_after_copies(uint64_t queue, bool all_made)
-{
-    size_t kept = 0;
-
-    for (size_t i = 0; i < count; i++) {
-        if (is_of(&list[i], queue) && list[i].out) {
-            lwa_mirror_out(list[i].at, list[i].told, list[i].len);
-        }
-        if (!all_made || !is_of(&list[i], queue)) {
-            list[kept++] = list[i];
-        }
+    if (idle) {
+        lwa_log_copies("  idle", LW_NO_QUEUE_GIVEN);
     }
-    count = kept;
-}
-
-size_t lwa_waiting_count(void)
-{
-    return count;
-}
-
-lwa_taken lwa_waiting_at(size_t i)
-{
-    return (lwa_taken){list[i].told, list[i].told + list[i].len};
+    lwa_script_copies("wait", queue);
+    lwa_room();
+    status = lw_wait(lwa_table(), queue, &made, &fault);
+    lwa_must(status, &fault);
 }
 
 void lwa_forget_waiting(void)
 {
-    count = 0;
+    for (uint64_t queue = 0; queue < LWA_QUEUES; queue++) {
+        while (OWN[queue].first < OWN[queue].end) {
+            lwa_made(take_first(queue).block);
+        }
+    }
 }

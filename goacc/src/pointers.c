@@ -1,33 +1,23 @@
 /*
- * Pointers that were attached (OpenACC 3.3, section 2.6.8), by rising address.
+ * Pointers that are attached (OpenACC 3.3, section 2.6.8), which each block keeps by rising address.
  *
  * The table attaches a pointer at the target that the pointer's bytes in its host memory hold, a table address there.
- * So before a directive that attaches, the target's table address is written in place of the program's. What else
- * reads these bytes finds the program's own: they are written before each copy and each detachment. On the device an
- * attached pointer holds a place, which a kernel or a copy to the program finds as an address of the arena.
+ * So before an item that attaches, the target's table address is written. What a kernel has left in the pointer is told
+ * before, since the table compares it.
  */
 #include <stdlib.h>
 #include <string.h>
 
 #include "inner.h"
 
-typedef struct attached {
-    uintptr_t at;
-    intptr_t bias; /* how far behind the pointer's value its target begins */
-} attached;
-
-static attached *list;
-static size_t count, room;
-
-/* The place of the first pointer at or behind an address. */
-static size_t first_from(uintptr_t at)
+size_t lwa_first_pointer(const lwa_block *block, uintptr_t at)
 {
-    size_t low = 0, high = count;
+    size_t low = 0, high = block->pointer_count;
 
     while (low < high) {
-        size_t middle = low + (high - low) / 2;
+        const size_t middle = low + (high - low) / 2;
 
-        if (list[middle].at >= at) {
+        if (block->pointers[middle].at + LWA_POINTER > at) {
             high = middle;
         } else {
             low = middle + 1;
@@ -36,118 +26,125 @@ static size_t first_from(uintptr_t at)
     return low;
 }
 
-static void note_pointer(uintptr_t at, intptr_t bias)
+static lwa_pointer *find_pointer(const lwa_block *block, uintptr_t at)
 {
-    size_t i = first_from(at);
+    const size_t i = lwa_first_pointer(block, at);
 
-    if (i < count && list[i].at == at) {
-        list[i].bias = bias;
+    return i < block->pointer_count && block->pointers[i].at == at ? &block->pointers[i] : NULL;
+}
+
+static lwa_pointer *keep_pointer(lwa_block *block, uintptr_t at)
+{
+    const size_t i = lwa_first_pointer(block, at);
+
+    if (find_pointer(block, at) == NULL) {
+        block->pointers = lwa_grown(block->pointers, block->pointer_count, &block->pointer_room, sizeof(lwa_pointer));
+        memmove(block->pointers + i + 1, block->pointers + i, (block->pointer_count++ - i) * sizeof(lwa_pointer));
+    }
+    block->pointers[i] = (lwa_pointer){.at = at};
+    return &block->pointers[i];
+}
+
+static void drop_pointer(lwa_block *block, uintptr_t at)
+{
+    lwa_pointer *p = find_pointer(block, at);
+
+    if (p != NULL) {
+        memmove(p, p + 1, (size_t)(block->pointers + --block->pointer_count - p) * sizeof *p);
+    }
+}
+
+static uintptr_t value_at(uintptr_t at)
+{
+    uintptr_t value;
+
+    memcpy(&value, (const void *)at, LWA_POINTER);
+    return value;
+}
+
+/* The table address of bytes that are mapped, or are in the section of an item, which may map them; or 0. */
+static uint64_t told_of(const lwa_item *item, uintptr_t at, size_t len)
+{
+    const lwa_block *block = lwa_inside(at, len);
+
+    if (block != NULL) {
+        return block->told + (at - block->at);
+    }
+    return at - item->at < item->told.len && len <= item->told.len - (at - item->at)
+        ? item->told.start + (at - item->at) : 0;
+}
+
+static uintptr_t pointer_of(const lwa_item *item)
+{
+    return lwa_is_pointer(item) ? item->at : item->pointer;
+}
+
+/* One that is mapped nowhere is told as such, and one that is no memory is outside of the table's. */
+uint64_t lwa_told_pointer(const lwa_item *item)
+{
+    const uintptr_t at = pointer_of(item);
+    const uint64_t told = told_of(item, at, LWA_POINTER);
+
+    if (!lwa_is_memory(at, LWA_POINTER)) {
+        return lwa_outside() + at % LWA_POINTER;
+    }
+    return told != 0 ? told : LWA_NOWHERE + at % LWA_POINTER;
+}
+
+static void write_target(uint64_t told, uint64_t target)
+{
+    uint8_t bytes[LWA_POINTER];
+    lw_fault fault;
+
+    memcpy(bytes, &target, LWA_POINTER);
+    lwa_script_write(told, bytes);
+    lwa_room();
+    lwa_must(lw_host_write(lwa_table(), told, bytes, LWA_POINTER, &fault), &fault);
+}
+
+/* Tells the table whether a kernel has left another value in an attached pointer. */
+static void tell_left(const lwa_block *block, lwa_pointer *p)
+{
+    const bool other = value_at((uintptr_t)block->bytes + (p->at - block->at)) != p->device;
+
+    if (other != p->other && block->root->kernels == 0) {
+        lwa_write_on_device(block, p->at, other ? 0 : p->place);
+        p->other = other;
+    }
+}
+
+void lwa_aim(const lwa_item *item)
+{
+    const uintptr_t at = pointer_of(item);
+    const uint64_t told = at != 0 ? told_of(item, at, LWA_POINTER) : 0;
+    lwa_block *block = told != 0 ? lwa_inside(at, LWA_POINTER) : NULL;
+    lwa_pointer *p = block != NULL ? find_pointer(block, at) : NULL;
+
+    if (p != NULL) {
+        tell_left(block, p);
+    }
+    if (told != 0 && lwa_is_memory(at, LWA_POINTER)) {
+        write_target(told, told_of(item, value_at(at) + item->bias, 1));
+    }
+}
+
+void lwa_aimed(const lwa_item *item, const lwa_did *did)
+{
+    const uintptr_t at = pointer_of(item);
+    lwa_block *block = did->aim != LWA_NO_AIM ? lwa_inside(at, LWA_POINTER) : NULL, *target;
+    lwa_pointer *p;
+
+    if (block == NULL) {
         return;
     }
-    list = lwa_grown(list, count, &room, sizeof *list);
-    memmove(list + i + 1, list + i, (count - i) * sizeof *list);
-    list[i] = (attached){at, bias};
-    count++;
-}
-
-void lwa_mirror_pointers(uintptr_t at, size_t len)
-{
-    const uintptr_t from = at >= LWA_POINTER ? at - (LWA_POINTER - 1) : 0;
-
-    for (size_t i = first_from(from); i < count && list[i].at < at + len; i++) {
-        uint64_t told = lwa_told(list[i].at);
-
-        if (told != 0 && lwa_told(list[i].at + LWA_POINTER - 1) == told + LWA_POINTER - 1) {
-            lwa_want_memory(list[i].at, LWA_POINTER);
-            lwa_mirror_in(list[i].at, told, LWA_POINTER);
-        }
+    if (did->aim != LWA_DETACHED) {
+        target = lwa_meets(value_at(at) + item->bias, 1);
+        p = keep_pointer(block, at);
+        p->place = did->target;
+        p->device = lwa_device_of(target, value_at(at));
+        memcpy(block->bytes + (at - block->at), &p->device, LWA_POINTER);
+    } else if (did->attached == 0) {
+        drop_pointer(block, at);
+        lwa_copy(block, at, LWA_POINTER, false);
     }
-}
-
-/* Whether an address is mapped, or an item before that of the pointer, or with it, may map it. */
-static bool may_be_mapped(const lwa_items *items, size_t until, uintptr_t at, uint64_t told)
-{
-    uint64_t place;
-
-    if (told == 0) {
-        return false;
-    }
-    if (lw_device_address(&lwa_table, told, &place) == LW_DONE) {
-        return true;
-    }
-    for (size_t i = 0; i <= until; i++) {
-        if (at - items->at[i].at < items->at[i].len) {
-            return true;
-        }
-    }
-    return false;
-}
-
-void lwa_aim_pointers(const lwa_items *items)
-{
-    for (size_t i = 0; i < items->count; i++) {
-        const lwa_item *item = &items->at[i];
-        uintptr_t at = item->clause == LW_ATTACH ? item->at : item->pointer;
-        uint64_t told = at != 0 ? lwa_told(at) : 0;
-        uintptr_t value;
-        uint64_t target;
-
-        if (told == 0 || !lwa_is_memory(at, LWA_POINTER)) {
-            continue;
-        }
-        memcpy(&value, (const void *)at, LWA_POINTER);
-        target = value != 0 ? lwa_told(value + item->bias) : 0;
-        if (may_be_mapped(items, i, value + item->bias, target)) {
-            note_pointer(at, item->bias);
-            lwa_write(told, &target, LWA_POINTER);
-        } else if (value - LW_HOST_BASE < lwa_limits.host) {
-            /* Its number is that of some table address, where it does not point. */
-            lwa_write(told, &(uint64_t){0}, LWA_POINTER);
-        } else {
-            lwa_write(told, &value, LWA_POINTER);
-        }
-    }
-}
-
-static bool is_attached(const attached *p, uint64_t *told)
-{
-    uint64_t times = 0;
-
-    *told = lwa_told(p->at);
-    return *told != 0 && lw_attachment(&lwa_table, *told, &times) == LW_DONE && times != 0;
-}
-
-bool lwa_any_attached(void)
-{
-    uint64_t told;
-
-    for (size_t i = 0; i < count; i++) {
-        if (is_attached(&list[i], &told)) {
-            return true;
-        }
-    }
-    return false;
-}
-
-void lwa_translate(uint64_t start, uint8_t *bytes, size_t len, bool to_arena)
-{
-    uintptr_t at = lwa_untold(start);
-    uint64_t told, value;
-
-    if (count == 0 || at == 0) {
-        return;
-    }
-    for (size_t i = first_from(at); i < count && list[i].at < at + len; i++) {
-        if (!is_attached(&list[i], &told) || told < start || told + LWA_POINTER > start + len) {
-            continue;
-        }
-        memcpy(&value, bytes + (told - start), LWA_POINTER);
-        value = to_arena ? lwa_arena_of(value) - list[i].bias : lwa_place_of(value + list[i].bias);
-        memcpy(bytes + (told - start), &value, LWA_POINTER);
-    }
-}
-
-void lwa_forget_pointers(void)
-{
-    count = 0;
 }

@@ -7,13 +7,21 @@ static void *one_item(const char *name, void *from, lwa_way way, bool finalize, 
 {
     lwa_directive directive = {.way = way, .option = finalize};
     void *found = at;
+    lwa_block *block;
 
     lwa_take(name, from);
     if (lwa_is_for_table()) {
+        if (at == NULL && way == LWA_ENTER_DATA) {
+            lwa_unserved("the address is a null pointer");
+        }
         directive.queue = lwa_queue(async);
-        lwa_add_item(&directive.items, clause, (uintptr_t)at, len);
+        lwa_add_item(&directive.items, clause, (uintptr_t)at, at != NULL ? len : 0);
         lwa_direct(&directive);
-        found = len != 0 ? (void *)lwa_device_of((uintptr_t)at) : NULL;
+        block = len != 0 && way == LWA_ENTER_DATA ? lwa_meets((uintptr_t)at, 1) : NULL;
+        found = NULL;
+        if (block != NULL) {
+            found = (void *)lwa_device_of(block, (uintptr_t)at);
+        }
     }
     lwa_leave();
     return found;
@@ -22,7 +30,7 @@ static void *one_item(const char *name, void *from, lwa_way way, bool finalize, 
 #define ENTRY(name, clause) \
     LWA_EXPORT void *name(void *at, size_t len) \
     { \
-        return one_item(#name, LWA_FROM, LWA_ENTER_DATA, false, clause, at, len, LWA_NO_ASYNC); \
+        return one_item(#name, LWA_FROM, LWA_ENTER_DATA, false, clause, at, len, acc_async_sync); \
     }
 #define ENTRY_ASYNC(name, clause) \
     LWA_EXPORT void name(void *at, size_t len, int async) \
@@ -32,7 +40,7 @@ static void *one_item(const char *name, void *from, lwa_way way, bool finalize, 
 #define ROUTINE(name, way, finalize, clause) \
     LWA_EXPORT void name(void *at, size_t len) \
     { \
-        one_item(#name, LWA_FROM, way, finalize, clause, at, len, LWA_NO_ASYNC); \
+        one_item(#name, LWA_FROM, way, finalize, clause, at, len, acc_async_sync); \
     } \
     LWA_EXPORT void name##_async(void *at, size_t len, int async) \
     { \
@@ -41,7 +49,7 @@ static void *one_item(const char *name, void *from, lwa_way way, bool finalize, 
 #define POINTER_ROUTINE(name, way, finalize, clause) \
     LWA_EXPORT void name(void **at) \
     { \
-        one_item(#name, LWA_FROM, way, finalize, clause, at, 0, LWA_NO_ASYNC); \
+        one_item(#name, LWA_FROM, way, finalize, clause, at, 0, acc_async_sync); \
     } \
     LWA_EXPORT void name##_async(void **at, int async) \
     { \
@@ -66,17 +74,18 @@ POINTER_ROUTINE(acc_attach, LWA_ENTER_DATA, false, LW_ATTACH)
 POINTER_ROUTINE(acc_detach, LWA_EXIT_DATA, false, LW_DETACH)
 POINTER_ROUTINE(acc_detach_finalize, LWA_EXIT_DATA, true, LW_DETACH)
 
-/* Behind the object of the first byte lies an address that is mapped nowhere: so all of the section is in it. */
 LWA_EXPORT int acc_is_present(void *at, size_t len)
 {
-    uint64_t told, present = 1;
+    const lwa_block *block;
+    uint64_t present = 1;
 
     lwa_take("acc_is_present", LWA_FROM);
     if (lwa_is_for_table()) {
-        told = lwa_told((uintptr_t)at);
+        len += len == 0;
+        block = lwa_inside((uintptr_t)at, len);
         present = 0;
-        if (told != 0) {
-            lw_is_present(&lwa_table, told, len != 0 ? len : 1, &present);
+        if (block != NULL && block->at != block->device) {
+            lw_is_present(lwa_table(), block->told + ((uintptr_t)at - block->at), len, &present);
         }
     }
     lwa_leave();

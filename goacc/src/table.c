@@ -1,4 +1,4 @@
-/* The lock, the table under it, and the end of a program that is refused. */
+/* The lock, the tables under it, and the end of a program that is refused. */
 #define _GNU_SOURCE
 #include <dlfcn.h>
 #include <errno.h>
@@ -7,21 +7,37 @@
 #include <stdio.h>
 #include <stdlib.h>
 #include <string.h>
+#include <unistd.h>
 
 #include "inner.h"
 
 /* The events of the stored trace; when they are so many, they are folded into the table's base. */
 #define TRACE 16384
 
-lw_table lwa_table = LW_NO_TABLE;
+_Thread_local unsigned lwa_on;
 lw_limits lwa_limits;
+uint64_t lwa_turn;
 
-static pthread_mutex_t lock = PTHREAD_MUTEX_INITIALIZER;
-static uint64_t stored;
+static lw_table tables[LWA_DEVICES];
+static uint64_t stored[LWA_DEVICES];
 
-/* The call of the program that has the lock. */
-static const char *caller_name;
-static void *caller_from;
+static pthread_mutex_t lock = PTHREAD_ERRORCHECK_MUTEX_INITIALIZER_NP;
+static pthread_cond_t gathered = PTHREAD_COND_INITIALIZER;
+
+/* The thread that ends the program, of which it is the only one that goes on. */
+static bool ending;
+static pthread_t ender;
+
+/* What ends with a thread: its open regions, the innermost first. */
+static pthread_key_t regions_key;
+
+/* The call of the program that this thread is in. */
+static _Thread_local struct {
+    const char *name;
+    void *from;
+    int event, construct, cancel_state;
+} caller;
+static _Thread_local bool in_kernel;
 
 /* A size in bytes from the environment, of digits alone. */
 static uint64_t size_of(const char *word, uint64_t otherwise)
@@ -40,6 +56,11 @@ static uint64_t size_of(const char *word, uint64_t otherwise)
     return size;
 }
 
+lw_table *lwa_table(void)
+{
+    return &tables[lwa_on];
+}
+
 static void start_table(void)
 {
     lw_fault fault;
@@ -50,54 +71,191 @@ static void start_table(void)
     lwa_limits.regions = 65536;
     lwa_limits.tickets = UINT64_C(1) << 40;
     lwa_limits.trace_cap = TRACE;
-    lwa_must(lw_table_new(&lwa_table, &lwa_limits, &fault), &fault);
-    stored = 0;
+    lwa_must(lw_table_new(lwa_table(), &lwa_limits, &fault), &fault);
+    stored[lwa_on] = 0;
     lwa_start_script();
     lwa_start_log();
+    if (caller.event != acc_ev_device_init_start && lwa_is_for_table()) {
+        lwa_note(acc_ev_device_init_start, NULL, 0, 0);
+        lwa_note(acc_ev_device_init_end, NULL, 0, 0);
+    }
 }
 
 static bool has_table(void)
 {
-    return lwa_table.at != NULL;
+    return lwa_table()->at != NULL;
 }
 
-void lwa_take(const char *name, void *from)
+void lwa_go_to(unsigned device)
 {
-    pthread_mutex_lock(&lock);
-    caller_name = name;
-    caller_from = from;
+    if (device >= LWA_DEVICES) {
+        lwa_unserved("there is no device of the number %u; the last one is %d", device, LWA_DEVICES - 1);
+    }
+    lwa_on = device;
     if (!has_table()) {
         start_table();
     }
 }
 
+void lwa_each_device(void (*act)(void))
+{
+    const unsigned on = lwa_on;
+
+    for (lwa_on = 0; lwa_on < LWA_DEVICES; lwa_on++) {
+        if (has_table()) {
+            act();
+        }
+    }
+    lwa_on = on;
+}
+
+/* ---- The lock ---- */
+
+static void sleep_for_good(void)
+{
+    pthread_mutex_unlock(&lock);
+    while (true) {
+        pause();
+    }
+}
+
+void lwa_take_for(const char *name, void *from, int event, int construct)
+{
+    lwa_find_tools();
+    lwa_tell(event, construct);
+    caller.name = name;
+    caller.from = from;
+    caller.event = event;
+    caller.construct = construct;
+    pthread_setcancelstate(PTHREAD_CANCEL_DISABLE, &caller.cancel_state);
+    if (pthread_mutex_lock(&lock) != 0) {
+        lwa_unserved("this thread is in a directive already");
+    }
+    lwa_turn++;
+    if (ending && !pthread_equal(ender, pthread_self())) {
+        sleep_for_good();
+    }
+    if (in_kernel) {
+        lwa_unserved("it is called in a kernel");
+    }
+    lwa_go_to(lwa_chosen_device());
+}
+
 void lwa_leave(void)
 {
     pthread_mutex_unlock(&lock);
+    pthread_setcancelstate(caller.cancel_state, NULL);
+    lwa_tell_notes(caller.construct);
+    if (caller.event != acc_ev_none) {
+        lwa_tell(caller.event + 1, caller.construct);
+    }
 }
+
+/* A function of the host may call what it likes. Blocks are brought back also where another thread ends the program,
+   which may wait for them. */
+void lwa_run_free(void (*run)(void *), void *addresses, bool on_device)
+{
+    const int event = on_device ? acc_ev_enqueue_launch_start : acc_ev_none;
+    const __typeof__(caller) outer = caller;
+
+    pthread_mutex_unlock(&lock);
+    lwa_tell_notes(outer.construct);
+    lwa_tell(event, outer.construct);
+    in_kernel = on_device;
+    run(addresses);
+    in_kernel = false;
+    lwa_tell(on_device ? event + 1 : event, outer.construct);
+    caller = outer;
+    pthread_mutex_lock(&lock);
+    lwa_turn++;
+    if (on_device && !has_table()) {
+        sleep_for_good();
+    }
+    pthread_cond_broadcast(&gathered);
+}
+
+bool lwa_is_lent(uint32_t status)
+{
+    if (status != LW_LENT) {
+        return false;
+    }
+    pthread_cond_wait(&gathered, &lock);
+    lwa_turn++;
+    if (!has_table()) {
+        sleep_for_good();
+    }
+    return true;
+}
+
+/* ---- Threads and children of the program ---- */
+
+lwa_region *lwa_innermost(void)
+{
+    return pthread_getspecific(regions_key);
+}
+
+void lwa_set_innermost(lwa_region *region)
+{
+    pthread_setspecific(regions_key, region);
+}
+
+static void end_thread(void *innermost)
+{
+    size_t open = 0;
+
+    for (const lwa_region *region = innermost; region != NULL; region = region->below) {
+        open++;
+    }
+    lwa_take("end of a thread", NULL);
+    lwa_unserved("%zu of its data regions are open", open);
+}
+
+static void before_fork(void)
+{
+    pthread_mutex_lock(&lock);
+}
+
+static void after_fork(void)
+{
+    pthread_mutex_unlock(&lock);
+}
+
+/* A child has the table as it was, and no other thread of it. */
+static void in_child(void)
+{
+    lock = (pthread_mutex_t)PTHREAD_ERRORCHECK_MUTEX_INITIALIZER_NP;
+    gathered = (pthread_cond_t)PTHREAD_COND_INITIALIZER;
+    lwa_each_device(lwa_forget_script);
+    lwa_each_device(lwa_gather_all);
+}
+
+__attribute__((constructor)) static void at_start(void)
+{
+    pthread_key_create(&regions_key, end_thread);
+    pthread_atfork(before_fork, after_fork, in_child);
+}
+
+/* ---- The table ---- */
 
 void lwa_end_table(void)
 {
     lwa_finish_script();
     lwa_finish_log();
-    lw_table_end(&lwa_table);
-    lwa_forget_addresses();
-    lwa_forget_objects();
+    lw_table_end(lwa_table());
     lwa_forget_waiting();
-    lwa_forget_pointers();
-    lwa_forget_kernels();
+    lwa_forget_blocks();
 }
 
 void lwa_room(void)
 {
-    if (stored >= TRACE) {
+    if (stored[lwa_on] >= TRACE) {
         uint64_t folded;
         lw_fault fault;
 
-        lwa_must(lw_rebase(&lwa_table, &folded, &fault), &fault);
-        stored = 0;
+        lwa_must(lw_rebase(lwa_table(), &folded, &fault), &fault);
+        stored[lwa_on] = 0;
     }
-    stored++;
+    stored[lwa_on]++;
 }
 
 /* Where the call stands in the program, as far as the dynamic linker knows. */
@@ -105,21 +263,30 @@ static void print_source(void)
 {
     Dl_info info;
 
-    if (caller_from == NULL || dladdr(caller_from, &info) == 0 || info.dli_fname == NULL) {
+    if (caller.from == NULL || dladdr(caller.from, &info) == 0 || info.dli_fname == NULL) {
         fprintf(stderr, "\n");
     } else if (info.dli_sname != NULL) {
         fprintf(stderr, ", called from %s in %s\n", info.dli_sname, info.dli_fname);
     } else {
-        fprintf(stderr, ", called from %s(+0x%tx)\n", info.dli_fname, (char *)caller_from - (char *)info.dli_fbase);
+        fprintf(stderr, ", called from %s(+0x%tx)\n", info.dli_fname, (char *)caller.from - (char *)info.dli_fbase);
     }
 }
 
+/* Handlers of the end of the program run, but not a second time, and not in a kernel, which may have what they want. */
 _Noreturn static void end_program(const char *text)
 {
     fflush(stdout);
-    fprintf(stderr, "lamwiest: %s: %s", caller_name, text);
+    fprintf(stderr, "lamwiest: %s: %s", caller.name, text);
     print_source();
-    lwa_leave();
+    if (ending || in_kernel) {
+        lwa_each_device(lwa_end_table);
+        fflush(NULL);
+        _exit(1);
+    }
+    ending = true;
+    ender = pthread_self();
+    pthread_mutex_unlock(&lock);
+    pthread_setcancelstate(caller.cancel_state, NULL);
     exit(1);
 }
 
@@ -180,15 +347,14 @@ void *lwa_grown(void *list, size_t count, size_t *room, size_t size)
     return lwa_memory(list, *room * size);
 }
 
-/* At the end of the program the script, the log and the report are ended. Where a kernel ends it, or another thread is
-   in a directive, they are not. */
+/* At the end of the program the script, the log and the report are ended. */
 __attribute__((destructor)) static void at_end(void)
 {
-    if (pthread_mutex_trylock(&lock) != 0) {
+    if (pthread_mutex_lock(&lock) != 0) {
         return;
     }
-    if (has_table()) {
-        lwa_end_table();
-    }
+    ending = true;
+    ender = pthread_self();
+    lwa_each_device(lwa_end_table);
     pthread_mutex_unlock(&lock);
 }

@@ -1,4 +1,4 @@
-//! How many rows hold the entries of a list, and the stack that a long chain takes.
+//! How many rows hold the entries of a list, in which each is found, and the stack that a long chain takes.
 
 use acc_base::Fault;
 use acc_rows::{Place, Rows};
@@ -43,49 +43,85 @@ fn take(rows: &mut Rows<()>, key: u128) {
     }
 }
 
+/// Whether the entry of a key is there.
+fn has(rows: &Rows<()>, key: u128) -> bool {
+    rows.get(key, Place::default()).is_some()
+}
+
+/// Puts the entries of the numbers from one on into the rows, up to another.
+fn put_all(rows: &mut Rows<()>, order: Order, from: u64, to: u64) -> Result<(), Fault> {
+    for number in from..to {
+        put(rows, key_of(order, number))?;
+    }
+    Ok(())
+}
+
 /// Rows of so many entries that came in this order.
 pub fn filled(alloc: Global, order: Order, count: u64) -> Result<Rows<()>, Fault> {
     let mut rows = Rows::new(alloc);
-    for number in 0..count {
-        put(&mut rows, key_of(order, number))?;
-    }
+    put_all(&mut rows, order, 0, count)?;
     Ok(rows)
 }
 
-/// By which keys entries come, how many, how many of the first go again, and how many rows there are then.
+/// By which keys entries come, how many, how many of the first go again, how many more come then, and how many rows there
+/// are in the end.
 ///
 /// A row has place for 64. One that is full when an entry comes at its end keeps the 63 on its other side. Two rows
 /// side by side become one where they have 32 or fewer together.
-const COUNTS: &[(Order, u64, u64, usize)] = &[
-    (Order::Rising, 0, 0, 0),
-    (Order::Rising, 64, 0, 1),
-    (Order::Rising, 65, 0, 2),
-    (Order::Rising, 127, 0, 2),
-    (Order::Rising, 128, 0, 3),
-    (Order::Falling, 64, 0, 1),
-    (Order::Falling, 127, 0, 2),
-    (Order::Falling, 128, 0, 3),
-    (Order::Rising, 65, 32, 2),
-    (Order::Rising, 65, 33, 1),
-    (Order::Falling, 65, 32, 2),
-    (Order::Falling, 65, 33, 1),
-    (Order::Rising, 65, 65, 0),
+const COUNTS: &[(Order, u64, u64, u64, usize)] = &[
+    (Order::Rising, 0, 0, 0, 0),
+    (Order::Rising, 64, 0, 0, 1),
+    (Order::Rising, 65, 0, 0, 2),
+    (Order::Rising, 127, 0, 0, 2),
+    (Order::Rising, 128, 0, 0, 3),
+    (Order::Falling, 64, 0, 0, 1),
+    (Order::Falling, 127, 0, 0, 2),
+    (Order::Falling, 128, 0, 0, 3),
+    (Order::Rising, 65, 32, 0, 2),
+    (Order::Rising, 65, 33, 0, 1),
+    (Order::Falling, 65, 32, 0, 2),
+    (Order::Falling, 65, 33, 0, 1),
+    (Order::Rising, 128, 63, 0, 2),
+    (Order::Rising, 65, 65, 0, 0),
+    (Order::Rising, 65, 33, 33, 2),
 ];
 
-/// How many rows there are after entries came and went.
-fn rows_left(alloc: Global, order: Order, come: u64, go: u64) -> Result<usize, Fault> {
-    let mut rows = filled(alloc, order, come)?;
-    for number in 0..go {
-        take(&mut rows, key_of(order, number));
+/// How many entries of the first so many numbers are there.
+fn found(rows: &Rows<()>, order: Order, count: u64) -> u64 {
+    let mut found: u64 = 0;
+    for number in 0..count {
+        found = found.saturating_add(u64::from(has(rows, key_of(order, number))));
     }
-    Ok(rows.rows().len())
+    found
+}
+
+/// Takes the first so many of some entries, and puts so many more. Answers how many rows there are then, and how many of
+/// all these entries are found.
+fn change(
+    rows: &mut Rows<()>,
+    order: Order,
+    (come, go, back): (u64, u64, u64),
+) -> Result<(usize, u64), Fault> {
+    for number in 0..go {
+        take(rows, key_of(order, number));
+    }
+    let all = come.saturating_add(back);
+    put_all(rows, order, come, all)?;
+    Ok((rows.rows().len(), found(rows, order, all)))
+}
+
+/// The same on new rows.
+fn left(alloc: Global, order: Order, counts: (u64, u64, u64)) -> Result<(usize, u64), Fault> {
+    let mut rows = filled(alloc, order, counts.0)?;
+    change(&mut rows, order, counts)
 }
 
 #[test]
 fn rows_are_full_and_are_joined(rt: HostRuntime) -> Result<(), Fail> {
-    for (order, come, go, count) in COUNTS {
-        let left = rows_left(rt.alloc(), *order, *come, *go)?;
-        assert_eq!(rt; left, *count, "{order:?} {come} {go}");
+    for (order, come, go, back, count) in COUNTS {
+        let left = left(rt.alloc(), *order, (*come, *go, *back))?;
+        let entries = come.saturating_sub(*go).saturating_add(*back);
+        assert_eq!(rt; left, (*count, entries), "{order:?} {come} {go} {back}");
     }
     Ok(())
 }

@@ -6,3 +6,14 @@
 mod random;
 #[cfg(test)]
 mod replay;
+
+#[cfg(test)]
+use std::fmt::Debug;
+#[cfg(test)]
+use std::process::Abort;
+
+/// Ends the test where what was found is not what is wanted.
+#[cfg(test)]
+fn same<T: PartialEq + Debug + Copy>(rt: &impl Abort, row: &str, found: T, wanted: T) {
+    assert_eq!(rt; found, wanted, "{row}");
+}

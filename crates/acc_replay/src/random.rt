@@ -2,6 +2,7 @@
 //! memories.
 
 use crate::replay::Replay;
+use crate::same;
 use acc_base::EnterClause::{self, Attach, Copyin};
 use acc_base::ExitClause::{Copyout, Delete, Detach};
 use acc_base::RegionClause::{self, Copy, Present};
@@ -13,7 +14,6 @@ use acc_table_tests::language::Ask::{
     FinalizeVia, Lend, Update, UpdateIfPresent, UpdateLater, Wait, Write,
 };
 use acc_table_tests::language::{Limits, WIDE};
-use acc_table_tests::same;
 use acc_table_tests::turns::{table_of, turn_of};
 use std::alloc::{AllocError, Global};
 use std::process::Abort;

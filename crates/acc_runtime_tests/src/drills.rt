@@ -1,13 +1,13 @@
 //! Drills: what they answer and leave, what their threads do, and that these work at the same time.
 
 use crate::actors::{Actor, Deed};
-use crate::gates::Meeting;
 use crate::lives::{MAPPED, reads};
 use crate::same;
-use crate::scenes::{Scene, again_on_a_new_runtime, limits, on_a_new_runtime};
+use crate::scenes::{Scene, again_on_a_new_runtime, on_a_new_runtime};
 use acc_base::{Config, Fault, RegionClause};
 use acc_runtime::{Drilled, Gate, Open, drill};
 use acc_table::Table;
+use acc_thread_tests::{Meeting, limits};
 use std::alloc::{AllocError, Global};
 use std::process::Abort;
 use std::rt::Clock;
@@ -199,9 +199,9 @@ impl<
 
     /// Drills while each thread but one is held.
     fn drill_held(&mut self, work: (usize, u64), first: usize) -> Result<Drilled, Fault> {
-        let meeting = Meeting::new(first);
+        let meeting = Meeting::new(first, work.0);
         let left = self.drill(work, &meeting);
-        same(self.rt, meeting.took_place(work.0), true);
+        same(self.rt, meeting.took_place(), true);
         left
     }
 

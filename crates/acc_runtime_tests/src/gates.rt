@@ -1,98 +1,11 @@
-//! Gates that make pieces of work meet, and gates that look.
+//! A gate that looks.
 
 use acc_lend::Gate;
 use acc_runtime::{Caller, Runtime};
 use acc_table::Table;
-use std::rt::Clock;
-use std::sync::atomic::{AtomicBool, AtomicU64, Ordering};
+use std::sync::atomic::{AtomicU64, Ordering};
 use std::sync::ledger::Ledger;
 use std::sync::{Mutex, Wait};
-use std::thread::sleep;
-use std::time::Duration;
-
-/// How often work that is held waits a millisecond before it gives up.
-const WAITS: u32 = 10_000;
-
-/// One of a number below eight, in a sum of how often each was there.
-fn one_of(n: usize) -> u64 {
-    1 << (8 * n.min(7))
-}
-
-/// Holds all work but that of one number before it begins, until that one is done. So they all are at work at the same
-/// time. It keeps how often it was called for each number.
-#[derive(Drop)]
-pub struct Meeting {
-    first: usize,
-    begun: AtomicU64,
-    done: AtomicU64,
-    has_given_up: AtomicBool,
-}
-
-impl Meeting {
-    /// A meeting in which all other work waits for that of the number `first`.
-    pub fn new(first: usize) -> Meeting {
-        Meeting {
-            first,
-            begun: AtomicU64::new(0),
-            done: AtomicU64::new(0),
-            has_given_up: AtomicBool::new(false),
-        }
-    }
-
-    /// Work of each number below `count` began once and was done once, and none waited in vain.
-    pub fn took_place(&self, count: usize) -> bool {
-        let mut all = 0;
-        for n in 0..count.min(8) {
-            all |= one_of(n);
-        }
-        let begun = self.begun.load(Ordering::SeqCst);
-        let done = self.done.load(Ordering::SeqCst);
-        begun == all && done == all && !self.has_given_up.load(Ordering::SeqCst)
-    }
-
-    /// Waits until the first work is done; false where that took too long.
-    fn wait<R: Clock>(&self, rt: &R) -> bool {
-        for _ in 0..WAITS {
-            if self.done.load(Ordering::SeqCst) & one_of(self.first) != 0 {
-                return true;
-            }
-            sleep(rt, Duration::from_millis(1));
-        }
-        false
-    }
-}
-
-impl<R: Clock> Gate<R> for Meeting {
-    fn before(&self, rt: &R, n: usize) {
-        self.begun.fetch_add(one_of(n), Ordering::SeqCst);
-        if n != self.first && !self.wait(rt) {
-            self.has_given_up.store(true, Ordering::SeqCst);
-        }
-    }
-
-    fn after(&self, _rt: &R, n: usize) {
-        self.done.fetch_add(one_of(n), Ordering::SeqCst);
-    }
-}
-
-/// Lets a worker take part in a meeting, under a number of its own for all that it does.
-#[derive(Drop)]
-pub struct Numbered<'a> {
-    /// The meeting.
-    pub meeting: &'a Meeting,
-    /// The number of the worker.
-    pub number: usize,
-}
-
-impl<R: Clock> Gate<R> for Numbered<'_> {
-    fn before(&self, rt: &R, _n: usize) {
-        self.meeting.before(rt, self.number);
-    }
-
-    fn after(&self, rt: &R, _n: usize) {
-        self.meeting.after(rt, self.number);
-    }
-}
 
 /// Looks how many events there are when it is called: before and after number 0, before and after number 1, and so on.
 #[derive(Drop)]

@@ -1,24 +1,16 @@
-//! Tests of `acc_runtime`, and of the parts of kernels that run in threads: what no clause of them says. They stand in a
-//! crate of their own, so that those are proved once and not twice. A test with `growth` in its name passes where any one
+//! Tests of `acc_runtime`: what no clause of it says. They stand in a crate of their own, so that it is proved once and not
+//! twice; threads that meet have one more, `acc_thread_tests`, so that none takes long. A test with `growth` in its name passes where any one
 //! growth of memory, or any one start of a thread, is refused to its program, too.
 #![tactic(auto)]
 
 #[cfg(test)]
 mod actors;
 #[cfg(test)]
-mod crowd;
-#[cfg(test)]
 mod drills;
-#[cfg(test)]
-mod example;
 #[cfg(test)]
 mod gates;
 #[cfg(test)]
 mod lives;
-#[cfg(test)]
-mod messages;
-#[cfg(test)]
-mod parts;
 #[cfg(test)]
 mod scenes;
 #[cfg(test)]

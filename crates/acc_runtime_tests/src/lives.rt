@@ -2,9 +2,10 @@
 
 use crate::actors::{ARRAY, Actor, Deed};
 use crate::same;
-use crate::scenes::{Scene, again_on_a_new_runtime, limits, on_a_new_runtime, other_limits};
+use crate::scenes::{Scene, again_on_a_new_runtime, on_a_new_runtime, other_limits};
 use acc_base::{Event, ExitClause, Fault, RegionClause, UpdateClause};
 use acc_table::Table;
+use acc_thread_tests::limits;
 use std::alloc::{AllocError, Global};
 use std::process::Abort;
 use std::rt::Clock;

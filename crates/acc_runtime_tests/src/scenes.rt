@@ -3,10 +3,11 @@
 ghost use Rattle.std.specs.Prelude.{◌≡◌};
 
 use crate::actors::Actor;
-use crate::{crowd, drills, lives, messages, same, serving, shares};
+use crate::{drills, lives, same, serving, shares};
 use acc_base::{Config, Fault};
 use acc_runtime::{Blanks, Runtime, blanks};
 use acc_table::Table;
+use acc_thread_tests::limits;
 use std::marker::Brand;
 use std::process::Abort;
 use std::rt::Clock;
@@ -27,19 +28,6 @@ pub enum Scene {
     Shares,
     /// Regions of two devices.
     Devices,
-    /// Two workers, of which one is held until that of the number is done.
-    Workers(usize),
-    /// A thread that is told of what another did.
-    Tell,
-    /// A thread that exits from what another entered.
-    HandOver,
-    /// Eight threads over one array, and each over one of its own.
-    Crowd,
-}
-
-/// The limits of most runtimes.
-pub fn limits(regions: u64, tickets: u64) -> Result<Config, Fault> {
-    Config::new(4_096, 4_096, regions, tickets, 4_294_967_295, 4, 262_144)
 }
 
 /// Full traces, and limits of which none is that of other runtimes.
@@ -90,10 +78,6 @@ impl<
             Scene::Drill(drilling) => self.run_drill(drilling),
             Scene::Shares => shares::split_and_merge(self),
             Scene::Devices => shares::enter_both(self),
-            Scene::Workers(first) => messages::serve_both(self, first),
-            Scene::Tell => messages::tell(self),
-            Scene::HandOver => messages::hand_over(self),
-            Scene::Crowd => crowd::run_and_look(self),
         }
     }
 }

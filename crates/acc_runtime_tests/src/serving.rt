@@ -4,13 +4,10 @@ use crate::actors::{Actor, Deed};
 use crate::gates::Watch;
 use crate::lives::{Life, MAPPED, Mode, Row};
 use crate::same;
-use crate::scenes::{
-    Scene, again_on_a_new_runtime, limits, on_a_new_runtime, other_limits, two_devices,
-};
+use crate::scenes::{Scene, again_on_a_new_runtime, on_a_new_runtime, other_limits, two_devices};
 use acc_base::{Fault, UpdateClause};
 use acc_runtime::{Open, Served, serve};
-use crossbeam_channel::{Receiver, unbounded};
-use std::alloc::Global;
+use acc_thread_tests::{bells, limits};
 use std::process::Abort;
 use std::sync::Wait;
 use std::sync::ledger::Ledger;
@@ -102,19 +99,6 @@ const TWO_DEVICES: [Service; 1] = [Service {
         ),
     ],
 }];
-
-/// A channel in which these words wait, and which is closed behind them.
-pub fn bells<R: Wait>(rt: &R, alloc: Global, words: &[u64]) -> Result<Receiver<u64>, Fault> {
-    let Ok((to, from)) = unbounded::<u64, _>(alloc) else {
-        return Err(Fault::Memory);
-    };
-    for word in words {
-        if to.send(rt, *word).is_err() {
-            return Err(Fault::Memory);
-        }
-    }
-    Ok(from)
-}
 
 impl<Regions: Ledger, Tickets: Ledger, Events: Ledger, R: Abort + Wait + AllocGlobal> Life<
     '_,

@@ -3,8 +3,9 @@
 
 use crate::actors::{Actor, Deed};
 use crate::same;
-use crate::scenes::{Scene, limits, on_a_new_runtime, two_devices};
+use crate::scenes::{Scene, on_a_new_runtime, two_devices};
 use acc_base::{Fault, RegionClause};
+use acc_thread_tests::limits;
 use std::process::Abort;
 use std::sync::Wait;
 use std::sync::ledger::Ledger;

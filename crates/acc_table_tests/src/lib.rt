@@ -8,10 +8,13 @@ pub mod language;
 mod tests;
 pub mod turns;
 
+#[cfg(test)]
 use std::fmt::Debug;
+#[cfg(test)]
 use std::process::Abort;
 
 /// Ends the test where what was found is not what is wanted.
-pub fn same<T: PartialEq + Debug + Copy>(rt: &impl Abort, row: &str, found: T, wanted: T) {
+#[cfg(test)]
+fn same<T: PartialEq + Debug + Copy>(rt: &impl Abort, row: &str, found: T, wanted: T) {
     assert_eq!(rt; found, wanted, "{row}");
 }

@@ -1,4 +1,4 @@
-//! The example of the README, as it stands there.
+//! An example of a table.
 
 use acc_base::{Config, Directive, EnterClause, Fault, HOST_BASE, Item, List, Section};
 use acc_table::{Call, Table, abandon};

@@ -63,6 +63,22 @@ pub const ROWS: &[Row] = &[
         ],
     },
     Row {
+        name: "a block that has ended is told with all bytes of the device that it takes",
+        limits: WIDE,
+        lines: &[
+            Does(EnterData(&[(Copyin, A, 9)])),
+            Does(ExitDataLater(&[(Copyout, A, 9)], 1)),
+            Says(EndedFrom(
+                0,
+                Some(Ended {
+                    place: DEVICE,
+                    size: 16,
+                    pins: 1,
+                }),
+            )),
+        ],
+    },
+    Row {
         name: "a wait tells how many transfers it made, from the first queue to the last",
         limits: WIDE,
         lines: &[

@@ -1,12 +1,14 @@
 //! Events that are folded into the base, and the room that the trace has then.
 
-use crate::language::Ask::{Enter, EnterData, Exit, ExitDataLater, Lend, UpdateLater, Wait, Write};
+use crate::language::Ask::{
+    Enter, EnterData, Exit, ExitData, ExitDataLater, Lend, UpdateLater, Wait, Write,
+};
 use crate::language::Check::{Based, BasedNumbers, Events, Host, Present, Stored, Used};
-use crate::language::Line::{Does, Drains, Gives, Rebases, Refuses, Says, Spares};
+use crate::language::Line::{Does, Drains, Gives, On, Rebases, Refuses, Says, Spares};
 use crate::language::{Ask, Limits, Row, WIDE};
 use crate::tests::rows::{A, FULL, TO_HOST};
 use acc_base::EnterClause::{Attach, Copyin};
-use acc_base::ExitClause::Copyout;
+use acc_base::ExitClause::{Copyout, Delete};
 use acc_base::UpdateClause::ToSelf;
 use acc_base::{Fault, RegionClause};
 
@@ -93,10 +95,38 @@ pub const ROWS: &[Row] = &[
             Does(EnterData(&[(Attach, A + 8, 8)])),
             Gives(Enter(&[(RegionClause::Present, A + 16, 16)]), 1),
             Gives(Lend(1, (A + 16, 16)), 1),
+            Gives(Lend(1, (A, 16)), 2),
             Does(ExitDataLater(&[(Copyout, A + 32, 16)], 2)),
-            Rebases(6),
-            Says(Based([2, 3, 1, 1, 1, 1, 3])),
-            Says(BasedNumbers(3, 2, 2, 64)),
+            Rebases(7),
+            Says(Based([2, 3, 1, 2, 1, 1, 3])),
+            Says(BasedNumbers(3, 2, 3, 64)),
+        ],
+    },
+    Row {
+        name: "a base has what each device has",
+        limits: Limits { devices: 2, ..FULL },
+        lines: &[
+            On(1),
+            Does(EnterData(&[(Copyin, A, 16), (Copyin, A + 16, 16)])),
+            Rebases(1),
+            Says(Based([2, 2, 0, 0, 0, 0, 2])),
+            Says(BasedNumbers(2, 1, 1, 64)),
+            On(0),
+            Says(Based([0; 7])),
+            Says(BasedNumbers(0, 1, 1, 64)),
+        ],
+    },
+    Row {
+        name: "a base has no loan of a block that is gone",
+        limits: WIDE,
+        lines: &[
+            Does(EnterData(&[(Copyin, A, 16), (Copyin, A + 16, 16), (Copyin, A + 32, 16)])),
+            Does(ExitData(&[(Delete, A + 16, 16)])),
+            Does(EnterData(&[(Copyin, A + 16, 16)])),
+            Gives(Enter(&[]), 1),
+            Gives(Lend(1, (A + 16, 16)), 1),
+            Rebases(5),
+            Says(Based([3, 3, 0, 1, 0, 1, 0])),
         ],
     },
 ];

@@ -1,0 +1,308 @@
+/*
+ * What is mapped: for each mapped range of the table where it lies in the program, in the table's host memory, and on
+ * the device.
+ *
+ * Blocks do not overlap in the program's addresses, so a tree has them in order, and finds one that meets a section: if
+ * it has not all of it, none has.
+ *
+ * Table addresses are taken when a section is to be mapped, and given back when it is mapped no more and none of its
+ * copies waits. Behind each section lies an address that is never mapped, and so one lies before each.
+ *
+ * The device's addresses follow the program's: a window of the program's addresses has a window of the device's, in
+ * which each byte lies as far behind the first. So what a program has at a multiple of its alignment the device has so,
+ * and members of a structure lie as in the program, whichever of them are mapped.
+ */
+#define _GNU_SOURCE
+#include <search.h>
+#include <stdlib.h>
+#include <string.h>
+#include <sys/mman.h>
+
+#include "inner.h"
+
+#define WINDOW ((uintptr_t)1 << 30)
+
+/* Pointers are told at a multiple of 8 where they are at one. */
+#define ALIGNMENT 8
+
+typedef struct window {
+    uintptr_t at, device;
+    size_t len;
+} window;
+
+/* Table addresses that are free: the first, and behind the last. By rising address, and with others between them. */
+typedef struct range {
+    uint64_t start, end;
+} range;
+
+/* What is kept beside one table. */
+static struct {
+    /* The blocks by the program's addresses, and by those of the device. */
+    void *tree, *device_tree;
+
+    window *windows;
+    size_t window_count, window_room;
+
+    range *free_ranges;
+    size_t free_count, free_room, next_free;
+    bool started;
+} all[LWA_DEVICES];
+
+#define OWN all[lwa_on]
+
+/* ---- Finding ---- */
+
+/* Two are equal where they meet. */
+static int compare(const void *a, const void *b)
+{
+    const lwa_block *x = a, *y = b;
+
+    return x->at + x->len <= y->at ? -1 : x->at >= y->at + y->len;
+}
+
+static int compare_on_device(const void *a, const void *b)
+{
+    const lwa_block *x = a, *y = b;
+
+    return x->device + x->len <= y->device ? -1 : x->device >= y->device + y->len;
+}
+
+lwa_block *lwa_meets(uintptr_t at, size_t len)
+{
+    const lwa_block key = {.at = at, .len = len};
+    lwa_block **found = len != 0 ? tfind(&key, &OWN.tree, compare) : NULL;
+
+    return found != NULL ? *found : NULL;
+}
+
+bool lwa_has(const lwa_block *block, uintptr_t at, size_t len)
+{
+    return at >= block->at && at - block->at <= block->len && len <= block->len - (at - block->at);
+}
+
+lwa_block *lwa_inside(uintptr_t at, size_t len)
+{
+    lwa_block *met = lwa_meets(at, len);
+
+    return met != NULL && lwa_has(met, at, len) ? met : NULL;
+}
+
+/* ---- Table addresses ---- */
+
+uint64_t lwa_outside(void)
+{
+    return LW_HOST_BASE + lwa_limits.host;
+}
+
+static uint64_t first_taken(uint64_t told)
+{
+    return told / ALIGNMENT * ALIGNMENT;
+}
+
+static uint64_t behind_taken(uint64_t told, size_t len)
+{
+    return first_taken(told + len) + ALIGNMENT;
+}
+
+/* The search goes on where the last one ended. */
+uint64_t lwa_take_addresses(uintptr_t at, size_t len)
+{
+    if (!OWN.started) {
+        OWN.started = true;
+        OWN.next_free = OWN.free_count = 0;
+        lwa_give_addresses(LWA_NOWHERE + 16, lwa_limits.host - 16 - ALIGNMENT);
+    }
+    for (size_t n = 0; len < lwa_limits.host && n < OWN.free_count; n++) {
+        range *r = &OWN.free_ranges[OWN.next_free < OWN.free_count ? OWN.next_free : (OWN.next_free = 0)];
+        const uint64_t told = r->start + at % ALIGNMENT;
+
+        if (behind_taken(told, len) <= r->end) {
+            r->start = behind_taken(told, len);
+            return told;
+        }
+        OWN.next_free++;
+    }
+    lwa_unserved("there is no room for %zu bytes more: LAMWIEST_HOST is %zu", len, (size_t)lwa_limits.host);
+}
+
+void lwa_give_addresses(uint64_t told, size_t len)
+{
+    const uint64_t start = first_taken(told), end = behind_taken(told, len);
+    size_t low = 0, high = OWN.free_count;
+
+    while (low < high) {
+        const size_t middle = low + (high - low) / 2;
+
+        if (OWN.free_ranges[middle].start > start) {
+            high = middle;
+        } else {
+            low = middle + 1;
+        }
+    }
+    OWN.next_free = low != 0 && OWN.free_ranges[low - 1].end == start ? low - 1 : low;
+    if (OWN.next_free == low) {
+        OWN.free_ranges = lwa_grown(OWN.free_ranges, OWN.free_count, &OWN.free_room, sizeof *OWN.free_ranges);
+        memmove(OWN.free_ranges + low + 1, OWN.free_ranges + low, (OWN.free_count++ - low) * sizeof *OWN.free_ranges);
+        OWN.free_ranges[low++] = (range){start, end};
+    }
+    OWN.free_ranges[OWN.next_free].end = end;
+    if (low < OWN.free_count && OWN.free_ranges[low].start == end) {
+        OWN.free_ranges[OWN.next_free].end = OWN.free_ranges[low].end;
+        memmove(OWN.free_ranges + low, OWN.free_ranges + low + 1, (--OWN.free_count - low) * sizeof *OWN.free_ranges);
+    }
+}
+
+/* ---- Device addresses ---- */
+
+/* A section that lies in no window gets one, which has all of it. */
+static uintptr_t device_for(uintptr_t at, size_t len)
+{
+    window made = {at / WINDOW * WINDOW, 0, WINDOW};
+    void *memory;
+
+    for (size_t i = 0; i < OWN.window_count; i++) {
+        const window *w = &OWN.windows[i];
+
+        if (at - w->at < w->len && len <= w->len - (at - w->at)) {
+            return w->device + (at - w->at);
+        }
+    }
+    made.len += (at - made.at + len) / WINDOW * WINDOW;
+    memory = mmap(NULL, made.len, PROT_READ | PROT_WRITE, MAP_PRIVATE | MAP_ANONYMOUS | MAP_NORESERVE, -1, 0);
+    if (memory == MAP_FAILED) {
+        lwa_unserved("no memory for the device's addresses");
+    }
+    made.device = (uintptr_t)memory;
+    OWN.windows = lwa_grown(OWN.windows, OWN.window_count, &OWN.window_room, sizeof *OWN.windows);
+    OWN.windows[OWN.window_count++] = made;
+    return made.device + (at - made.at);
+}
+
+uintptr_t lwa_device_of(const lwa_block *block, uintptr_t at)
+{
+    return block->device + (at - block->at);
+}
+
+lwa_block *lwa_on_device(uintptr_t device, uintptr_t *at)
+{
+    const lwa_block key = {.device = device, .len = 1};
+    lwa_block **found = tfind(&key, &OWN.device_tree, compare_on_device), *block;
+
+    if (found == NULL) {
+        return NULL;
+    }
+    block = *found;
+    for (lwa_block *part = block->parts; part != NULL; part = part->next) {
+        block = part->mapped && device - part->device < part->len ? part : block;
+    }
+    *at = block->at + (device - block->device);
+    return block;
+}
+
+/* ---- Births and ends ---- */
+
+static void insert(lwa_block *block, void **tree, int (*by)(const void *, const void *))
+{
+    if (tsearch(block, tree, by) == NULL) {
+        lwa_unserved("no memory for the library's own lists");
+    }
+}
+
+lwa_block *lwa_born(uintptr_t at, size_t len, uint64_t told, uintptr_t device)
+{
+    lwa_block *block = lwa_memory(NULL, sizeof *block);
+
+    *block = (lwa_block){.at = at, .len = len, .told = told, .mapped = true};
+    block->device = device != 0 ? device : device_for(at, len);
+    block->bytes = (uint8_t *)block->device;
+    block->root = block;
+    insert(block, &OWN.tree, compare);
+    insert(block, &OWN.device_tree, compare_on_device);
+    return block;
+}
+
+void lwa_map_part(lwa_block *root, uintptr_t at, size_t len, uintptr_t device)
+{
+    lwa_block *part = lwa_memory(NULL, sizeof *part);
+
+    *part = (lwa_block){.at = at, .len = len, .told = root->told + (device - root->device), .device = device,
+                        .bytes = (uint8_t *)device, .mapped = true, .part = true, .root = root, .next = root->parts};
+    root->parts = part;
+    insert(part, &OWN.tree, compare);
+}
+
+static void drop(lwa_block *block)
+{
+    if (block->bytes != (uint8_t *)block->device) {
+        free(block->bytes);
+    }
+    free(block->pointers);
+    free(block);
+}
+
+/* Its addresses can be taken again where nothing more is to be read or written there. A part stays as long as its root,
+   since a region may hold it. */
+static void drop_unused(lwa_block *block)
+{
+    if (!block->mapped && block->waiting == 0 && block->root == block) {
+        if (!block->part) {
+            lwa_give_addresses(block->told, block->len);
+        }
+        drop(block);
+    }
+}
+
+/* Another may be mapped at its device address, while its copies wait. */
+void lwa_ended(lwa_block *block)
+{
+    while (block->parts != NULL) {
+        lwa_block *part = block->parts;
+
+        block->parts = part->next;
+        if (part->mapped) {
+            lwa_ended(part);
+        }
+        part->root = part;
+        drop_unused(part);
+    }
+    tdelete(block, &OWN.tree, compare);
+    if (!block->part) {
+        tdelete(block, &OWN.device_tree, compare_on_device);
+    }
+    block->mapped = false;
+    if (block->waiting != 0) {
+        block->bytes = memcpy(lwa_memory(NULL, block->len), block->bytes, block->len);
+    }
+    drop_unused(block);
+}
+
+void lwa_made(lwa_block *block)
+{
+    block->waiting--;
+    drop_unused(block);
+}
+
+static void act_on(const void *node, VISIT when, void *act)
+{
+    if (when == preorder || when == leaf) {
+        (*(void (**)(lwa_block *))act)(*(lwa_block *const *)node);
+    }
+}
+
+void lwa_each_block(void (*act)(lwa_block *))
+{
+    twalk_r(OWN.tree, act_on, &act);
+}
+
+/* The windows stay, since a kernel may run while the program ends. */
+void lwa_forget_blocks(void)
+{
+    while (OWN.tree != NULL) {
+        lwa_block *block = *(lwa_block **)OWN.tree;
+
+        tdelete(block, &OWN.tree, compare);
+        tdelete(block, &OWN.device_tree, compare_on_device);
+        drop(block);
+    }
+    OWN.started = false;
+}

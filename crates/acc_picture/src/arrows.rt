@@ -35,13 +35,8 @@ pub fn put_arrows(page: &mut Page, table: &Table, names: &Names, scene: &Scene) 
 
 /// The arrow of a pointer, where its target is known.
 fn arrow_of(table: &Table, scene: &Scene, attached: Attachment) -> Option<Arrow> {
-    let device = scene.device;
-    let place = table.device_address(device, attached.pointer)?;
-    let section = Section {
-        start: attached.pointer,
-        len: 8,
-    };
-    let target = number_in(table.device_read(device, section)?);
+    let place = table.device_address(scene.device, attached.pointer)?;
+    let target = target_of(table, scene.device, attached.pointer)?;
     Some(Arrow {
         from: row_at(&scene.rows, place)?,
         to: row_at(&scene.rows, target)?,
@@ -50,13 +45,14 @@ fn arrow_of(table: &Table, scene: &Scene, attached: Attachment) -> Option<Arrow>
     })
 }
 
-/// The number that some bytes are, the lowest first.
-fn number_in(bytes: &[u8]) -> u64 {
-    let mut number = 0u64;
-    for byte in bytes.iter().rev() {
-        number = number.wrapping_mul(256).wrapping_add(u64::from(*byte));
-    }
-    number
+/// What a pointer holds on a device.
+fn target_of(table: &Table, device: u64, pointer: u64) -> Option<u64> {
+    let section = Section {
+        start: pointer,
+        len: 8,
+    };
+    let bytes = table.device_read(device, section)?.first_chunk::<8>()?;
+    Some(u64::from_le_bytes(*bytes))
 }
 
 /// Puts an arrow at the right of the device's column: the farther it reaches, the farther out.

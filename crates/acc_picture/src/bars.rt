@@ -6,14 +6,6 @@ use crate::shapes::{Area, Point, close_group, close_text, open_text, put_box};
 use acc_base::{DEVICE_BASE, HOST_BASE};
 use acc_page::Page;
 
-/// A stretch of a bar.
-#[derive(Clone, Copy)]
-struct Stretch {
-    from: u64,
-    until: u64,
-    class: &'static str,
-}
-
 /// A bar that stands for a memory.
 #[derive(Clone, Copy)]
 struct Bar {
@@ -33,15 +25,21 @@ impl Bar {
         page.text(name);
         page.number(self.size);
         close_text(page);
-        self.put_stretch(
+        self.put_box(page, "bar", 0, BAR_WIDTH);
+        page.text("<g class=\"stretches\">\n");
+    }
+
+    fn put_box(self, page: &mut Page, class: &str, from: u64, until: u64) {
+        put_box(
             page,
-            Stretch {
-                from: 0,
-                until: BAR_WIDTH,
-                class: "bar",
+            class,
+            Area {
+                x: BAR_X.saturating_add(from),
+                y: self.y,
+                width: until.saturating_sub(from),
+                height: BAR_HEIGHT,
             },
         );
-        page.text("<g class=\"stretches\">\n");
     }
 
     /// Where an address lies in it.
@@ -50,53 +48,18 @@ impl Bar {
         offset.saturating_mul(BAR_WIDTH) / self.size.max(1)
     }
 
-    /// The stretch of some addresses, at least one pixel wide.
-    fn stretch(self, start: u64, len: u64, kind: Kind) -> Stretch {
-        let from = self.pixel(start).min(BAR_WIDTH.saturating_sub(1));
-        let until = self.pixel(start.saturating_add(len));
-        Stretch {
-            from,
-            until: until.max(from.saturating_add(1)),
-            class: kind.class(),
+    /// Puts some addresses, at least one pixel wide, unless they are a hole or end at a pixel that was put before;
+    /// answers up to which pixel some were put.
+    fn put_next(self, page: &mut Page, put: u64, kind: Kind, start: u64, len: u64) -> u64 {
+        let from = self.pixel(start).min(BAR_WIDTH - 1);
+        let until = self
+            .pixel(start.saturating_add(len))
+            .max(from.saturating_add(1));
+        if until <= put || matches!(kind, Kind::Hole) {
+            return put;
         }
-    }
-
-    fn put_stretch(self, page: &mut Page, stretch: Stretch) {
-        put_box(
-            page,
-            stretch.class,
-            Area {
-                x: BAR_X.saturating_add(stretch.from),
-                y: self.y,
-                width: stretch.until.saturating_sub(stretch.from),
-                height: BAR_HEIGHT,
-            },
-        );
-    }
-
-    /// Puts a stretch, unless it joins the one before or is a hole; answers what is yet to be put.
-    fn next(self, page: &mut Page, last: Option<Stretch>, stretch: Stretch) -> Option<Stretch> {
-        match last {
-            _ if stretch.class == "hole" => last,
-            Some(last) if last.class == stretch.class && stretch.from <= last.until => {
-                Some(Stretch {
-                    until: stretch.until.max(last.until),
-                    ..last
-                })
-            }
-            Some(last) => {
-                self.put_stretch(page, last);
-                Some(stretch)
-            }
-            None => Some(stretch),
-        }
-    }
-
-    fn put_last(self, page: &mut Page, last: Option<Stretch>) {
-        if let Some(stretch) = last {
-            self.put_stretch(page, stretch);
-        }
-        close_group(page);
+        self.put_box(page, kind.class(), from, until);
+        until
     }
 }
 
@@ -105,12 +68,11 @@ pub fn put_host_bar(page: &mut Page, y: u64, size: u64, parts: &[Part]) {
     let base = HOST_BASE;
     let bar = Bar { y, base, size };
     bar.put_outline(page, "host ");
-    let mut last = None;
+    let mut put = 0;
     for part in parts {
-        let stretch = bar.stretch(part.section.start, part.section.len, part.kind());
-        last = bar.next(page, last, stretch);
+        put = bar.put_next(page, put, part.kind(), part.section.start, part.section.len);
     }
-    bar.put_last(page, last);
+    close_group(page);
 }
 
 /// Puts the bar of a device, with its blocks.
@@ -118,10 +80,9 @@ pub fn put_device_bar(page: &mut Page, y: u64, size: u64, device: u64, entries: 
     let base = DEVICE_BASE.saturating_mul(device.saturating_add(1));
     let bar = Bar { y, base, size };
     bar.put_outline(page, "device ");
-    let mut last = None;
+    let mut put = 0;
     for entry in entries {
-        let stretch = bar.stretch(entry.place, entry.size, entry.kind);
-        last = bar.next(page, last, stretch);
+        put = bar.put_next(page, put, entry.kind, entry.place, entry.size);
     }
-    bar.put_last(page, last);
+    close_group(page);
 }

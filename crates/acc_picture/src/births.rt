@@ -1,15 +1,16 @@
 //! Which host bytes the blocks of a device were made for.
 
+use crate::gathering::{Entry, Kind};
 use acc_base::{Did, Event, Item, Section, Step};
 use acc_table::Table;
 use std::alloc::AllocError;
 use std::collections::BTreeMap;
 
-/// Adds by its place the section of each block that was made since the base of the table: at each place the last one stays.
+/// Adds an entry of no size for each block that was made since the base of the table: at each place the last one stays.
 pub fn add_births(
     table: &Table,
     device: u64,
-    births: &mut BTreeMap<u64, Section>,
+    births: &mut BTreeMap<u64, Entry>,
 ) -> Result<(), AllocError> {
     for event in table.trace() {
         add_event(event, device, births)?;
@@ -20,7 +21,7 @@ pub fn add_births(
 fn add_event(
     event: &Event,
     device: u64,
-    births: &mut BTreeMap<u64, Section>,
+    births: &mut BTreeMap<u64, Entry>,
 ) -> Result<(), AllocError> {
     if event.device() != device {
         return Ok(());
@@ -35,7 +36,7 @@ fn add_event(
 fn add_all<C>(
     items: &[Item<C>],
     did: &[Did],
-    births: &mut BTreeMap<u64, Section>,
+    births: &mut BTreeMap<u64, Entry>,
 ) -> Result<(), AllocError> {
     for nth in 0..items.len() {
         add_birth(items.get(nth), did.get(nth), births)?;
@@ -46,12 +47,21 @@ fn add_all<C>(
 fn add_birth<C>(
     item: Option<&Item<C>>,
     did: Option<&Did>,
-    births: &mut BTreeMap<u64, Section>,
+    births: &mut BTreeMap<u64, Entry>,
 ) -> Result<(), AllocError> {
     if let (Some(item), Some(did)) = (item, did) {
         if let Step::Born { place, .. } = did.step {
-            births.insert(place, item.section)?;
+            births.insert(place, entry_of(place, item.section))?;
         }
     }
     Ok(())
+}
+
+fn entry_of(place: u64, section: Section) -> Entry {
+    Entry {
+        place,
+        size: 0,
+        kind: Kind::Ended(0),
+        section: Some(section),
+    }
 }

@@ -127,24 +127,27 @@ pub fn add_entries(
     entries: &mut Vec<Entry>,
 ) -> Result<(), AllocError> {
     let mut by_place = BTreeMap::new(alloc);
-    place_all(alloc, table, device, parts, &mut by_place)?;
+    place_all(table, device, parts, &mut by_place)?;
     for (_, entry) in by_place.iter() {
-        entries.push(*entry)?;
+        if entry.size > 0 {
+            entries.push(*entry)?;
+        }
     }
     Ok(())
 }
 
+/// Places the births, and then over them all that is there now.
 fn place_all(
-    alloc: Global,
     table: &Table,
     device: u64,
     parts: &[Part],
     by_place: &mut BTreeMap<u64, Entry>,
 ) -> Result<(), AllocError> {
+    add_births(table, device, by_place)?;
     for part in parts {
         add_block(*part, by_place)?;
     }
-    add_ended(alloc, table, device, by_place)?;
+    add_ended(table, device, by_place)?;
     add_holes(table, device, by_place)
 }
 
@@ -164,20 +167,8 @@ fn add_block(part: Part, by_place: &mut BTreeMap<u64, Entry>) -> Result<(), Allo
 }
 
 fn add_ended(
-    alloc: Global,
     table: &Table,
     device: u64,
-    by_place: &mut BTreeMap<u64, Entry>,
-) -> Result<(), AllocError> {
-    let mut births = BTreeMap::new(alloc);
-    add_births(table, device, &mut births)?;
-    place_ended(table, device, &births, by_place)
-}
-
-fn place_ended(
-    table: &Table,
-    device: u64,
-    births: &BTreeMap<u64, Section>,
     by_place: &mut BTreeMap<u64, Entry>,
 ) -> Result<(), AllocError> {
     let mut from = 0;
@@ -189,12 +180,17 @@ fn place_ended(
             place: ended.place,
             size: ended.size,
             kind: Kind::Ended(ended.pins),
-            section: births.get(&ended.place).copied(),
+            section: section_at(by_place, ended.place),
         };
         by_place.insert(ended.place, entry)?;
         from = ended.place.saturating_add(1);
     }
     Ok(())
+}
+
+/// The host bytes of what was placed at a place.
+fn section_at(by_place: &BTreeMap<u64, Entry>, place: u64) -> Option<Section> {
+    by_place.get(&place)?.section
 }
 
 fn add_holes(

@@ -41,14 +41,17 @@ pub fn add_queues(
     for number in 0..QUEUE_COUNT {
         let len = table.queue_len(device, number);
         if len > 0 {
-            let copies = Vec::new(alloc);
             queues.push(Queue {
                 number,
                 len,
-                copies,
+                copies: Vec::new(alloc),
             })?;
         }
     }
+    add_all(table, device, queues)
+}
+
+fn add_all(table: &Table, device: u64, queues: &mut [Queue]) -> Result<(), AllocError> {
     for queue in queues {
         add_copies(table, device, queue.number, &mut queue.copies)?;
     }
@@ -72,86 +75,82 @@ fn add_copies(
 
 /// Adds the copies that an event put into a queue.
 fn add_event(event: &Event, number: u64, copies: &mut Vec<Queued>) -> Result<(), AllocError> {
+    for nth in 0..count_in(event, number) {
+        if let Some(copy) = copy_in(event, nth) {
+            copies.push(copy)?;
+        }
+    }
+    Ok(())
+}
+
+/// How many items an event has whose copies go into a queue.
+fn count_in(event: &Event, number: u64) -> usize {
     let into = Some(number);
     match event {
-        Event::EnteredData {
-            items,
-            queue,
-            did,
-            ..
-        } if *queue == into => add_all(items.as_slice(), did.as_slice(), copies),
-        Event::ExitedData {
-            items,
-            queue,
-            did,
-            ..
-        } if *queue == into => add_all(items.as_slice(), did.as_slice(), copies),
-        Event::Updated {
-            items,
-            queue,
-            did,
-            ..
-        } if *queue == into => add_all(items.as_slice(), did.as_slice(), copies),
-        _ => Ok(()),
+        Event::EnteredData { queue, did, .. } if *queue == into => did.as_slice().len(),
+        Event::ExitedData { queue, did, .. } if *queue == into => did.as_slice().len(),
+        Event::Updated { queue, did, .. } if *queue == into => did.as_slice().len(),
+        _ => 0,
     }
 }
 
-fn add_all<C: Copies>(
-    items: &[Item<C>],
-    did: &[Did],
-    copies: &mut Vec<Queued>,
-) -> Result<(), AllocError> {
-    for nth in 0..items.len() {
-        add_copy(items.get(nth), did.get(nth), copies)?;
-    }
-    Ok(())
-}
-
-/// Adds the copy of an item, if it makes one.
-fn add_copy<C: Copies>(
-    item: Option<&Item<C>>,
-    did: Option<&Did>,
-    copies: &mut Vec<Queued>,
-) -> Result<(), AllocError> {
-    if let (Some(item), Some(did)) = (item, did) {
-        if let Some(out) = item.clause.copies_out(did.step) {
-            let section = item.section;
-            copies.push(Queued { section, out })?;
+/// The copy of an item of an event, if it makes one.
+fn copy_in(event: &Event, nth: usize) -> Option<Queued> {
+    match event {
+        Event::EnteredData { items, did, .. } => {
+            entered(items.as_slice().get(nth), did.as_slice().get(nth))
         }
-    }
-    Ok(())
-}
-
-/// A clause whose items may copy.
-trait Copies: Copy {
-    /// Whether an item that did this step copies to host memory; `None` where it copies nothing.
-    fn copies_out(self, step: Step) -> Option<bool>;
-}
-
-impl Copies for EnterClause {
-    fn copies_out(self, step: Step) -> Option<bool> {
-        match (self, step) {
-            (EnterClause::Copyin, Step::Born { .. }) => Some(false),
-            _ => None,
+        Event::ExitedData { items, did, .. } => {
+            exited(items.as_slice().get(nth), did.as_slice().get(nth))
         }
+        Event::Updated { items, did, .. } => {
+            updated(items.as_slice().get(nth), did.as_slice().get(nth))
+        }
+        _ => None,
     }
 }
 
-impl Copies for ExitClause {
-    fn copies_out(self, step: Step) -> Option<bool> {
-        match (self, step) {
-            (ExitClause::Copyout, Step::Dropped { ended: true, .. }) => Some(true),
-            _ => None,
-        }
+fn entered(item: Option<&Item<EnterClause>>, did: Option<&Did>) -> Option<Queued> {
+    let Item {
+        clause,
+        section,
+        ..
+    } = *item?;
+    match (clause, did?.step) {
+        (EnterClause::Copyin, Step::Born { .. }) => Some(Queued {
+            section,
+            out: false,
+        }),
+        _ => None,
     }
 }
 
-impl Copies for UpdateClause {
-    fn copies_out(self, step: Step) -> Option<bool> {
-        match step {
-            Step::Moved { .. } => Some(matches!(self, UpdateClause::ToSelf)),
-            _ => None,
+fn exited(item: Option<&Item<ExitClause>>, did: Option<&Did>) -> Option<Queued> {
+    let Item {
+        clause,
+        section,
+        ..
+    } = *item?;
+    match (clause, did?.step) {
+        (ExitClause::Copyout, Step::Dropped { ended, .. }) if ended => {
+            Some(Queued { section, out: true })
         }
+        _ => None,
+    }
+}
+
+fn updated(item: Option<&Item<UpdateClause>>, did: Option<&Did>) -> Option<Queued> {
+    let Item {
+        clause,
+        section,
+        ..
+    } = *item?;
+    match did?.step {
+        Step::Moved { .. } => Some(Queued {
+            section,
+            out: matches!(clause, UpdateClause::ToSelf),
+        }),
+        _ => None,
     }
 }
 
@@ -173,12 +172,7 @@ impl Queue {
         page.text(" waits to copy ");
         let waiting = self.waiting();
         let shown = waiting.get(..COPY_LIMIT).unwrap_or(waiting);
-        let mut before = "";
-        for copy in shown {
-            page.text(before);
-            copy.put(page, alloc, names);
-            before = ", ";
-        }
+        put_copies(page, alloc, names, shown);
         self.put_rest(page, shown.len() as u64);
         close_text(page);
     }
@@ -204,5 +198,14 @@ impl Queued {
     fn put(self, page: &mut Page, alloc: Global, names: &Names) {
         put_short_name(page, alloc, names, self.section);
         page.text(if self.out { " to host" } else { " to device" });
+    }
+}
+
+fn put_copies(page: &mut Page, alloc: Global, names: &Names, copies: &[Queued]) {
+    let mut before = "";
+    for copy in copies {
+        page.text(before);
+        copy.put(page, alloc, names);
+        before = ", ";
     }
 }

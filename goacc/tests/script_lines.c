@@ -6,7 +6,7 @@
 
 int main(void)
 {
-    char made[] = "/tmp/script_linesXXXXXX", line[256];
+    char made[] = "script_linesXXXXXX", line[256];
     const char *name = getenv("LAMWIEST_SCRIPT");
     int a[4] = {0}, entered = 0;
     FILE *script;

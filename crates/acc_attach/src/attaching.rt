@@ -191,8 +191,8 @@ impl Attached {
 
     // ---- transfers
 
-    /// A host address is that of one of the eight bytes of an attached pointer of a block, which no transfer touches
-    /// (OpenACC 3.3, section 2.6.8). A pointer may reach past the last `u64`.
+    /// A host address is that of one of the eight bytes of an attached pointer of a block, which no transfer
+    /// touches. A pointer may reach past the last `u64`.
     pub fn is_skipped(&self, block: u64, address: u64) -> bool
         ensures { result ≡ is_skipped block self.now.attached address }
     {

@@ -1,5 +1,5 @@
-//! The attachment counters of pointers in device blocks: which pointers are attached, how often, and which bytes of a
-//! block no transfer touches for it (OpenACC 3.3, sections 2.6.8 and 2.7.2).
+//! The attachment counters of pointers in device blocks: which pointers are attached, how often (OpenACC 3.3,
+//! sections 2.6.8 and 2.7.2), and which bytes of a block no transfer touches for it.
 #![tactic(auto)]
 
 mod attaching;

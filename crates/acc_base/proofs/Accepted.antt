@@ -19,17 +19,17 @@ use Rattle.acc_base.specs.Devices.{OneDevice, device_at, view, device_in, device
 use Rattle.acc_base.specs.Judge.{Verdict, Makes, few_items, step_verdict, verdict_of, written, host_write_event, lend_event, gathered, gather_event}
 use Rattle.acc_base.specs.History.{NamesRight, IsLegal}
 use Rattle.acc_base.specs.Calls.{World, judge, ticket, allowance, trace_room, device_for, device_there, verdict_on, bytes_brought, event_count}
-use Rattle.acc_base.specs.Accounts.{AreRecordsSound}
+use Rattle.acc_base.specs.Accounts.{AreRecordsSound, IsMadeIn}
 use Rattle.acc_base.proofs.Results.{bind_ok, then_ok, refused_not, below_most}
 use Rattle.acc_base.proofs.Memories.{AreBrought}
-use Rattle.acc_base.proofs.LegalEvents.{same_event, IsMadeBy, made_by, host_write_legal, lend_legal, IsGathered, gather_legal}
+use Rattle.acc_base.proofs.LegalEvents.{same_event, none_made, IsMadeBy, made_by, host_write_legal, lend_legal, IsGathered, gather_legal}
 
 -- an entry names at most 64 items, and finds fewer open regions than the limit says
 abbrev pub IsEntryAllowed : ℕ → ℕ → Event → Type 0
 IsEntryAllowed most regions (Entered device number items did) = (length items ≤ 64) × (regions < most)
 IsEntryAllowed most regions _ = ⊤
 
--- what an accepted call's event finds: a ticket, a place in the trace, its device, and a place in the register beside the open regions of all devices; it is legal in the view of its device, the bytes that it brings back are as many as the block has, and a full trace tells the bytes that it brought
+-- what an accepted call's event finds: a ticket, a place in the trace, its device, and a place in the register beside the open regions of all devices; it is legal in the view of its device, the bytes that it brings back are as many as the block has, a full trace tells the bytes that it brought, and its items did what they are judged to do
 pub record IsAccepted (w : World) (brought : List ℕ) (e : Event) : Type 0 where
   pub tickets : event_count w.history < w.limits.tickets
   pub trace : length w.history.trace < w.limits.trace_cap
@@ -38,6 +38,7 @@ pub record IsAccepted (w : World) (brought : List ℕ) (e : Event) : Type 0 wher
   pub legal : IsLegal (limits_on (device_in e) w.limits) e (layout_of (view (device_in e) w.state))
   pub fits : AreBrought e brought (view (device_in e) w.state).records
   pub told : w.limits.full ≡ true → bytes_told e (view (device_in e) w.state) ≡ brought
+  pub made : IsMadeIn (limits_on (device_in e) w.limits) e (view (device_in e) w.state)
 
 -- what a directive, a write, a loan or a lease comes to on a device
 pub record IsFor (w : World) (d : ℕ) (brought : List ℕ) (e : Event) : Type 0 where
@@ -46,6 +47,7 @@ pub record IsFor (w : World) (d : ℕ) (brought : List ℕ) (e : Event) : Type 0
   pub legal : IsLegal (limits_on d w.limits) e (layout_of (view d w.state))
   pub fits : AreBrought e brought (view d w.state).records
   pub told : w.limits.full ≡ true → bytes_told e (view d w.state) ≡ brought
+  pub made : IsMadeIn (limits_on d w.limits) e (view d w.state)
 
 accepted_for : (w : World) (d : ℕ) (brought : List ℕ) (e : Event) → event_count w.history < w.limits.tickets → length w.history.trace < w.limits.trace_cap → d < length w.state.devices → IsFor w d brought e → IsAccepted w brought e
 accepted_for w d brought e tickets trace there h = record {
@@ -56,6 +58,7 @@ accepted_for w d brought e tickets trace there h = record {
   legal = subst (λ n. IsLegal (limits_on n w.limits) e (layout_of (view n w.state))) (sym h.on) h.legal;
   fits = subst (λ n. AreBrought e brought (view n w.state).records) (sym h.on) h.fits;
   told = λ full. subst (λ n. bytes_told e (view n w.state) ≡ brought) (sym h.on) (h.told full);
+  made = subst (λ n. IsMadeIn (limits_on n w.limits) e (view n w.state)) (sym h.on) h.made;
 }
 
 at_most : (most n : ℕ) → nat_lt most n ≡ false → n ≤ most
@@ -108,7 +111,7 @@ directive_for w d directive e a f h =
     let s : State = view d w.state in
     let by : IsMadeBy (limits_on d w.limits) d directive s e = made_by (limits_on d w.limits) d directive s e h in
     let is = plain w d directive s by.dids e a f by.verdict_is in
-    record { on = is.on; room = is.room; legal = by.legal; fits = is.fits s.records; told = λ full. is.told s }
+    record { on = is.on; room = is.room; legal = by.legal; fits = is.fits s.records; told = λ full. is.told s; made = by.made }
 
 -- a device on which a region is open, or a block lent, is there: a new device has none
 open_there : (number d : ℕ) (devices : List OneDevice) → IsSome (holdings_at number (device_at d devices).regions) → d < length devices
@@ -143,6 +146,7 @@ accepted w (HostWrite addr bytes) e bounds as_many sound h =
       legal = wrote.1;
       fits = subst (λ x. AreBrought x bytes (view 0 w.state).records) wrote.0 tt;
       told = λ full. subst (λ x. bytes_told x (view 0 w.state) ≡ bytes) wrote.0 (written_told w.limits.full addr bytes (view 0 w.state) full);
+      made = subst (λ x. IsMadeIn (limits_on 0 w.limits) x (view 0 w.state)) wrote.0 (none_made (limits_on 0 w.limits) (view 0 w.state));
     })
 accepted w (Lend region section) e bounds as_many sound h =
     let d : ℕ = device_of_region region w.state in
@@ -155,11 +159,12 @@ accepted w (Lend region section) e bounds as_many sound h =
       legal = subst (λ x. IsLegal (limits_on d w.limits) x (layout_of s)) lent.1 lent.2;
       fits = subst (λ x. AreBrought x [] s.records) lent.1 tt;
       told = λ full. subst (λ x. bytes_told x s ≡ []) lent.1 refl;
+      made = subst (λ x. IsMadeIn (limits_on d w.limits) x s) lent.1 (none_made (limits_on d w.limits) s);
     })
 accepted w (Gather lease) e bounds as_many sound h =
     let d : ℕ = lease.device in
     let s : State = view d w.state in
-    let by = event_admitted w (gather_event w.limits.full lease s) e h in
+    let by = event_admitted w (gather_event (limits_on d w.limits) lease s) e h in
     let back : IsGathered (limits_on d w.limits) lease s e = gather_legal (limits_on d w.limits) lease s e (sound d) by.2 in
     let names : NamesRight (limits_on d w.limits) (gathered w.limits.full lease) (layout_of s) = subst (λ x. NamesRight (limits_on d w.limits) x (layout_of s)) (sym back.event_is) back.legal.names in
     accepted_for w d lease.bytes e by.0 by.1 (lent_there lease.block d w.state.devices names.0 names.1) (record {
@@ -168,4 +173,5 @@ accepted w (Gather lease) e bounds as_many sound h =
       legal = back.legal;
       fits = back.fits;
       told = back.told;
+      made = subst (λ x. IsMadeIn (limits_on d w.limits) x s) back.event_is (none_made (limits_on d w.limits) s);
     })

@@ -16,11 +16,11 @@ use Rattle.acc_base.specs.Loans.{Leased}
 use Rattle.acc_base.specs.Acting.{after}
 use Rattle.acc_base.specs.Walk.{register_after, holdings_of}
 use Rattle.acc_base.specs.Replay.{bytes_told}
-use Rattle.acc_base.specs.Devices.{OneDevice, Whole, DeviceLayout, WholeLayout, device_at, device_layout_of, whole_layout_of, new_device, new_device_layout, new_whole, new_whole_layout, view, with_view, open_regions, device_in, walk_on, walk_all_on, after_on, replayed, recorded_device, recorded_whole}
+use Rattle.acc_base.specs.Devices.{OneDevice, Whole, DeviceLayout, WholeLayout, device_at, device_layout_of, whole_layout_of, new_device, new_device_layout, new_whole, new_whole_layout, view, with_view, open_regions, device_in, walk_on, walk_all_on, after_on, after_told, replayed, recorded_device, recorded_whole}
 use Rattle.acc_base.specs.Calls.{History, World, base_of, new_history, with_event, event_count, rebased, judge, world_after, new_world, bytes_brought}
 use Rattle.acc_base.specs.Judge.{Makes}
 use Rattle.acc_base.specs.History.{Past, NamesRight, entries_in, exits_in, IsLegal, IsLegalOn, AreLegal}
-use Rattle.acc_base.specs.Accounts.{IsRegisterSound, AreMemoriesSized, AreRecordsSound, IsTraced, IsFounded, IsHistoryLegal, IsReplayed, IsAccountedOn, IsAccounted, past_on}
+use Rattle.acc_base.specs.Accounts.{IsRegisterSound, AreMemoriesSized, AreRecordsSound, IsTraced, AreMadeIn, IsReplay, IsFounded, IsHistoryLegal, IsReplayed, IsAccountedOn, IsAccounted, past_on}
 use Rattle.acc_base.proofs.Results.{equal, differ}
 use Rattle.acc_base.proofs.Elements.{AllByRecursion-weaker}
 use Rattle.acc_base.proofs.Lookups.{at-own}
@@ -32,7 +32,7 @@ use Rattle.acc_base.proofs.Memories.{event_sized, new_sized}
 use Rattle.acc_base.proofs.Accepted.{IsEntryAllowed, IsAccepted, accepted}
 use Rattle.acc_base.proofs.Views.{device_beyond, view-own, view-other, layout-view, whole_layout-after}
 use Rattle.acc_base.proofs.OnDevices.{IsDeviceTold, device_told}
-use Rattle.acc_base.proofs.Isolated.{device_alone}
+use Rattle.acc_base.proofs.Isolated.{device_alone, founded_alone}
 
 -- ---- the history with one event more
 
@@ -104,6 +104,7 @@ accounted_on l h d w bounds history known there kept =
       };
       counters_traced = traced (limits_on d l) (past_on d h) (layout_of s) t.led;
       attachments_traced = t.pointers;
+      entries_held = λ block. subst (λ n. n + exits_in block (past_on d h) ≡ entries_in block (past_on d h)) (t.led.held block) (t.led.structured block);
       alone = device_alone l h w d history;
     }
 
@@ -113,7 +114,18 @@ accounted_on l h d w bounds history known there kept =
 replayed-append : (events more : List Event) (w : Whole) → replayed (events ++ more) w ≡ replayed more (replayed events w)
 unfolding replayed
 replayed-append [] more w = refl
-replayed-append (e ∷ events) more w = replayed-append events more (after_on true e (bytes_told e (view (device_in e) w)) w)
+replayed-append (e ∷ events) more w = replayed-append events more (after_told e w)
+
+made-append : (l : Limits) (events more : List Event) (w : Whole) → AreMadeIn l events w → AreMadeIn l more (replayed events w) → AreMadeIn l (events ++ more) w
+unfolding replayed
+made-append l [] more w h k = k
+made-append l (e ∷ events) more w h k = (h.0, made-append l events more (after_told e w) h.1 k)
+
+replay-append : (l : Limits) (events more : List Event) (from between to : Whole) → IsReplay l events from between → IsReplay l more between to → IsReplay l (events ++ more) from to
+replay-append l events more from between to h k = record {
+  made = made-append l events more from h.made (subst (AreMadeIn l more) (sym h.leads) k.made);
+  leads = replayed-append events more from ∙ (ap (replayed more) h.leads ∙ k.leads);
+}
 
 -- one event, which tells what its call brought
 replayed-one : (full : Bool) (e : Event) (brought : List ℕ) (w : Whole) → full ≡ true → bytes_told e (view (device_in e) w) ≡ brought → replayed (e ∷ []) w ≡ after_on full e brought w
@@ -124,7 +136,9 @@ replayed-one false e brought w set told = absurd (true≢false (sym set))
 -- the world after an accepted call
 replayed_after : (w : World) (call : Call Leased) (e : Event) → IsAccepted w (bytes_brought call) e → IsReplayed w → IsReplayed (world_after call e w)
 unfolding world_after
-replayed_after w call e ok h full = replayed-append w.history.trace (e ∷ []) w.history.base.state ∙ (ap (replayed (e ∷ [])) (h full) ∙ replayed-one w.limits.full e (bytes_brought call) w.state full (ok.told full))
+replayed_after w call e ok h full =
+    let one : IsReplay w.limits (e ∷ []) w.state (after_on w.limits.full e (bytes_brought call) w.state) = record { made = (ok.made, tt); leads = replayed-one w.limits.full e (bytes_brought call) w.state full (ok.told full) } in
+    replay-append w.limits w.history.trace (e ∷ []) w.history.base.state w.state (after_on w.limits.full e (bytes_brought call) w.state) (h full) one
 
 recorded_all : (devices : List OneDevice) → map (recorded_device true) devices ≡ devices
 recorded_all [] = refl
@@ -261,7 +275,7 @@ new_accounted l bounds =
     let h : History = new_history l in
     let start : new_whole_layout l.devices ≡ whole_layout_of w = sym (ap (λ (xs : List DeviceLayout). let v : WholeLayout = record { devices = xs; next = 1; serial = 1 } in v) (whole_layout_new l.devices)) in
     let based : whole_layout_of h.base.state ≡ whole_layout_of w = whole_layout_kept l.full w in
-    let founded : IsFounded l h.base = record { events = []; count = refl; legal = tt; leads = start ∙ sym based; replayed = λ full. sym (state_kept l.full w full) } in
+    let founded : IsFounded l h.base = record { events = []; count = refl; legal = tt; leads = start ∙ sym based; alone = λ d. founded_alone l [] h.base.state d tt (start ∙ sym based); replayed = λ full. record { made = tt; leads = sym (state_kept l.full w full) } } in
     let history : IsHistoryLegal l h (whole_layout_of w) = record { founded = founded; legal = tt; leads = based } in
     let count : length w.devices ≡ l.devices = length-replicate l.devices new_device in
     record {
@@ -270,7 +284,7 @@ new_accounted l bounds =
           let is : view d w ≡ new_state l.host = ap (λ (x : OneDevice). let s : State = record { records = x.records; register = record { regions = x.regions; next = 1; serial = 1 }; host = w.host; memories = x.memories } in s) (devices_new l.devices d) in
           accounted_on l h d w bounds history within (omega (arith, within, count)) (subst (λ (s : State). IsKept (limits_on d l) s) (sym is) (record { few = tt; sized = new_sized (limits_on d l) }));
       history_legal = history;
-      memories_replayed = state_kept l.full w;
+      memories_replayed = λ full. record { made = tt; leads = state_kept l.full w full };
       books_counted = record { tickets = omega arith; trace = omega arith; regions = omega (arith, none_open l.devices) };
     }
 
@@ -295,12 +309,16 @@ founded_by w legal replay =
     let h : History = w.history in
     let before = legal.founded in
     let new : WholeLayout = new_whole_layout l.devices in
+    let after : Whole = recorded_whole l.full w.state in
+    let legally : AreLegal l (before.events ++ h.trace) new = legal-append l before.events h.trace new before.legal (subst (AreLegal l h.trace) (sym before.leads) legal.legal) in
+    let to : walk_all_on (before.events ++ h.trace) new ≡ whole_layout_of after = walk_all-append before.events h.trace new ∙ (ap (walk_all_on h.trace) before.leads ∙ (legal.leads ∙ sym (whole_layout_kept l.full w.state))) in
     record {
       events = before.events ++ h.trace;
       count = length-append before.events h.trace ∙ ap (λ n. n + length h.trace) before.count;
-      legal = legal-append l before.events h.trace new before.legal (subst (AreLegal l h.trace) (sym before.leads) legal.legal);
-      leads = walk_all-append before.events h.trace new ∙ (ap (walk_all_on h.trace) before.leads ∙ (legal.leads ∙ sym (whole_layout_kept l.full w.state)));
-      replayed = λ full. replayed-append before.events h.trace (new_whole l.devices l.host) ∙ (ap (replayed h.trace) (before.replayed full) ∙ (replay full ∙ sym (state_kept l.full w.state full)));
+      legal = legally;
+      leads = to;
+      alone = λ d. founded_alone l (before.events ++ h.trace) after d legally to;
+      replayed = λ full. subst (IsReplay l (before.events ++ h.trace) (new_whole l.devices l.host)) (sym (state_kept l.full w.state full)) (replay-append l before.events h.trace (new_whole l.devices l.host) h.base.state w.state (before.replayed full) (replay full));
     }
 
 -- so the world is accounted for
@@ -316,6 +334,6 @@ rebased_accounted w bounds h =
           let old : IsAccountedOn l w.history d w.state = h.devices d within in
           accounted_on l since d w.state bounds history within (omega (arith, within, h.as_many)) (record { few = old.sound.layout.register.few; sized = old.sound.memories_sized });
       history_legal = history;
-      memories_replayed = state_kept l.full w.state;
+      memories_replayed = λ full. record { made = tt; leads = state_kept l.full w.state full };
       books_counted = record { tickets = omega (arith, h.books_counted.tickets); trace = omega arith; regions = h.books_counted.regions };
     }

@@ -5,7 +5,7 @@ use Rattle.std.specs.List.{AllByRecursion}
 use Rattle.acc_base.specs.Words.{Range, Block, Found, Attachment, Aim, Item, ExitClause, UpdateClause, Counter, Holding, Task, Step, Did}
 use Rattle.acc_base.specs.declared.mappings.Found.TheVariants.{Inside}
 use Rattle.acc_base.specs.declared.attachments.Aim.TheVariants as aims
-use Rattle.acc_base.specs.declared.tasks.Task.TheVariants.{Enter, Leave, Exit, Move}
+use Rattle.acc_base.specs.declared.tasks.Task.TheVariants.{Enter, ExitRegion, ExitData, Move}
 use Rattle.acc_base.specs.declared.events.Step.TheVariants.{Nothing, Counted, Born, Dropped, Moved}
 use Rattle.acc_base.specs.Limits.{Limits, IsWithinBounds}
 use Rattle.acc_base.specs.Ranges.{where_is, counter_of}
@@ -135,11 +135,11 @@ legal_attach_sound l named (aims.Again pointer block) w bounds h legal = count_s
 legal_attach_sound l named _ w bounds h legal = absurd legal
 
 -- an exit detaches before its step
-pub leave_sound : (l : Limits) (holding : Holding) (did : Did) (w : Records) → AreRecordsSound l w → IsAimLegal l (Leave holding) did w → AreRecordsSound l (records_aimed did.aim w)
+pub leave_sound : (l : Limits) (holding : Holding) (did : Did) (w : Records) → AreRecordsSound l w → IsAimLegal l (ExitRegion holding) did w → AreRecordsSound l (records_aimed did.aim w)
 leave_sound l holding did w h legal = subst (λ a. AreRecordsSound l (records_aimed a w)) (sym legal) (judged_release_sound l holding.aim w h)
 
-pub exit_sound : (l : Limits) (finalize : Bool) (item : Item ExitClause) (queue : Option ℕ) (did : Did) (w : Records) → AreRecordsSound l w → IsAimLegal l (Exit finalize item queue) did w → AreRecordsSound l (records_aimed did.aim w)
-exit_sound l finalize item queue did w h legal = subst (λ a. AreRecordsSound l (records_aimed a w)) (sym legal) (go (pointer_aimed (Exit finalize item queue) did.step))
+pub exit_sound : (l : Limits) (finalize : Bool) (item : Item ExitClause) (queue : Option ℕ) (did : Did) (w : Records) → AreRecordsSound l w → IsAimLegal l (ExitData finalize item queue) did w → AreRecordsSound l (records_aimed did.aim w)
+exit_sound l finalize item queue did w h legal = subst (λ a. AreRecordsSound l (records_aimed a w)) (sym legal) (go (pointer_aimed (ExitData finalize item queue) did.step))
   where
     go : (o : Option ℕ) → AreRecordsSound l (records_aimed (detach_if finalize o w) w)
     go None = none_sound l w h
@@ -188,10 +188,10 @@ pub says_aimed : (l : Limits) (task : Task) (step : Step) (aim : Aim) (w : Recor
 says_aimed l (Enter counter item queue) Nothing aim w says = tt
 says_aimed l (Enter counter item queue) (Counted k) aim w says = record { mapped = says.mapped; room = says.room }
 says_aimed l (Enter counter item queue) (Born k p) aim w says = record { number = says.number; place_is = says.place_is; absent = says.absent; within = says.within }
-says_aimed l (Leave holding) Nothing aim w says = says
-says_aimed l (Leave holding) (Dropped k ended) aim w says = says
-says_aimed l (Exit finalize item queue) Nothing aim w says = tt
-says_aimed l (Exit finalize item queue) (Dropped k ended) aim w says =
+says_aimed l (ExitRegion holding) Nothing aim w says = says
+says_aimed l (ExitRegion holding) (Dropped k ended) aim w says = says
+says_aimed l (ExitData finalize item queue) Nothing aim w says = tt
+says_aimed l (ExitData finalize item queue) (Dropped k ended) aim w says =
     record { range = record { offset = says.range.offset; inside = says.range.inside; within = says.range.within; some = says.range.some; mapped = says.range.mapped }; some = says.some; ended_is = says.ended_is }
 says_aimed l (Move if_present item queue) Nothing aim w says = tt
 says_aimed l (Move if_present item queue) (Moved k) aim w says = record { offset = says.offset; inside = says.inside; within = says.within; some = says.some; mapped = says.mapped }
@@ -215,6 +215,6 @@ task_left l (Enter counter item queue) did w bounds h says free legal = record {
   sound = legal_attach_sound l (pointer_aimed (Enter counter item queue) did.step) did.aim (act_step (Enter counter item queue) did.step w) bounds (acted_sound l (Enter counter item queue) did.step w bounds says free h) legal;
   counter_is = λ one b. counter-act l (Enter counter item queue) did.step w one b h says;
 }
-task_left l (Leave holding) did w bounds h says free legal = then_left l (Leave holding) did w bounds (leave_sound l holding did w h legal) says free
-task_left l (Exit finalize item queue) did w bounds h says free legal = then_left l (Exit finalize item queue) did w bounds (exit_sound l finalize item queue did w h legal) says free
+task_left l (ExitRegion holding) did w bounds h says free legal = then_left l (ExitRegion holding) did w bounds (leave_sound l holding did w h legal) says free
+task_left l (ExitData finalize item queue) did w bounds h says free legal = then_left l (ExitData finalize item queue) did w bounds (exit_sound l finalize item queue did w h legal) says free
 task_left l (Move if_present item queue) did w bounds h says free legal = then_left l (Move if_present item queue) did w bounds (move_sound l if_present item queue did w h legal) says free

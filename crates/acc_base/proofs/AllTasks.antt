@@ -6,7 +6,7 @@ use Rattle.std.proofs.lemmas.Grind.{reverse_onto}
 use Rattle.std.proofs.lemmas.List.Sums.{sum_by-cons, sum_by_push}
 use Rattle.acc_base.specs.Words.{Item, RegionClause, ExitClause, Counter, Holding, Task, Step, Did}
 use Rattle.acc_base.specs.declared.mappings.Counter.TheVariants.{Structured, Dynamic}
-use Rattle.acc_base.specs.declared.tasks.Task.TheVariants.{Enter, Leave, Exit}
+use Rattle.acc_base.specs.declared.tasks.Task.TheVariants.{Enter, ExitRegion, ExitData}
 use Rattle.acc_base.specs.declared.events.Step.TheVariants.{Nothing, Counted, Born, Dropped}
 use Rattle.acc_base.specs.Limits.{Limits, IsWithinBounds}
 use Rattle.acc_base.specs.Records.{Records}
@@ -101,7 +101,7 @@ held-entered l b _ _ said = absurd said
 
 -- ---- `exit data`
 
-exit_names : (l : Limits) (finalize : Bool) (item : Item ExitClause) (queue : Option ℕ) (b : ℕ) (step : Step) (w : Records) → IsJudgedTo l (Exit finalize item queue) step w → names b step ≡ drops b step
+exit_names : (l : Limits) (finalize : Bool) (item : Item ExitClause) (queue : Option ℕ) (b : ℕ) (step : Step) (w : Records) → IsJudgedTo l (ExitData finalize item queue) step w → names b step ≡ drops b step
 exit_names l finalize item queue b (Counted k) w says = absurd says
 exit_names l finalize item queue b (Born k p) w says = absurd says
 exit_names l finalize item queue b _ w says = refl
@@ -116,12 +116,12 @@ exited_recount l b finalize queue _ _ n said = absurd said
 
 -- ---- exit from a region
 
-leave_names : (l : Limits) (holding : Holding) (b : ℕ) (step : Step) (w : Records) → IsJudgedTo l (Leave holding) step w → names b step ≡ drops b step
+leave_names : (l : Limits) (holding : Holding) (b : ℕ) (step : Step) (w : Records) → IsJudgedTo l (ExitRegion holding) step w → names b step ≡ drops b step
 leave_names l holding b (Counted k) w says = absurd says
 leave_names l holding b (Born k p) w says = absurd says
 leave_names l holding b _ w says = refl
 
-leave_held : (l : Limits) (holding : Holding) (b : ℕ) (step : Step) (w : Records) → IsJudgedTo l (Leave holding) step w → drops b step ≡ is_counted_block b holding.block
+leave_held : (l : Limits) (holding : Holding) (b : ℕ) (step : Step) (w : Records) → IsJudgedTo l (ExitRegion holding) step w → drops b step ≡ is_counted_block b holding.block
 leave_held l holding b Nothing w says = sym (ap (is_counted_block b) says)
 leave_held l holding b (Dropped k ended) w says = sym (ap (is_counted_block b) says.0)
 leave_held l holding b _ w says = absurd says
@@ -130,7 +130,7 @@ one_less : (t : Bool) (n c : ℕ) → cond t (n - 1) n - c ≡ n - (cond t 1 0 +
 one_less true n c = omega arith
 one_less false n c = omega arith
 
-pub left_recount : (l : Limits) (b : ℕ) (holdings : List Holding) (dids : List Did) (n : ℕ) → AreSaid l (map Leave holdings) dids → count_with Structured b (map Leave holdings) dids n ≡ n - count_dropped b dids
+pub left_recount : (l : Limits) (b : ℕ) (holdings : List Holding) (dids : List Did) (n : ℕ) → AreSaid l (map ExitRegion holdings) dids → count_with Structured b (map ExitRegion holdings) dids n ≡ n - count_dropped b dids
 left_recount l b [] [] n said = omega arith
 left_recount l b (holding ∷ holdings) (did ∷ dids) n said =
     left_recount l b holdings dids (cond (names b did.step) (n - 1) n) said.1
@@ -139,7 +139,7 @@ left_recount l b (holding ∷ holdings) (did ∷ dids) n said =
 left_recount l b _ _ n said = absurd said
 
 -- the exit of a region drops what the region holds
-pub held-left : (l : Limits) (b : ℕ) (holdings : List Holding) (dids : List Did) → AreSaid l (map Leave holdings) dids → count_dropped b dids ≡ count_held b holdings
+pub held-left : (l : Limits) (b : ℕ) (holdings : List Holding) (dids : List Did) → AreSaid l (map ExitRegion holdings) dids → count_dropped b dids ≡ count_held b holdings
 held-left l b [] [] said = refl
 held-left l b (holding ∷ holdings) (did ∷ dids) said =
     sum_by-cons (λ (d : Did). cond (drops b d.step) 1 0) did dids

@@ -28,7 +28,7 @@ use Rattle.acc_base.proofs.Runs.{ran_with}
 
 -- 64 bytes on either side, and a queue has room for two transfers
 abbrev limits : Limits
-limits = record { host = 64; device_base = 4294967296; device = 64; regions = 3; tickets = 100; counter_max = 64; queue_cap = 2; trace_cap = 100; full = false; devices = 1 }
+limits = record { host = 64; number = 0; device = 64; regions = 3; tickets = 100; counter_max = 64; queue_cap = 2; trace_cap = 100; full = false; devices = 1 }
 
 -- the same, but that nothing is counted more than twice
 abbrev twice_at_most : Limits

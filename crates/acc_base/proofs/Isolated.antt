@@ -6,13 +6,13 @@ use Rattle.acc_base.specs.declared.events.Event.TheVariants.{Entered, Left, Lent
 use Rattle.acc_base.specs.Limits.{Limits}
 use Rattle.acc_base.specs.Records.{Layout}
 use Rattle.acc_base.specs.Walk.{walk}
-use Rattle.acc_base.specs.Devices.{Whole, DeviceLayout, WholeLayout, new_device, device_layout_of, whole_layout_of, device_at, device_layout_at, layout_in, device_in, events_on, walk_on, walk_all_on, device_layout_left, device_layout_alone}
+use Rattle.acc_base.specs.Devices.{Whole, DeviceLayout, WholeLayout, new_device, new_device_layout, new_whole_layout, device_layout_of, whole_layout_of, device_at, device_layout_at, layout_in, device_in, events_on, walk_on, walk_all_on, device_layout_left, device_layout_alone}
 use Rattle.acc_base.specs.Calls.{History}
 use Rattle.acc_base.specs.History.{AreLegal}
 use Rattle.acc_base.specs.Accounts.{IsHistoryLegal}
 use Rattle.acc_base.proofs.Results.{equal, differ}
 use Rattle.acc_base.proofs.Views.{layout-own, layout-other, at-map}
-use Rattle.acc_base.proofs.OnDevices.{events-own, events-other}
+use Rattle.acc_base.proofs.OnDevices.{events-own, events-other, new_at}
 
 abbrev device_layout_in : Layout → DeviceLayout
 device_layout_in lay = record { records = lay.records; regions = lay.register.regions }
@@ -55,3 +55,10 @@ legal_alone l h w d history = subst (λ (v : WholeLayout). device_layout_at d v.
 pub device_alone : (l : Limits) (h : History) (w : Whole) (d : ℕ) → IsHistoryLegal l h (whole_layout_of w) → device_layout_of (device_at d w.devices) ≡ device_layout_alone (device_layout_of (device_at d h.base.state.devices)) (events_on d h.trace)
 device_alone l h w d history =
     sym (at-map device_layout_of w.devices d new_device) ∙ (legal_alone l h (whole_layout_of w) d history ∙ ap (λ x. device_layout_alone x (events_on d h.trace)) (at-map device_layout_of h.base.state.devices d new_device))
+
+-- and events that found a base, from a new table on
+pub founded_alone : (l : Limits) (events : List Event) (state : Whole) (d : ℕ) → AreLegal l events (new_whole_layout l.devices) → walk_all_on events (new_whole_layout l.devices) ≡ whole_layout_of state → device_layout_of (device_at d state.devices) ≡ device_layout_alone new_device_layout (events_on d events)
+founded_alone l events state d legal leads =
+    sym (at-map device_layout_of state.devices d new_device)
+    ∙ (sym (ap (λ (v : WholeLayout). device_layout_at d v.devices) leads)
+    ∙ (alone_all l events (new_whole_layout l.devices) d legal ∙ ap (λ x. device_layout_alone x (events_on d events)) (new_at l.devices d new_device_layout)))

@@ -5,7 +5,7 @@ use Rattle.std.proofs.lemmas.Bool.Decides.{nat_tests}
 use Rattle.std.proofs.lemmas.List.Elements.{All-contains, All-from_recursion}
 use Rattle.acc_base.specs.Words.{Section, Item, RegionClause, ExitClause, UpdateClause, Counter, Range, Found, Holding, Task, Step, Loan}
 use Rattle.acc_base.specs.declared.mappings.Found.TheVariants.{Empty, Inside, Partly, Absent}
-use Rattle.acc_base.specs.declared.tasks.Task.TheVariants.{Enter, Leave, Exit, Move}
+use Rattle.acc_base.specs.declared.tasks.Task.TheVariants.{Enter, ExitRegion, ExitData, Move}
 use Rattle.acc_base.specs.declared.events.Step.TheVariants.{Nothing, Counted, Born, Dropped, Moved}
 use Rattle.acc_base.specs.declared.faults.Fault.TheVariants.{CounterFull, Lent}
 use Rattle.acc_base.specs.Results.{◌>>◌, refuse_if}
@@ -56,19 +56,19 @@ pub record IsInRangeOf (l : Limits) (section : Section) (block : ℕ) (w : Recor
 
 -- a drop by `exit data`: the dynamic counter was above zero
 pub record IsDrop (l : Limits) (finalize : Bool) (item : Item ExitClause) (queue : Option ℕ) (block : ℕ) (ended : Bool) (w : Records) : Type 0 where
-  pub range : IsInRangeOf l (section_of (Exit finalize item queue)) block w
+  pub range : IsInRangeOf l (section_of (ExitData finalize item queue)) block w
   pub some : 0 < dynamic_of block w.ranges
-  pub ended_is : ended ≡ ends_by (recounted (Exit finalize item queue)) block w.ranges
+  pub ended_is : ended ≡ ends_by (recounted (ExitData finalize item queue)) block w.ranges
 
 -- the task can have been judged to do the step
 abbrev pub IsJudgedTo : Limits → Task → Step → Records → Type 0
 IsJudgedTo l (Enter counter item queue) Nothing w = ⊤
 IsJudgedTo l (Enter counter item queue) (Counted k) w = IsCount l counter k w
 IsJudgedTo l (Enter counter item queue) (Born k p) w = IsBirth l (section_of (Enter counter item queue)) k p w
-IsJudgedTo l (Leave holding) Nothing w = holding.block ≡ None
-IsJudgedTo l (Leave holding) (Dropped k ended) w = (holding.block ≡ Some k) × (ended ≡ ends_by (recounted (Leave holding)) k w.ranges)
-IsJudgedTo l (Exit finalize item queue) Nothing w = ⊤
-IsJudgedTo l (Exit finalize item queue) (Dropped k ended) w = IsDrop l finalize item queue k ended w
+IsJudgedTo l (ExitRegion holding) Nothing w = holding.block ≡ None
+IsJudgedTo l (ExitRegion holding) (Dropped k ended) w = (holding.block ≡ Some k) × (ended ≡ ends_by (recounted (ExitRegion holding)) k w.ranges)
+IsJudgedTo l (ExitData finalize item queue) Nothing w = ⊤
+IsJudgedTo l (ExitData finalize item queue) (Dropped k ended) w = IsDrop l finalize item queue k ended w
 IsJudgedTo l (Move if_present item queue) Nothing w = ⊤
 IsJudgedTo l (Move if_present item queue) (Moved k) w = IsInRangeOf l item.section k w
 IsJudgedTo l _ _ w = ⊥
@@ -132,25 +132,25 @@ entered_says l counter item queue n w step Partly f h e = cc
 -- ---- exit from a region
 
 left_says : (l : Limits) (holding : Holding) (w : Records) (step : Step) (block : Option ℕ) → holding.block ≡ block
-    → leave_row block (recounted (Leave holding)) w ≡ Ok step → IsJudgedTo l (Leave holding) step w
-left_says l holding w step None is e = subst (λ t. IsJudgedTo l (Leave holding) t w) (ok_same _ _ e) is
-left_says l holding w step (Some k) is e = subst (λ t. IsJudgedTo l (Leave holding) t w) (ok_same _ _ e) (is, refl)
+    → leave_row block (recounted (ExitRegion holding)) w ≡ Ok step → IsJudgedTo l (ExitRegion holding) step w
+left_says l holding w step None is e = subst (λ t. IsJudgedTo l (ExitRegion holding) t w) (ok_same _ _ e) is
+left_says l holding w step (Some k) is e = subst (λ t. IsJudgedTo l (ExitRegion holding) t w) (ok_same _ _ e) (is, refl)
 
 -- ---- `exit data`
 
 exited_says : (l : Limits) (finalize : Bool) (item : Item ExitClause) (queue : Option ℕ) (n : ℕ) (w : Records) (step : Step) (found : Found)
-    → where_is (section_of (Exit finalize item queue)) w.ranges ≡ found → in_host l n (section_of (Exit finalize item queue)) ≡ Ok tt
-    → exit_row found (recounted (Exit finalize item queue)) n w ≡ Ok step → IsJudgedTo l (Exit finalize item queue) step w
+    → where_is (section_of (ExitData finalize item queue)) w.ranges ≡ found → in_host l n (section_of (ExitData finalize item queue)) ≡ Ok tt
+    → exit_row found (recounted (ExitData finalize item queue)) n w ≡ Ok step → IsJudgedTo l (ExitData finalize item queue) step w
 exited_says l finalize item queue n w step (Inside k o) f h e = ⊎_elim
-    (λ a. subst (λ t. IsJudgedTo l (Exit finalize item queue) t w) (ok_same _ _ a.1) tt)
+    (λ a. subst (λ t. IsJudgedTo l (ExitData finalize item queue) t w) (ok_same _ _ a.1) tt)
     (λ b. let some : 0 < dynamic_of k w.ranges = above (dynamic_of k w.ranges) b.0 in
-    subst (λ t. IsJudgedTo l (Exit finalize item queue) t w) (ok_same _ _ b.1) (record { range = in_range_of l n (section_of (Exit finalize item queue)) k o w h f; some = some; ended_is = refl }))
-    (chosen (dynamic_of k w.ranges == 0) (Ok Nothing) (Ok (Dropped k (ends_by (recounted (Exit finalize item queue)) k w.ranges))) (Ok step) e)
+    subst (λ t. IsJudgedTo l (ExitData finalize item queue) t w) (ok_same _ _ b.1) (record { range = in_range_of l n (section_of (ExitData finalize item queue)) k o w h f; some = some; ended_is = refl }))
+    (chosen (dynamic_of k w.ranges == 0) (Ok Nothing) (Ok (Dropped k (ends_by (recounted (ExitData finalize item queue)) k w.ranges))) (Ok step) e)
   where
     above : (d : ℕ) → (d == 0) ≡ false → 0 < d
     above d z = grind (arith, nat_tests)
 exited_says l finalize item queue n w step Partly f h e = cc
-exited_says l finalize item queue n w step _ f h e = subst (λ t. IsJudgedTo l (Exit finalize item queue) t w) (ok_same _ _ e) tt
+exited_says l finalize item queue n w step _ f h e = subst (λ t. IsJudgedTo l (ExitData finalize item queue) t w) (ok_same _ _ e) tt
 
 -- ---- `update`
 
@@ -177,9 +177,9 @@ row_says l n (Enter counter item queue) w step e =
     let task : Task = Enter counter item queue in
     let both : (checked l n task ≡ Ok tt) × (enter_row (where_is (section_of task) w.ranges) l counter item.clause n (section_of task) w ≡ Ok step) = then_ok (checked l n task) _ step e in
     entered_says l counter item queue n w step (where_is (section_of task) w.ranges) refl (section_checked l n task both.0) both.1
-row_says l n (Leave holding) w step e = left_says l holding w step holding.block refl e
-row_says l n (Exit finalize item queue) w step e =
-    let task : Task = Exit finalize item queue in
+row_says l n (ExitRegion holding) w step e = left_says l holding w step holding.block refl e
+row_says l n (ExitData finalize item queue) w step e =
+    let task : Task = ExitData finalize item queue in
     let both : (checked l n task ≡ Ok tt) × (exit_row (where_is (section_of task) w.ranges) (recounted task) n w ≡ Ok step) = then_ok (checked l n task) _ step e in
     exited_says l finalize item queue n w step (where_is (section_of task) w.ranges) refl (section_checked l n task both.0) both.1
 row_says l n (Move if_present item queue) w step e =

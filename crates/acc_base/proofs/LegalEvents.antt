@@ -1,6 +1,6 @@
 -- A directive, a write of the host, a loan and a lease that are not refused make a legal event.
 use Rattle.std.proofs.Common.{ℕ, suc, ◌≡◌, ◌+◌, ◌≤◌, refl, sym, ◌∙◌, ap, subst, Bool, true, false, cond, List, [], ◌∷◌, ◌++◌, length, Option, Some, None, Result, Ok, arith, length-take, length-drop, take-append-drop, drop-drop}
-use Rattle.std.specs.Prelude.{◌==◌, not, ◌||◌, take, drop, unwrap_or, option_map, is_none, ok_or, IsSome}
+use Rattle.std.specs.Prelude.{◌==◌, not, ◌&&◌, ◌||◌, take, drop, unwrap_or, option_map, is_none, ok_or, IsSome}
 use Rattle.std.proofs.lemmas.Bool.{true≢false}
 use Rattle.std.proofs.lemmas.Slice.Eq.{bytes_eq-Decides}
 use Rattle.std.proofs.lemmas.Bool.Decides.{nat_tests}
@@ -30,7 +30,7 @@ use Rattle.acc_base.specs.Judge.{tasks_with, holdings_left, tasks_of, queue_in, 
 use Rattle.acc_base.specs.Replay.{offset_lent, bytes_told}
 use Rattle.acc_base.specs.Judge.{Verdict, Makes}
 use Rattle.acc_base.specs.History.{AreJudged, HasRecorded, IsLegal}
-use Rattle.acc_base.specs.Accounts.{IsClearOf, IsMapped, IsLoanSound, AreRecordsSound}
+use Rattle.acc_base.specs.Accounts.{IsMadeIn, IsClearOf, IsMapped, IsLoanSound, AreRecordsSound}
 use Rattle.acc_base.proofs.Results.{and_true, not_false, equal, bind_ok, then_ok, ok_same, refused_not}
 use Rattle.acc_base.proofs.Elements.{AllByRecursion-weaker, EachPair-weaker, found_has}
 use Rattle.acc_base.proofs.Lookups.{at-own}
@@ -90,11 +90,33 @@ event_legal l n (Exit number) s holdings dids e left q judged free h =
 event_legal l n (directives.Step device queue) s holdings dids e left q judged free h = step_legal l n queue s e free h
 event_legal l n d s holdings dids e left q judged free h = grind (arith, nat_tests, same_event)
 
+-- where nothing is asked, nothing is done
+pub none_made : (l : Limits) (s : State) → judge_all l 0 [] s ≡ Ok []
+unfolding judge_all
+none_made l s = refl
+
+-- the event of a directive did what its tasks were judged to do
+event_made : (l : Limits) (n : ℕ) (d : Directive) (s : State) (holdings : List Holding) (dids : List Did) (e : Event) → holdings_left d s.register ≡ Ok holdings → judge_all l 0 (tasks_with d holdings) s ≡ Ok dids → verdict_of n d s dids ≡ Makes e → IsMadeIn l e s
+event_made l n (Exit number) s holdings dids e left judged h =
+    let is : holdings_at number s.register.regions ≡ Some holdings = open_left number _ holdings left in
+    subst (λ x. IsMadeIn l x s) (same_event _ _ h) (rw (is, reverse-reverse dids) judged)
+event_made l n (Wait device queue) s holdings dids e left judged h = subst (λ x. IsMadeIn l x s) (same_event _ _ h) (none_made l s)
+event_made l n (directives.Step device queue) s holdings dids e left judged h = go (head_of queue s.records.queues) h
+  where
+    go : (o : Option Transfer) → step_verdict n queue o ≡ Makes e → IsMadeIn l e s
+    go None made = cc
+    go (Some t) made = subst (λ x. IsMadeIn l x s) (same_event _ _ made) (none_made l s)
+event_made l n (Enter device items) s holdings dids e left judged h = subst (λ x. IsMadeIn l x s) (same_event _ _ h) judged
+event_made l n (EnterData device items queue) s holdings dids e left judged h = subst (λ x. IsMadeIn l x s) (same_event _ _ h) judged
+event_made l n (ExitData device items finalize queue) s holdings dids e left judged h = subst (λ x. IsMadeIn l x s) (same_event _ _ h) judged
+event_made l n (Update device items if_present queue) s holdings dids e left judged h = subst (λ x. IsMadeIn l x s) (same_event _ _ h) judged
+
 -- the event of a directive, with what its tasks did
 pub record IsMadeBy (l : Limits) (n : ℕ) (d : Directive) (s : State) (e : Event) : Type 0 where
   pub dids : List Did
   pub verdict_is : verdict_of n d s dids ≡ Makes e
   pub legal : IsLegal l e (layout_of s)
+  pub made : IsMadeIn l e s
 
 -- a directive that is not refused
 pub made_by : (l : Limits) (n : ℕ) (d : Directive) (s : State) (e : Event) → directive_verdict l n d s ≡ Ok (Makes e) → IsMadeBy l n d s e
@@ -107,10 +129,11 @@ made_by l n d s e h =
     let left : (hs : List Holding) × (holdings_left d s.register ≡ Ok hs) × (Ok (tasks_with d hs) ≡ Ok found.0) = bind_ok (holdings_left d s.register) (λ hs. Ok (tasks_with d hs)) found.0 found.1 in
     let known : (queue_named (queue_in d) ≡ Ok tt) × (then found.0 ≡ Ok (Makes e)) = then_ok (queue_named (queue_in d)) (then found.0) (Makes e) found.2 in
     let acted : (dids : List Did) × (judge_all l 0 found.0 s ≡ Ok dids) × (last dids ≡ Ok (Makes e)) = bind_ok (judge_all l 0 found.0 s) last (Makes e) known.1 in
-    let judged : AreJudged l 0 (tasks_with d left.0) acted.0 s.records = rw (ok_same _ _ left.2) (judged_all l 0 found.0 acted.0 s acted.1) in
+    let all_of : judge_all l 0 (tasks_with d left.0) s ≡ Ok acted.0 = rw (ok_same _ _ left.2) acted.1 in
+    let judged : AreJudged l 0 (tasks_with d left.0) acted.0 s.records = judged_all l 0 (tasks_with d left.0) acted.0 s all_of in
     let free : (none_lent (transfers_in d s.records.queues) s.records.loans ≡ Ok tt) × (Ok (verdict_of n d s acted.0) ≡ Ok (Makes e)) = then_ok (none_lent (transfers_in d s.records.queues) s.records.loans) (Ok (verdict_of n d s acted.0)) (Makes e) acted.2 in
     let is : verdict_of n d s acted.0 ≡ Makes e = ok_same _ _ free.1 in
-    record { dids = acted.0; verdict_is = is; legal = event_legal l n d s left.0 acted.0 e left.1 known.0 judged free.0 is }
+    record { dids = acted.0; verdict_is = is; legal = event_legal l n d s left.0 acted.0 e left.1 known.0 judged free.0 is; made = event_made l n d s left.0 acted.0 e left.1 all_of is }
 
 -- ---- a write of the host
 
@@ -207,15 +230,16 @@ section_told lease true offset copy is within kept set = ap (λ n. overwritten n
 section_told lease false offset copy is within kept set = absurd (true≢false (sym set))
 
 -- a lease that is not refused
-pub gather_legal : (l : Limits) (lease : Leased) (s : State) (e : Event) → AreRecordsSound l s.records → gather_event l.full lease s ≡ Ok e → IsGathered l lease s e
+pub gather_legal : (l : Limits) (lease : Leased) (s : State) (e : Event) → AreRecordsSound l s.records → gather_event l lease s ≡ Ok e → IsGathered l lease s e
 unfolding gather_event
 gather_legal l lease s e sound h =
     let w : Records = s.records in
-    let both = then_ok (refuse_if (not (is_returnable l.full lease w.blocks w.loans s.memories)) (NoLease lease.serial)) (Ok (gathered l.full lease)) e h in
-    let returnable : is_returnable l.full lease w.blocks w.loans s.memories ≡ true = not_false _ (refused_not _ _ both.0) in
-    let known : (is_of_loan lease w.blocks w.loans ≡ true) × ((not l.full || is_kept_outside lease (bytes_of lease.block s.memories)) ≡ true) = and_true _ _ returnable in
-    let fits : (is_loan_of lease (loan_of lease.block w.loans) ≡ true) × ((len_of lease.block w.blocks == length lease.bytes) ≡ true) = and_true _ _ known.0 in
-    let back : IsLoanBack lease (loan_of lease.block w.loans) = loan_returned lease (loan_of lease.block w.loans) fits.0 in
+    let both = then_ok (refuse_if (not (is_returnable l.full l.number lease w.blocks w.loans s.memories)) (NoLease lease.serial)) (Ok (gathered l.full lease)) e h in
+    let returnable : is_returnable l.full l.number lease w.blocks w.loans s.memories ≡ true = not_false _ (refused_not _ _ both.0) in
+    let known : (is_of_loan l.number lease w.blocks w.loans ≡ true) × ((not l.full || is_kept_outside lease (bytes_of lease.block s.memories)) ≡ true) = and_true _ _ returnable in
+    let fits : (((lease.device == l.number) && is_loan_of lease (loan_of lease.block w.loans)) ≡ true) × ((len_of lease.block w.blocks == length lease.bytes) ≡ true) = and_true _ _ known.0 in
+    let own_loan : is_loan_of lease (loan_of lease.block w.loans) ≡ true = (and_true (lease.device == l.number) (is_loan_of lease (loan_of lease.block w.loans)) fits.0).1 in
+    let back : IsLoanBack lease (loan_of lease.block w.loans) = loan_returned lease (loan_of lease.block w.loans) own_loan in
     let own : back.loan.block ≡ lease.block = equal _ _ (found_has (IsLoanSound w.ranges) (λ (x : Loan). x.block == lease.block) w.loans back.loan sound.loans.sound back.there).1 in
     let inside : back.loan.offset + back.loan.len ≤ len_of back.loan.block w.blocks = within_block l w back.loan sound (subst (λ n. loan_of n w.loans ≡ Some back.loan) (sym own) back.there) in
     let within : lease.offset + lease.len ≤ length lease.bytes = omega (arith, subst (λ n. back.loan.offset + back.loan.len ≤ len_of n w.blocks) own inside, equal _ _ fits.1, back.offset, back.len) in

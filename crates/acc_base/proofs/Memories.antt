@@ -8,7 +8,7 @@ use Rattle.std.proofs.lemmas.Bool.{true≢false}
 use Rattle.acc_base.specs.Words.{Section, Range, Block, Loan, Attachment, Aim, Task, Transfer, Step, Did, Event}
 use Rattle.acc_base.specs.declared.mappings.Counter.TheVariants.{Structured}
 use Rattle.acc_base.specs.declared.attachments.Aim.TheVariants as aims
-use Rattle.acc_base.specs.declared.tasks.Task.TheVariants.{Enter, Exit}
+use Rattle.acc_base.specs.declared.tasks.Task.TheVariants.{Enter, ExitData}
 use Rattle.acc_base.specs.declared.events.Step.TheVariants.{Born, Dropped}
 use Rattle.acc_base.specs.declared.events.Event.TheVariants.{HostWritten, Lent, Gathered}
 use Rattle.acc_base.specs.Limits.{Limits, recorded}
@@ -109,9 +109,9 @@ made_sized ls (Some t) attached host ms bs h = go t.out
 -- counting keeps the block of a range
 pub recounted-block : (task : Task) (r : Range) → (recounted task r).block ≡ r.block
 recounted-block (Enter Structured item queue) r = refl
-recounted-block (Exit finalize item queue) r = go finalize
+recounted-block (ExitData finalize item queue) r = go finalize
   where
-    go : (b : Bool) → (recounted (Exit b item queue) r).block ≡ r.block
+    go : (b : Bool) → (recounted (ExitData b item queue) r).block ≡ r.block
     go true = refl
     go false = refl
 recounted-block _ r = refl
@@ -119,9 +119,9 @@ recounted-block _ r = refl
 -- and its section
 pub recounted-section : (task : Task) (r : Range) → (recounted task r).section ≡ r.section
 recounted-section (Enter Structured item queue) r = refl
-recounted-section (Exit finalize item queue) r = go finalize
+recounted-section (ExitData finalize item queue) r = go finalize
   where
-    go : (b : Bool) → (recounted (Exit b item queue) r).section ≡ r.section
+    go : (b : Bool) → (recounted (ExitData b item queue) r).section ≡ r.section
     go true = refl
     go false = refl
 recounted-section _ r = refl

@@ -22,7 +22,7 @@ use Rattle.acc_base.proofs.Views.{numbers_from, layout-own, layout-other, device
 
 -- the bounds of a table are those of each of its devices
 pub bounds_on : (d : ℕ) (l : Limits) → d < l.devices → IsWithinBounds l → IsWithinBounds (limits_on d l)
-bounds_on d l there h = record { host = h.host; device_base = (omega arith, omega (arith, there, h.devices.1), omega arith); device = h.device; regions = h.regions; tickets = h.tickets; counter_max = h.counter_max; queue_cap = h.queue_cap; trace_cap = h.trace_cap; devices = h.devices }
+bounds_on d l there h = record { host = h.host; number = omega (arith, there, h.devices.1); device = h.device; regions = h.regions; tickets = h.tickets; counter_max = h.counter_max; queue_cap = h.queue_cap; trace_cap = h.trace_cap; devices = h.devices }
 
 -- ---- the events of a device
 
@@ -131,7 +131,7 @@ unfolding walk_all_on
 devices_all [] w = refl
 devices_all (e ∷ events) w = devices_all events (walk_on e w) ∙ devices-layout (device_in e) (walk e (layout_in (device_in e) w)) w
 
-new_at : (count d : ℕ) (x : DeviceLayout) → slice_index_or (replicate count x) d x ≡ x
+pub new_at : (count d : ℕ) (x : DeviceLayout) → slice_index_or (replicate count x) d x ≡ x
 new_at zero d x = refl
 new_at (suc count) zero x = refl
 new_at (suc count) (suc d) x = new_at count d x

@@ -4,7 +4,7 @@ use Rattle.std.specs.Prelude.{◌==◌, not, ◌||◌, is_some, unwrap_or, optio
 use Rattle.std.proofs.lemmas.Bool.Decides.{nat_tests}
 use Rattle.acc_base.specs.Words.{Section, Range, Block, Task, Transfer, Step}
 use Rattle.acc_base.specs.declared.mappings.Counter.TheVariants.{Structured, Dynamic}
-use Rattle.acc_base.specs.declared.tasks.Task.TheVariants.{Enter, Leave, Exit, Move}
+use Rattle.acc_base.specs.declared.tasks.Task.TheVariants.{Enter, ExitRegion, ExitData, Move}
 use Rattle.acc_base.specs.declared.events.Step.TheVariants.{Nothing, Counted, Born, Dropped, Moved}
 use Rattle.acc_base.specs.Limits.{Limits, IsWithinBounds}
 use Rattle.acc_base.specs.Section.{is_empty, is_within}
@@ -36,13 +36,13 @@ row_sound l (Enter counter item queue) (Counted k) w bounds says free h = counte
 row_sound l (Enter Structured item queue) (Born k p) w bounds says free h = birth_sound l (risen Structured (bare_range (section_of (Enter Structured item queue)) k)) p w bounds (first_counted l Structured (section_of (Enter Structured item queue)) k bounds) says h
 row_sound l (Enter Dynamic item queue) (Born k p) w bounds says free h = birth_sound l (risen Dynamic (bare_range (section_of (Enter Dynamic item queue)) k)) p w bounds (first_counted l Dynamic (section_of (Enter Dynamic item queue)) k bounds) says h
 row_sound l (Enter counter item queue) (Moved k) w bounds says free h = h
-row_sound l (Leave holding) (Dropped k true) w bounds says free h = ended_sound l k w (not_lent_says k w.loans free) h
-row_sound l (Leave holding) (Dropped k false) w bounds says free h = dropped_sound l (recounted (Leave holding)) k w (recounted_keeps (Leave holding)) (λ r. omega arith) (λ r. omega arith) h says.1
-row_sound l (Leave holding) (Moved k) w bounds says free h = h
-row_sound l (Exit finalize item queue) (Dropped k true) w bounds says free h = ended_sound l k w (not_lent_says k w.loans free) h
-row_sound l (Exit true item queue) (Dropped k false) w bounds says free h = dropped_sound l (recounted (Exit true item queue)) k w (recounted_keeps (Exit true item queue)) (λ r. omega arith) (λ r. omega arith) h says.ended_is
-row_sound l (Exit false item queue) (Dropped k false) w bounds says free h = dropped_sound l (recounted (Exit false item queue)) k w (recounted_keeps (Exit false item queue)) (λ r. omega arith) (λ r. omega arith) h says.ended_is
-row_sound l (Exit finalize item queue) (Moved k) w bounds says free h = h
+row_sound l (ExitRegion holding) (Dropped k true) w bounds says free h = ended_sound l k w (not_lent_says k w.loans free) h
+row_sound l (ExitRegion holding) (Dropped k false) w bounds says free h = dropped_sound l (recounted (ExitRegion holding)) k w (recounted_keeps (ExitRegion holding)) (λ r. omega arith) (λ r. omega arith) h says.1
+row_sound l (ExitRegion holding) (Moved k) w bounds says free h = h
+row_sound l (ExitData finalize item queue) (Dropped k true) w bounds says free h = ended_sound l k w (not_lent_says k w.loans free) h
+row_sound l (ExitData true item queue) (Dropped k false) w bounds says free h = dropped_sound l (recounted (ExitData true item queue)) k w (recounted_keeps (ExitData true item queue)) (λ r. omega arith) (λ r. omega arith) h says.ended_is
+row_sound l (ExitData false item queue) (Dropped k false) w bounds says free h = dropped_sound l (recounted (ExitData false item queue)) k w (recounted_keeps (ExitData false item queue)) (λ r. omega arith) (λ r. omega arith) h says.ended_is
+row_sound l (ExitData finalize item queue) (Moved k) w bounds says free h = h
 row_sound l (Move if_present item queue) (Moved k) w bounds says free h = h
 row_sound l _ _ w bounds says free h = absurd says
 
@@ -126,17 +126,17 @@ born_placed l section k p w b number len h birth =
 
 -- what a task puts can be made in what its row leaves, and before it where a mapping ends
 moved_sound : (l : Limits) (task : Task) (k : ℕ) (w : Records) → IsJudgedTo l task (Moved k) w → AreRecordsSound l w → IsPutSound l w.blocks (queue_of task) (transfer_of task (Moved k) w.ranges)
-moved_sound l (Leave holding) k w says h = tt
+moved_sound l (ExitRegion holding) k w says h = tt
 moved_sound l (Move if_present item None) k w says h = tt
 moved_sound l (Move if_present item (Some q)) k w says h = placed_sound l item.section k (is_to_self item.clause) w h says
 moved_sound l _ k w says h = absurd says
 
 end_sound : (l : Limits) (task : Task) (k : ℕ) (w : Records) → IsJudgedTo l task (Dropped k true) w → AreRecordsSound l w → IsPutSound l w.blocks (queue_of task) (transfer_of task (Dropped k true) w.ranges)
-end_sound l (Leave holding) k w says h = tt
-end_sound l (Exit finalize item None) k w says h = tt
-end_sound l (Exit finalize item (Some q)) k w says h =
-    let placed : IsTransferSound l w.blocks (transfer_at (Exit finalize item (Some q)) k w.ranges) = placed_sound l (section_of (Exit finalize item (Some q))) k true w h says.range in
-    elim (is_copyout item.clause) as (λ b. IfSome (cond b (Some (transfer_at (Exit finalize item (Some q)) k w.ranges)) None) (IsTransferSound l w.blocks)) [ true ↦ placed | false ↦ tt ]
+end_sound l (ExitRegion holding) k w says h = tt
+end_sound l (ExitData finalize item None) k w says h = tt
+end_sound l (ExitData finalize item (Some q)) k w says h =
+    let placed : IsTransferSound l w.blocks (transfer_at (ExitData finalize item (Some q)) k w.ranges) = placed_sound l (section_of (ExitData finalize item (Some q))) k true w h says.range in
+    elim (is_copyout item.clause) as (λ b. IfSome (cond b (Some (transfer_at (ExitData finalize item (Some q)) k w.ranges)) None) (IsTransferSound l w.blocks)) [ true ↦ placed | false ↦ tt ]
 end_sound l _ k w says h = absurd says
 
 start_sound : (l : Limits) (task : Task) (k p : ℕ) (w : Records) → IsJudgedTo l task (Born k p) w → AreRecordsSound l w → IsPutSound l (act_row task (Born k p) w).blocks (queue_of task) (transfer_of task (Born k p) w.ranges)
@@ -149,7 +149,7 @@ start_sound l (Enter counter item (Some q)) k p w says h =
     let placed : IsTransferSound l (w.blocks ++ b ∷ []) (record { block = k; offset = 0; section = section_of task; out = false })
     = born_placed l (section_of task) k p w b (keeps.block (bare_range (section_of task) k)) (ap (λ (s : Section). s.len) (keeps.section (bare_range (section_of task) k))) h says in
     elim (copies_in item.clause) as (λ t. IfSome (cond t (Some (record { block = k; offset = 0; section = section_of task; out = false })) None) (IsTransferSound l (w.blocks ++ b ∷ []))) [ true ↦ placed | false ↦ tt ]
-start_sound l (Exit finalize item queue) k p w says h = absurd says
+start_sound l (ExitData finalize item queue) k p w says h = absurd says
 start_sound l (Move if_present item queue) k p w says h = absurd says
 start_sound l _ k p w says h = tt
 

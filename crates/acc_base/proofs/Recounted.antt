@@ -3,7 +3,7 @@ use Rattle.std.proofs.Common.{ℕ, ◌≡◌, ◌+◌, ◌-◌, refl, sym, ◌�
 use Rattle.std.specs.Prelude.{◌==◌, unwrap_or, option_map, if◌then◌else◌}
 use Rattle.acc_base.specs.Words.{Section, Counter, Range, Task, Step}
 use Rattle.acc_base.specs.declared.mappings.Counter.TheVariants.{Structured, Dynamic}
-use Rattle.acc_base.specs.declared.tasks.Task.TheVariants.{Enter, Leave, Exit, Move}
+use Rattle.acc_base.specs.declared.tasks.Task.TheVariants.{Enter, ExitRegion, ExitData, Move}
 use Rattle.acc_base.specs.declared.events.Step.TheVariants.{Counted, Born, Dropped}
 use Rattle.acc_base.specs.Limits.{Limits}
 use Rattle.acc_base.specs.Records.{Records}
@@ -20,8 +20,8 @@ use Rattle.acc_base.proofs.Sound.{recounted_keeps, counter_is, fresh}
 abbrev pub moved_by : Counter → Task → ℕ → ℕ
 moved_by Structured (Enter Structured item queue) n = n + 1
 moved_by Dynamic (Enter Dynamic item queue) n = n + 1
-moved_by Structured (Leave holding) n = n - 1
-moved_by Dynamic (Exit finalize item queue) n = if finalize then 0 else n - 1
+moved_by Structured (ExitRegion holding) n = n - 1
+moved_by Dynamic (ExitData finalize item queue) n = if finalize then 0 else n - 1
 moved_by counter (Move if_present item queue) n = n
 moved_by _ _ n = n
 
@@ -35,8 +35,8 @@ names block _ = false
 pub counter-recounted : (counter : Counter) (task : Task) (r : Range) → counter_in counter (recounted task r) ≡ moved_by counter task (counter_in counter r)
 counter-recounted Structured (Enter Structured item queue) r = refl
 counter-recounted Dynamic (Enter Structured item queue) r = refl
-counter-recounted Structured (Exit true item queue) r = refl
-counter-recounted Dynamic (Exit true item queue) r = refl
+counter-recounted Structured (ExitData true item queue) r = refl
+counter-recounted Dynamic (ExitData true item queue) r = refl
 counter-recounted _ _ r = refl
 
 pub unused_zero : (counter : Counter) (r : Range) → is_unused r ≡ true → counter_in counter r ≡ 0
@@ -55,16 +55,16 @@ ended_zero counter task k ranges (Some r) e ends =
 
 -- no range has the block, and the task does not raise the counter
 pub zero_stays : (l : Limits) (task : Task) (k : ℕ) (ended : Bool) (w : Records) (counter : Counter) → IsJudgedTo l task (Dropped k ended) w → moved_by counter task 0 ≡ 0
-zero_stays l (Leave holding) k ended w Structured says = refl
-zero_stays l (Leave holding) k ended w Dynamic says = refl
-zero_stays l (Exit finalize item queue) k ended w Structured says = refl
-zero_stays l (Exit true item queue) k ended w Dynamic says = refl
-zero_stays l (Exit false item queue) k ended w Dynamic says = refl
+zero_stays l (ExitRegion holding) k ended w Structured says = refl
+zero_stays l (ExitRegion holding) k ended w Dynamic says = refl
+zero_stays l (ExitData finalize item queue) k ended w Structured says = refl
+zero_stays l (ExitData true item queue) k ended w Dynamic says = refl
+zero_stays l (ExitData false item queue) k ended w Dynamic says = refl
 zero_stays l _ k ended w counter says = absurd says
 
 pub ends_told : (l : Limits) (task : Task) (k : ℕ) (w : Records) → IsJudgedTo l task (Dropped k true) w → true ≡ ends_by (recounted task) k w.ranges
-ends_told l (Leave holding) k w says = says.1
-ends_told l (Exit finalize item queue) k w says = says.ended_is
+ends_told l (ExitRegion holding) k w says = says.1
+ends_told l (ExitData finalize item queue) k w says = says.ended_is
 ends_told l _ k w says = absurd says
 
 pub count_mapped : (l : Limits) (task : Task) (k : ℕ) (w : Records) → IsJudgedTo l task (Counted k) w → range_of k w.ranges ≡ None → ⊥

@@ -5,8 +5,8 @@ use Rattle.std.specs.List.{AllByRecursion, list_all}
 use Rattle.std.proofs.lemmas.Bool.Decides.{nat_tests}
 use Rattle.acc_base.specs.Words.{Section, Item, RegionClause, Counter, Range, Block, Attachment, Transfer, Task, Loan}
 use Rattle.acc_base.specs.declared.mappings.Counter.TheVariants.{Structured, Dynamic}
-use Rattle.acc_base.specs.declared.tasks.Task.TheVariants.{Enter, Leave, Exit, Move}
-use Rattle.acc_base.specs.Limits.{Limits, IsWithinBounds}
+use Rattle.acc_base.specs.declared.tasks.Task.TheVariants.{Enter, ExitRegion, ExitData, Move}
+use Rattle.acc_base.specs.Limits.{Limits, IsWithinBounds, base_on}
 use Rattle.acc_base.specs.Section.{is_empty, is_within, is_apart, end_of, device_memory}
 use Rattle.acc_base.specs.Records.{Records, new_records}
 use Rattle.acc_base.specs.Ranges.{range_of, counter_in, counter_of, with_range, without_range, changed_at, bare_range, risen, is_unused, ends_by}
@@ -77,9 +77,9 @@ changed_counted l k f w h changes = AllByRecursion-map (IsCounted l) (change_at 
 -- a task leaves section and block
 pub recounted_keeps : (task : Task) → KeepsPlace (recounted task)
 recounted_keeps (Enter counter item queue) = risen_keeps counter
-recounted_keeps (Leave holding) = fallen_keeps Structured
-recounted_keeps (Exit true item queue) = cleared_keeps
-recounted_keeps (Exit false item queue) = fallen_keeps Dynamic
+recounted_keeps (ExitRegion holding) = fallen_keeps Structured
+recounted_keeps (ExitData true item queue) = cleared_keeps
+recounted_keeps (ExitData false item queue) = fallen_keeps Dynamic
 recounted_keeps (Move if_present item queue) = record { section = λ r. refl; block = λ r. refl }
 
 -- the counter of a block is that of its range
@@ -293,16 +293,16 @@ sides : (x y p size : ℕ) → (nat_le (p + size) x || nat_le y p) ≡ true → 
 sides x y p size h = grind (arith, nat_tests)
 
 -- device memory begins at a multiple of 16
-even_base : (l : Limits) → IsWithinBounds l → l.device_base % 16 ≡ 0
-even_base l bounds = omega (arith, bounds.device_base.2)
+even_base : (l : Limits) → base_on l.number % 16 ≡ 0
+even_base l = omega arith
 
 birth_blocks : (l : Limits) (new : Range) (p : ℕ) (w : Records) → IsWithinBounds l → 0 < new.section.len → IsBirth l new.section new.block p w → AreBlocksApart (device_memory l) w.blocks w.births → AreBlocksApart (device_memory l) (records_after_birth new p w).blocks (records_after_birth new p w).births
 unfolding records_after_birth
 birth_blocks l new p w within some birth h =
     let found : IsFoundPlace (fits_at (device_memory l) w.blocks (rounded new.section.len)) (Some p) = subst (IsFoundPlace (fits_at (device_memory l) w.blocks (rounded new.section.len))) birth.place_is (place_for-found (device_memory l) w.blocks (rounded new.section.len)) in
     let parts : (is_within (record { start = p; len = rounded new.section.len }) (device_memory l) ≡ true) × (list_all (is_clear_of p (rounded new.section.len)) w.blocks ≡ true) = and_true _ _ found.0 in
-    let bounds : (l.device_base ≤ p) × (p + rounded new.section.len ≤ end_of (device_memory l)) = grind (arith, nat_tests) in
-    let even : IfSome (Some p) (λ q. q % 16 ≡ 0) = subst (λ o. IfSome o (λ q. q % 16 ≡ 0)) birth.place_is (place_for-even (device_memory l) w.blocks (rounded new.section.len) (even_base l within) (AllByRecursion-weaker (IsOnDevice (device_memory l)) (λ b. b.place % 16 ≡ 0) w.blocks (λ b o. o.aligned) h.on_device)) in
+    let bounds : (base_on l.number ≤ p) × (p + rounded new.section.len ≤ end_of (device_memory l)) = grind (arith, nat_tests) in
+    let even : IfSome (Some p) (λ q. q % 16 ≡ 0) = subst (λ o. IfSome o (λ q. q % 16 ≡ 0)) birth.place_is (place_for-even (device_memory l) w.blocks (rounded new.section.len) (even_base l) (AllByRecursion-weaker (IsOnDevice (device_memory l)) (λ b. b.place % 16 ≡ 0) w.blocks (λ b o. o.aligned) h.on_device)) in
     let clear : AllByRecursion (λ b. is_clear_of p (rounded new.section.len) b ≡ true) w.blocks = list_all-from (is_clear_of p (rounded new.section.len)) w.blocks parts.1 in
     record {
       on_device = AllByRecursion-append (IsOnDevice (device_memory l)) w.blocks (born_block new.block p new.section.len ∷ []) h.on_device (record { some = some; first = bounds.0; last = bounds.1; aligned = even }, tt);

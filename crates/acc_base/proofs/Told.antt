@@ -5,7 +5,7 @@ use Rattle.std.specs.List.{AllByRecursion}
 use Rattle.std.proofs.lemmas.List.Sums.{sum_by-cons}
 use Rattle.acc_base.specs.Words.{Item, RegionClause, EnterClause, Range, Holding, Task, Did, Event}
 use Rattle.acc_base.specs.declared.mappings.Counter.TheVariants.{Structured, Dynamic}
-use Rattle.acc_base.specs.declared.tasks.Task.TheVariants.{Leave}
+use Rattle.acc_base.specs.declared.tasks.Task.TheVariants.{ExitRegion}
 use Rattle.acc_base.specs.declared.events.Event.TheVariants.{Entered, Left, EnteredData, ExitedData, Updated, Lent}
 use Rattle.acc_base.specs.Limits.{Limits, IsWithinBounds}
 use Rattle.acc_base.specs.Records.{Records, Layout, new_layout}
@@ -46,7 +46,7 @@ recounted_by l (Left device number did) g w b said left =
     let turned : count_dropped b (reverse did) ≡ count_dropped b did = sum_by-reverse (λ (d : Did). cond (drops b d.step) 1 0) did in
     record {
       structured = left.counter_is Structured b ∙ (left_recount l b last_to_first (reverse did) (structured_of b w.ranges) said ∙ omega arith);
-      dynamic = left.counter_is Dynamic b ∙ recount_same Dynamic b Leave last_to_first (reverse did) (dynamic_of b w.ranges) (λ x m. refl);
+      dynamic = left.counter_is Dynamic b ∙ recount_same Dynamic b ExitRegion last_to_first (reverse did) (dynamic_of b w.ranges) (λ x m. refl);
     }
 recounted_by l (EnteredData device items queue did) g w b said left = record {
   structured = left.counter_is Structured b ∙ (recount_same Structured b (enter_data_task queue) items did (structured_of b w.ranges) (λ x m. refl) ∙ omega arith);

@@ -4,7 +4,7 @@ use Rattle.std.specs.Prelude.{◌==◌, ◌&&◌, fold, unwrap_or, option_map, I
 use Rattle.std.proofs.lemmas.Bool.Decides.{nat_tests}
 use Rattle.acc_base.specs.Words.{Block, Attachment, Aim, Transfer, Task, Step, Did, Event}
 use Rattle.acc_base.specs.declared.attachments.Aim.TheVariants as aims
-use Rattle.acc_base.specs.declared.tasks.Task.TheVariants.{Enter, Leave, Exit, Move}
+use Rattle.acc_base.specs.declared.tasks.Task.TheVariants.{Enter, ExitRegion, ExitData, Move}
 use Rattle.acc_base.specs.declared.events.Step.TheVariants.{Nothing, Counted, Born, Dropped, Moved}
 use Rattle.acc_base.specs.declared.events.Event.TheVariants.{Lent, Gathered}
 use Rattle.acc_base.specs.Limits.{Limits, IsWithinBounds}
@@ -177,10 +177,10 @@ task_told l (Enter counter item queue) did w pointers bounds sound says free leg
     let v : Records = act_step (Enter counter item queue) did.step w in
     let stepped : AreRecordsSound l v = acted_sound l (Enter counter item queue) did.step w bounds says free sound in
     aim_told l did.aim v pointers stepped (attach_block l _ did.aim v stepped legal) (step_told l (Enter counter item queue) did.step w pointers sound says h)
-task_told l (Leave holding) did w pointers bounds sound says free legal h =
-    then_told l (Leave holding) did w pointers sound (leave_sound l holding did w sound legal) (subst (IsAimThere w.blocks) (sym legal) (leave_block l holding.aim w sound)) says h
-task_told l (Exit finalize item queue) did w pointers bounds sound says free legal h =
-    then_told l (Exit finalize item queue) did w pointers sound (exit_sound l finalize item queue did w sound legal) (subst (IsAimThere w.blocks) (sym legal) (exit_block l finalize _ w sound)) says h
+task_told l (ExitRegion holding) did w pointers bounds sound says free legal h =
+    then_told l (ExitRegion holding) did w pointers sound (leave_sound l holding did w sound legal) (subst (IsAimThere w.blocks) (sym legal) (leave_block l holding.aim w sound)) says h
+task_told l (ExitData finalize item queue) did w pointers bounds sound says free legal h =
+    then_told l (ExitData finalize item queue) did w pointers sound (exit_sound l finalize item queue did w sound legal) (subst (IsAimThere w.blocks) (sym legal) (exit_block l finalize _ w sound)) says h
 task_told l (Move if_present item queue) did w pointers bounds sound says free legal h =
     then_told l (Move if_present item queue) did w pointers sound (move_sound l if_present item queue did w sound legal) (subst (IsAimThere w.blocks) (sym legal) (λ k e. cc)) says h
 

@@ -1,5 +1,5 @@
 -- What holds of every world that accepted calls lead to: on each device ranges and blocks are apart and account for every used byte, and every counter is what the history gives.
-use Rattle.std.specs.Prelude.{ℕ, ◌+◌, ◌%◌, ◌≡◌, ◌<◌, ◌≤◌, ◌⊎◌, true, false, List, [], ◌∷◌, length, Some, IsSome, ⊤}
+use Rattle.std.specs.Prelude.{ℕ, ◌+◌, ◌%◌, ◌≡◌, ◌<◌, ◌≤◌, ◌⊎◌, true, false, List, [], ◌∷◌, length, Some, IsSome, Ok, ⊤}
 use Rattle.std.specs.List.{AllByRecursion, AllZip}
 use Rattle.acc_base.specs.Words.{Section, Range, Block, Attachment, Transfer, Loan, Event}
 use Rattle.acc_base.specs.declared.transfers.TheConstants.{QUEUE_COUNT}
@@ -12,7 +12,9 @@ use Rattle.acc_base.specs.Loans.{is_lent}
 use Rattle.acc_base.specs.Register.{Region, Register, held_in}
 use Rattle.acc_base.specs.Records.{Records, Memory, Layout, State, layout_of}
 use Rattle.acc_base.specs.Steps.{is_in_use}
-use Rattle.acc_base.specs.Devices.{Whole, WholeLayout, device_at, device_layout_of, whole_layout_of, new_whole, new_whole_layout, open_regions, view, events_on, walk_all_on, replayed, device_layout_alone}
+use Rattle.acc_base.specs.Acting.{judge_all}
+use Rattle.acc_base.specs.Walk.{asked_in, done_in}
+use Rattle.acc_base.specs.Devices.{Whole, WholeLayout, device_at, device_layout_of, whole_layout_of, new_device_layout, new_whole, new_whole_layout, open_regions, device_in, view, events_on, walk_all_on, after_told, replayed, device_layout_alone}
 use Rattle.acc_base.specs.Calls.{Base, History, World, event_count}
 use Rattle.acc_base.specs.History.{Past, entries_in, exits_in, dynamic_in, attached_in, AreLegal}
 
@@ -172,17 +174,36 @@ pub record IsTraced (p : Past) (r : Range) : Type 0 where
   pub structured : r.structured + exits_in r.block p ≡ entries_in r.block p
   pub dynamic : r.dynamic ≡ dynamic_in r.block p
 
+-- of each block, whether it is mapped or not, open regions hold what entries counted and exits have not dropped
+abbrev pub AreEntriesHeld : Past → Register → Type 0
+AreEntriesHeld p g = (block : ℕ) → held_in block g.regions + exits_in block p ≡ entries_in block p
+
 -- the attachment counters of the blocks are those of the past
 abbrev pub AreAttachmentsTraced : Past → Records → Type 0
 AreAttachmentsTraced p w = (block pointer : ℕ) → IsSome (block_at block w.blocks) → count_at block pointer w.attached ≡ attached_in block pointer p
 
--- some legal events, as many as the base says, lead to it from a new table, with full traces to its bytes too
+-- with bytes: an event did what its items are judged to do in this state
+abbrev pub IsMadeIn : Limits → Event → State → Type 0
+IsMadeIn l e s = judge_all l 0 (asked_in e s.register) s ≡ Ok (done_in e)
+
+-- each event in what the events before it led to
+abbrev pub AreMadeIn : Limits → List Event → Whole → Type 0
+AreMadeIn l [] w = ⊤
+AreMadeIn l (e ∷ events) w = IsMadeIn (limits_on (device_in e) l) e (view (device_in e) w) × AreMadeIn l events (after_told e w)
+
+-- and they lead from the one state to the other
+pub record IsReplay (l : Limits) (events : List Event) (from to : Whole) : Type 0 where
+  pub made : AreMadeIn l events from
+  pub leads : replayed events from ≡ to
+
+-- some legal events, as many as the base says, lead to it from a new table, on each device its own events alone, and with full traces bytes included
 pub record IsFounded (l : Limits) (base : Base) : Type 0 where
   pub events : List Event
   pub count : length events ≡ base.events
   pub legal : AreLegal l events (new_whole_layout l.devices)
   pub leads : walk_all_on events (new_whole_layout l.devices) ≡ whole_layout_of base.state
-  pub replayed : l.full ≡ true → replayed events (new_whole l.devices l.host) ≡ base.state
+  pub alone : (d : ℕ) → device_layout_of (device_at d base.state.devices) ≡ device_layout_alone new_device_layout (events_on d events)
+  pub replayed : l.full ≡ true → IsReplay l events (new_whole l.devices l.host) base.state
 
 -- the history is legal from its base on and leads to what the devices have but bytes
 pub record IsHistoryLegal (l : Limits) (h : History) (w : WholeLayout) : Type 0 where
@@ -196,9 +217,9 @@ pub record AreBooksCounted (w : World) : Type 0 where
   pub trace : length w.history.trace ≤ w.limits.trace_cap
   pub regions : open_regions w.state ≤ w.limits.regions
 
--- with full traces all memories, and all else, are what the stored events give from the base on
+-- with full traces the stored events are legal from the base on, bytes included, and give all memories and all else
 abbrev pub IsReplayed : World → Type 0
-IsReplayed w = w.limits.full ≡ true → replayed w.history.trace w.history.base.state ≡ w.state
+IsReplayed w = w.limits.full ≡ true → IsReplay w.limits w.history.trace w.history.base.state w.state
 
 -- ---- what holds of a device, and of a world
 
@@ -207,6 +228,7 @@ pub record IsAccountedOn (l : Limits) (h : History) (d : ℕ) (w : Whole) : Type
   pub sound : IsSound (limits_on d l) (view d w)
   pub counters_traced : AllByRecursion (IsTraced (past_on d h)) (view d w).records.ranges
   pub attachments_traced : AreAttachmentsTraced (past_on d h) (view d w).records
+  pub entries_held : AreEntriesHeld (past_on d h) (view d w).register
   pub alone : device_layout_of (device_at d w.devices) ≡ device_layout_alone (device_layout_of (device_at d h.base.state.devices)) (events_on d h.trace)
 
 pub record IsAccounted (w : World) : Type 0 where

@@ -2,7 +2,7 @@
 use Rattle.std.specs.Prelude.{ℕ, suc, Bool, List, [], ◌∷◌, map, Option, Some, None, Result, Ok}
 use Rattle.acc_base.specs.Words.{Aim, Task, Step, Did, Event, Fault}
 use Rattle.acc_base.specs.declared.attachments.Aim.TheVariants as aims
-use Rattle.acc_base.specs.declared.tasks.Task.TheVariants.{Enter, Leave, Exit, Move}
+use Rattle.acc_base.specs.declared.tasks.Task.TheVariants.{Enter, ExitRegion, ExitData, Move}
 use Rattle.acc_base.specs.declared.events.Event.TheVariants.{HostWritten, Lent, Gathered}
 use Rattle.acc_base.specs.Results.{◌>>=◌}
 use Rattle.acc_base.specs.Limits.{Limits, recorded}
@@ -24,8 +24,8 @@ attach_if l n (Some pointer) s = judge_attach l n pointer s
 -- what becomes of the pointer of the item at place n, whose step is this: on entry it is attached in what the step left, on exit it is detached before the step
 unfoldable pub judge_aim : Limits → ℕ → Task → Step → State → Result Aim Fault
 judge_aim l n (Enter counter item queue) step s = attach_if l n (pointer_aimed (Enter counter item queue) step) (step_state (Enter counter item queue) step s)
-judge_aim l n (Leave holding) step s = Ok (judge_release holding.aim s.records)
-judge_aim l n (Exit finalize item queue) step s = Ok (detach_if finalize (pointer_aimed (Exit finalize item queue) step) s.records)
+judge_aim l n (ExitRegion holding) step s = Ok (judge_release holding.aim s.records)
+judge_aim l n (ExitData finalize item queue) step s = Ok (detach_if finalize (pointer_aimed (ExitData finalize item queue) step) s.records)
 judge_aim l n (Move if_present item queue) step s = Ok aims.None
 
 -- its refusal, or what it does
@@ -38,8 +38,8 @@ judge_task l n task s = do
 -- the state after it
 unfoldable pub act_state : Task → Did → State → State
 act_state (Enter counter item queue) did s = aimed did.aim (step_state (Enter counter item queue) did.step s)
-act_state (Leave holding) did s = step_state (Leave holding) did.step (aimed did.aim s)
-act_state (Exit finalize item queue) did s = step_state (Exit finalize item queue) did.step (aimed did.aim s)
+act_state (ExitRegion holding) did s = step_state (ExitRegion holding) did.step (aimed did.aim s)
+act_state (ExitData finalize item queue) did s = step_state (ExitData finalize item queue) did.step (aimed did.aim s)
 act_state (Move if_present item queue) did s = step_state (Move if_present item queue) did.step (aimed did.aim s)
 
 -- ---- all items of a directive: each is judged in what those before it left

@@ -1,4 +1,4 @@
--- The attachment counters of pointers in blocks: what attaching and detaching makes of them, and which bytes no transfer touches (OpenACC 3.3, sections 2.6.8 and 2.7.2).
+-- The attachment counters of pointers in blocks: what attaching and detaching makes of them (OpenACC 3.3, sections 2.6.8 and 2.7.2), and which bytes no transfer touches.
 use Rattle.std.specs.Prelude.{ℕ, ◌+◌, ◌-◌, ◌≡◌, ◌<◌, ◌≤◌, ◌⊎◌, Bool, not, ◌&&◌, ◌||◌, if◌then◌else◌, nat_le, nat_lt, ◌==◌, List, [], ◌∷◌, Option, find, filter, unwrap_or, option_map, Result, Ok}
 use Rattle.std.specs.List.{list_any}
 use Rattle.acc_base.specs.Words.{Section, Attachment, Aim, Fault}

@@ -1,13 +1,13 @@
 -- A call on a table: its refusal, or its event with the world after it. A world is a history and what it led to on all devices.
-use Rattle.std.specs.Prelude.{ℕ, ◌+◌, nat_le, Bool, List, [], ◌∷◌, ◌++◌, length, Result, Ok, ⊤}
+use Rattle.std.specs.Prelude.{ℕ, ◌+◌, nat_le, Bool, List, [], ◌∷◌, ◌++◌, length, unwrap_or, Result, Ok, ⊤}
 use Rattle.acc_base.specs.Words.{Section, Directive, Call, Event, Fault}
-use Rattle.acc_base.specs.declared.directives.Directive.TheVariants.{Enter, Exit, EnterData, ExitData, Update, Wait, Step}
+use Rattle.acc_base.specs.declared.directives.Directive.TheVariants.{Enter, Exit}
 use Rattle.acc_base.specs.declared.calls.Call.TheVariants.{Do, HostWrite, Lend, Gather}
 use Rattle.acc_base.specs.declared.faults.Fault.TheVariants.{NoTickets, NoAllowance, TraceFull, NoDevice}
 use Rattle.acc_base.specs.Results.{◌>>=◌, ◌>>◌, refuse_if}
 use Rattle.acc_base.specs.Limits.{Limits, limits_on}
 use Rattle.acc_base.specs.Loans.{Leased}
-use Rattle.acc_base.specs.Judge.{Verdict, Makes, few_items, directive_verdict, host_write_event, lend_event, gather_event}
+use Rattle.acc_base.specs.Judge.{Verdict, Makes, few_items, device_named, directive_verdict, host_write_event, lend_event, gather_event}
 use Rattle.acc_base.specs.Devices.{Whole, view, new_whole, open_regions, device_of_region, after_on, recorded_whole}
 
 -- what a table had when its trace was last made empty: everything but bytes, with full traces the bytes of all memories too, and how many events had led there
@@ -57,13 +57,8 @@ rebased w = record {
 
 -- the one that it names, or that of the region that it leaves
 abbrev pub device_for : Directive → Whole → ℕ
-device_for (Enter device items) w = device
 device_for (Exit number) w = device_of_region number w
-device_for (EnterData device items queue) w = device
-device_for (ExitData device items finalize queue) w = device
-device_for (Update device items if_present queue) w = device
-device_for (Wait device queue) w = device
-device_for (Step device queue) w = device
+device_for directive w = unwrap_or (device_named directive) 0
 
 -- ---- what is refused before the items are judged
 
@@ -116,7 +111,7 @@ judge w (Lend region section) = do
 judge w (Gather lease) = do
   ticket w
   trace_room w
-  e ← gather_event w.limits.full lease (view lease.device w.state)
+  e ← gather_event (limits_on lease.device w.limits) lease (view lease.device w.state)
   Ok (Makes e)
 
 -- the bytes that a call brings

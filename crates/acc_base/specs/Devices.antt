@@ -130,10 +130,14 @@ walk_all_on (e ∷ events) w = walk_all_on events (walk_on e w)
 abbrev pub after_on : Bool → Event → List ℕ → Whole → Whole
 after_on full e brought w = with_view (device_in e) (after full e brought (view (device_in e) w)) w
 
--- what stored events alone lead to: with full traces they have all bytes that calls brought
+-- after a stored event: with full traces it has all bytes that its call brought
+abbrev pub after_told : Event → Whole → Whole
+after_told e w = after_on true e (bytes_told e (view (device_in e) w)) w
+
+-- what stored events alone lead to
 unfoldable pub replayed : List Event → Whole → Whole
 replayed [] w = w
-replayed (e ∷ events) w = replayed events (after_on true e (bytes_told e (view (device_in e) w)) w)
+replayed (e ∷ events) w = replayed events (after_told e w)
 
 -- what an event leaves of its device, whatever the numbers of the next region and the next loan are: it tells its own
 abbrev pub device_layout_left : DeviceLayout → Event → DeviceLayout

@@ -4,7 +4,7 @@ use Rattle.acc_base.specs.Words.{Step, Did, Event, Aim, Task, Loan}
 use Rattle.acc_base.specs.declared.events.Step.TheVariants.{Counted, Born, Dropped}
 use Rattle.acc_base.specs.declared.events.Event.TheVariants.{Entered, Left, EnteredData, ExitedData, Updated, Waited, Stepped, HostWritten, Lent, Gathered}
 use Rattle.acc_base.specs.declared.attachments.Aim.TheVariants as aims
-use Rattle.acc_base.specs.declared.tasks.Task.TheVariants.{Enter, Leave, Exit, Move}
+use Rattle.acc_base.specs.declared.tasks.Task.TheVariants.{Enter, ExitRegion, ExitData, Move}
 use Rattle.acc_base.specs.Limits.{Limits, limits_on}
 use Rattle.acc_base.specs.Records.{Records, Layout}
 use Rattle.acc_base.specs.Ranges.{where_is, structured_of, dynamic_of}
@@ -104,8 +104,8 @@ IsAttachLegal l named _ w = ⊥
 -- what became of the pointer of an item is legal in what was there before the item
 abbrev pub IsAimLegal : Limits → Task → Did → Records → Type 0
 IsAimLegal l (Enter counter item queue) did w = IsAttachLegal l (pointer_aimed (Enter counter item queue) did.step) did.aim (act_step (Enter counter item queue) did.step w)
-IsAimLegal l (Leave holding) did w = did.aim ≡ judge_release holding.aim w
-IsAimLegal l (Exit finalize item queue) did w = did.aim ≡ detach_if finalize (pointer_aimed (Exit finalize item queue) did.step) w
+IsAimLegal l (ExitRegion holding) did w = did.aim ≡ judge_release holding.aim w
+IsAimLegal l (ExitData finalize item queue) did w = did.aim ≡ detach_if finalize (pointer_aimed (ExitData finalize item queue) did.step) w
 IsAimLegal l (Move if_present item queue) did w = did.aim ≡ aims.None
 
 -- each task did what it is judged to do in what the tasks before it left

@@ -1,10 +1,10 @@
 -- What each directive, write and loan is refused for, in order, and else the event that it makes.
-use Rattle.std.specs.Prelude.{ℕ, Bool, not, nat_lt, List, [], map, take, length, reverse, Option, is_none, ok_or, Some, None, Result, Ok, Err, ⊤}
+use Rattle.std.specs.Prelude.{ℕ, Bool, not, nat_lt, ◌==◌, List, [], map, take, length, reverse, Option, is_none, ok_or, Some, None, Result, Ok, Err, ⊤}
 use Rattle.acc_base.specs.Words.{Directive, Section, Found, Loan, Holding, Transfer, Task, Did, Event, Fault}
 use Rattle.acc_base.specs.declared.directives.Directive.TheVariants.{Enter, Exit, EnterData, ExitData, Update, Wait, Step}
 use Rattle.acc_base.specs.declared.mappings.Found.TheVariants.{Empty, Inside, Partly, Absent}
 use Rattle.acc_base.specs.declared.events.Event.TheVariants as events
-use Rattle.acc_base.specs.declared.faults.Fault.TheVariants.{TooManyItems, PartlyPresent, NotPresent, NoRegion, NoLease}
+use Rattle.acc_base.specs.declared.faults.Fault.TheVariants.{TooManyItems, PartlyPresent, NotPresent, NoRegion, NoLease, NoDevice}
 use Rattle.acc_base.specs.Results.{◌>>=◌, ◌>>◌, refuse_if}
 use Rattle.acc_base.specs.Limits.{Limits, recorded}
 use Rattle.acc_base.specs.Records.{State}
@@ -98,9 +98,27 @@ directive_verdict l d directive s = do
   none_lent (transfers_in directive s.records.queues) s.records.loans
   Ok (verdict_of d directive s dids)
 
--- what planning a directive answers: too many items are told before all else
-unfoldable pub plan_of : Limits → ℕ → Directive → State → Result Verdict Fault
-plan_of l d directive s = few_items directive >> directive_verdict l d directive s
+-- the device that a directive names; to leave a region names none
+abbrev pub device_named : Directive → Option ℕ
+device_named (Enter device items) = Some device
+device_named (Exit number) = None
+device_named (EnterData device items queue) = Some device
+device_named (ExitData device items finalize queue) = Some device
+device_named (Update device items if_present queue) = Some device
+device_named (Wait device queue) = Some device
+device_named (Step device queue) = Some device
+
+-- a directive that names another device than this one is refused
+abbrev pub own_device : ℕ → Option ℕ → Result ⊤ Fault
+own_device d None = Ok tt
+own_device d (Some named) = refuse_if (not (named == d)) (NoDevice named)
+
+-- what planning a directive for the device of these limits answers: too many items are told first, and then another device
+unfoldable pub plan_of : Limits → Directive → State → Result Verdict Fault
+plan_of l directive s = do
+  few_items directive
+  own_device l.number (device_named directive)
+  directive_verdict l l.number directive s
 
 -- the event of a write of bytes from a host address on
 abbrev pub written : Bool → ℕ → List ℕ → Event
@@ -135,6 +153,6 @@ leased d loan s = record { device = d; serial = loan.serial; block = loan.block;
 abbrev pub gathered : Bool → Leased → Event
 gathered full lease = events.Gathered lease.device lease.serial lease.block (recorded full (section_bytes lease))
 
--- a lease brings its block back
-unfoldable pub gather_event : Bool → Leased → State → Result Event Fault
-gather_event full lease s = refuse_if (not (is_returnable full lease s.records.blocks s.records.loans s.memories)) (NoLease lease.serial) >> Ok (gathered full lease)
+-- a lease brings its block back to the device of these limits
+unfoldable pub gather_event : Limits → Leased → State → Result Event Fault
+gather_event l lease s = refuse_if (not (is_returnable l.full l.number lease s.records.blocks s.records.loans s.memories)) (NoLease lease.serial) >> Ok (gathered l.full lease)

@@ -1,11 +1,11 @@
 -- The limits of a table, the bounds that each of them keeps, and whether its trace stores bytes.
-use Rattle.std.specs.Prelude.{ℕ, ◌≡◌, ◌+◌, ◌*◌, ◌≤◌, ◌%◌, ◌^◌, Bool, if◌then◌else◌, List, []}
+use Rattle.std.specs.Prelude.{ℕ, ◌≡◌, ◌+◌, ◌-◌, ◌*◌, ◌/◌, ◌<◌, ◌≤◌, ◌%◌, ◌^◌, Bool, if◌then◌else◌, List, []}
 use Rattle.acc_base.specs.declared.addresses.TheConstants.{DEVICE_BASE, MEMORY_MAX}
 
 pub record Limits : Type 0 where
   pub host : ℕ
-  -- the device address at which device memory begins
-  pub device_base : ℕ
+  -- the number of the device that these are the limits of; those of a whole table are those of its first device
+  pub number : ℕ
   pub device : ℕ
   pub regions : ℕ
   pub tickets : ℕ
@@ -17,11 +17,11 @@ pub record Limits : Type 0 where
   -- how many devices there are, each with a memory of the size `device`
   pub devices : ℕ
 
--- the limits of a table, with those of its first device
+-- the limits of a table
 abbrev pub limits_of : (host device regions tickets counter_max queue_cap trace_cap : ℕ) (full : Bool) (devices : ℕ) → Limits
 limits_of host device regions tickets counter_max queue_cap trace_cap full devices = record {
   host = host;
-  device_base = DEVICE_BASE;
+  number = 0;
   device = device;
   regions = regions;
   tickets = tickets;
@@ -40,17 +40,17 @@ recorded full xs = if full then xs else []
 abbrev pub base_on : ℕ → ℕ
 base_on d = (d + 1) * DEVICE_BASE
 
+-- the number of the device whose memory begins there
+abbrev pub number_at : ℕ → ℕ
+number_at base = base / DEVICE_BASE - 1
+
 -- the limits as one device has them
 abbrev pub limits_on : ℕ → Limits → Limits
-limits_on d l = record l { device_base = base_on d }
+limits_on d l = record l { number = d }
 
 -- the number of bytes may be the size of a memory
 abbrev pub IsSize : ℕ → Type 0
 IsSize bytes = (16 ≤ bytes) × (bytes ≤ MEMORY_MAX) × (bytes % 16 ≡ 0)
-
--- the number may be where device memory begins: where that of the first device does, or at two, three or four times that address
-abbrev pub IsDeviceBase : ℕ → Type 0
-IsDeviceBase base = (DEVICE_BASE ≤ base) × (base ≤ 4 * DEVICE_BASE) × (base % DEVICE_BASE ≡ 0)
 
 -- the number is from 1 to a greatest one
 abbrev pub IsFromOne : ℕ → ℕ → Type 0
@@ -58,7 +58,7 @@ IsFromOne most n = (1 ≤ n) × (n ≤ most)
 
 pub record IsWithinBounds (l : Limits) : Type 0 where
   pub host : IsSize l.host
-  pub device_base : IsDeviceBase l.device_base
+  pub number : l.number < 4
   pub device : IsSize l.device
   pub regions : IsFromOne 65536 l.regions
   pub tickets : IsFromOne (2 ^ 40) l.tickets

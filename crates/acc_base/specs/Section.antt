@@ -2,7 +2,7 @@
 use Rattle.std.specs.Prelude.{ℕ, ◌+◌, ◌<◌, ◌≤◌, Bool, ◌&&◌, ◌||◌, nat_le, nat_lt, ◌==◌}
 use Rattle.acc_base.specs.declared.items.Section.{Section}
 use Rattle.acc_base.specs.declared.addresses.TheConstants.{HOST_BASE}
-use Rattle.acc_base.specs.Limits.{Limits}
+use Rattle.acc_base.specs.Limits.{Limits, base_on}
 
 -- the address is one of the n from p on
 abbrev pub Spans : ℕ → ℕ → ℕ → Type 0
@@ -50,9 +50,9 @@ host_base = HOST_BASE
 abbrev pub host_memory : ℕ → Section
 host_memory size = record { start = host_base; len = size }
 
--- the device memory of a table
+-- the memory of a device
 abbrev pub device_memory : Limits → Section
-device_memory l = record { start = l.device_base; len = l.device }
+device_memory l = record { start = base_on l.number; len = l.device }
 
 -- one address
 abbrev pub only : ℕ → Section

@@ -1,7 +1,7 @@
 -- The step of an item: its refusal, or what it does to mappings and counters, and to the queues. And what its pointer leaves of the records.
 use Rattle.std.specs.Prelude.{ℕ, ◌+◌, Bool, true, false, not, ◌||◌, if◌then◌else◌, ◌==◌, List, [], ◌∷◌, ◌++◌, Option, None, Some, is_none, is_some, Result, Ok}
 use Rattle.acc_base.specs.Words.{Range, Task, Step, Did, Aim, Fault}
-use Rattle.acc_base.specs.declared.tasks.Task.TheVariants.{Enter, Leave, Exit, Move}
+use Rattle.acc_base.specs.declared.tasks.Task.TheVariants.{Enter, ExitRegion, ExitData, Move}
 use Rattle.acc_base.specs.declared.events.Step.TheVariants.{Nothing, Counted, Born, Dropped, Moved}
 use Rattle.acc_base.specs.declared.attachments.Aim.TheVariants as aims
 use Rattle.acc_base.specs.Results.{◌>>=◌, ◌>>◌}
@@ -27,15 +27,15 @@ is_action _ = true
 -- the pointer that an item attaches or detaches beside its step: the one that it names, where the step did something or the clause names a pointer alone
 abbrev pub pointer_aimed : Task → Step → Option ℕ
 pointer_aimed (Enter counter item queue) step = if is_attach item.clause || is_action step then pointer_of (Enter counter item queue) else None
-pointer_aimed (Exit finalize item queue) step = if is_detach item.clause || is_action step then pointer_of (Exit finalize item queue) else None
+pointer_aimed (ExitData finalize item queue) step = if is_detach item.clause || is_action step then pointer_of (ExitData finalize item queue) else None
 pointer_aimed _ step = None
 
 -- ---- the blocks that must not be lent
 
 -- the block in which the task detaches a pointer before its step
 abbrev pub block_detached : Task → Step → Records → Option ℕ
-block_detached (Leave holding) step w = block_aimed (judge_release holding.aim w)
-block_detached (Exit finalize item queue) step w = block_aimed (detach_if finalize (pointer_aimed (Exit finalize item queue) step) w)
+block_detached (ExitRegion holding) step w = block_aimed (judge_release holding.aim w)
+block_detached (ExitData finalize item queue) step w = block_aimed (detach_if finalize (pointer_aimed (ExitData finalize item queue) step) w)
 block_detached _ step w = None
 
 -- the block that the step takes a counter from, or whose bytes it copies at once
@@ -49,8 +49,8 @@ block_needed task _ = None
 -- what the clause tables say of the task of the item at place n of the written list
 unfoldable pub judge_row : Limits → ℕ → Task → Records → Result Step Fault
 judge_row l n (Enter counter item queue) w = checked l n (Enter counter item queue) >> enter_row (where_is (section_of (Enter counter item queue)) w.ranges) l counter item.clause n (section_of (Enter counter item queue)) w
-judge_row l n (Leave holding) w = leave_row holding.block (recounted (Leave holding)) w
-judge_row l n (Exit finalize item queue) w = checked l n (Exit finalize item queue) >> exit_row (where_is (section_of (Exit finalize item queue)) w.ranges) (recounted (Exit finalize item queue)) n w
+judge_row l n (ExitRegion holding) w = leave_row holding.block (recounted (ExitRegion holding)) w
+judge_row l n (ExitData finalize item queue) w = checked l n (ExitData finalize item queue) >> exit_row (where_is (section_of (ExitData finalize item queue)) w.ranges) (recounted (ExitData finalize item queue)) n w
 judge_row l n (Move if_present item queue) w = in_host l n item.section >> move_row (where_is item.section w.ranges) if_present n
 
 -- then what it needs is not lent, first for its pointer and then for its step, and the queue of its transfer, if it has one, has room for it
@@ -117,8 +117,8 @@ records_aimed aim w = record w { attached = attached_by aim w.attached }
 
 unfoldable pub act : Task → Did → Records → Records
 act (Enter counter item queue) did w = records_aimed did.aim (act_step (Enter counter item queue) did.step w)
-act (Leave holding) did w = act_step (Leave holding) did.step (records_aimed did.aim w)
-act (Exit finalize item queue) did w = act_step (Exit finalize item queue) did.step (records_aimed did.aim w)
+act (ExitRegion holding) did w = act_step (ExitRegion holding) did.step (records_aimed did.aim w)
+act (ExitData finalize item queue) did w = act_step (ExitData finalize item queue) did.step (records_aimed did.aim w)
 act (Move if_present item queue) did w = act_step (Move if_present item queue) did.step (records_aimed did.aim w)
 
 -- what an item did that leaves pointers alone

@@ -1,7 +1,7 @@
 -- The transfer of an item's step, which is made at once or put into a queue (OpenACC 3.3, sections 2.7 and 2.16, and the update directive).
 use Rattle.std.specs.Prelude.{ℕ, ◌-◌, Bool, true, false, if◌then◌else◌, List, Option, Some, None, Result, Ok, ⊤}
 use Rattle.acc_base.specs.Words.{Range, Task, Transfer, Step, Fault}
-use Rattle.acc_base.specs.declared.tasks.Task.TheVariants.{Enter, Leave, Exit, Move}
+use Rattle.acc_base.specs.declared.tasks.Task.TheVariants.{Enter, ExitRegion, ExitData, Move}
 use Rattle.acc_base.specs.declared.events.Step.TheVariants.{Born, Dropped, Moved}
 use Rattle.acc_base.specs.Ranges.{start_of}
 use Rattle.acc_base.specs.Queues.{put, queue_room}
@@ -19,15 +19,15 @@ gets_bytes _ = false
 
 -- the end of a mapping by this task copies the section to the host
 abbrev pub gives_bytes : Task → Bool
-gives_bytes (Leave holding) = copies_out holding.item.clause
-gives_bytes (Exit finalize item queue) = is_copyout item.clause
+gives_bytes (ExitRegion holding) = copies_out holding.item.clause
+gives_bytes (ExitData finalize item queue) = is_copyout item.clause
 gives_bytes _ = false
 
 -- a copy by this task goes to the host
 abbrev pub goes_out : Task → Bool
 goes_out (Enter counter item queue) = false
-goes_out (Leave holding) = true
-goes_out (Exit finalize item queue) = true
+goes_out (ExitRegion holding) = true
+goes_out (ExitData finalize item queue) = true
 goes_out (Move if_present item queue) = is_to_self item.clause
 
 -- the copy of a section of a mapped range

@@ -3,7 +3,7 @@ use Rattle.std.specs.Prelude.{ℕ, ◌-◌, Bool, List, [], ◌∷◌, map, reve
 use Rattle.acc_base.specs.Words.{Section, Item, RegionClause, EnterClause, ExitClause, UpdateClause, Transfer, Loan, Range, Holding, Task, Aim, Step}
 use Rattle.acc_base.specs.Words.{Did, Event}
 use Rattle.acc_base.specs.declared.mappings.Counter.TheVariants.{Structured, Dynamic}
-use Rattle.acc_base.specs.declared.tasks.Task.TheVariants.{Enter, Leave, Exit, Move}
+use Rattle.acc_base.specs.declared.tasks.Task.TheVariants.{Enter, ExitRegion, ExitData, Move}
 use Rattle.acc_base.specs.declared.attachments.Aim.TheVariants as aims
 use Rattle.acc_base.specs.declared.events.Step.TheVariants.{Counted, Born}
 use Rattle.acc_base.specs.declared.events.Event.TheVariants.{Entered, Left, EnteredData, ExitedData, Updated, Waited, Stepped, Lent, Gathered}
@@ -27,7 +27,7 @@ enter_data_task queue item = Enter Dynamic (record { clause = as_region item.cla
 
 -- an item of `exit data`
 abbrev pub exit_task : Bool → Option ℕ → Item ExitClause → Task
-exit_task finalize queue item = Exit finalize item queue
+exit_task finalize queue item = ExitData finalize item queue
 
 -- an item of `update`
 abbrev pub move_task : Bool → Option ℕ → Item UpdateClause → Task
@@ -35,7 +35,7 @@ move_task if_present queue item = Move if_present item queue
 
 -- what a region holds is undone from the last item to the first
 abbrev pub leave_tasks : List Holding → List Task
-leave_tasks holdings = map Leave (reverse holdings)
+leave_tasks holdings = map ExitRegion (reverse holdings)
 
 abbrev pub asked_in : Event → Register → List Task
 asked_in (Entered device number items did) g = map enter_task items
@@ -45,14 +45,19 @@ asked_in (ExitedData device items finalize queue did) g = map (exit_task finaliz
 asked_in (Updated device items if_present queue did) g = map (move_task if_present queue) items
 asked_in _ g = []
 
--- what was done, in the same order
+-- what each item of an event did, in written order
+abbrev pub did_in : Event → List Did
+did_in (Entered device number items did) = did
+did_in (Left device number did) = did
+did_in (EnteredData device items queue did) = did
+did_in (ExitedData device items finalize queue did) = did
+did_in (Updated device items if_present queue did) = did
+did_in _ = []
+
+-- and in the order in which it acted
 abbrev pub done_in : Event → List Did
-done_in (Entered device number items did) = did
 done_in (Left device number did) = reverse did
-done_in (EnteredData device items queue did) = did
-done_in (ExitedData device items finalize queue did) = did
-done_in (Updated device items if_present queue did) = did
-done_in _ = []
+done_in e = did_in e
 
 -- the queues whose first transfers it made, in that order
 abbrev pub stepped_in : Event → List (List Transfer) → List ℕ

@@ -2,7 +2,6 @@
 
 ghost use Rattle.std.specs.Prelude.{◌≡◌, ◌^◌, ◌↔◌, false, true, IsTrue, MatchResult};
 ghost use Rattle.acc_base.specs.Limits.{limits_of, IsWithinBounds, IsSize, IsFromOne};
-ghost use Rattle.acc_base.specs.declared.addresses.TheConstants.{DEVICE_BASE};
 
 use crate::{Fault, MEMORY_MAX};
 use std::marker::Model;
@@ -125,11 +124,11 @@ impl Config {
         }
     }
 
-    /// Each limit is within the bounds that [`Config::new`] and [`Config::with_devices`] state, and the memory of the first
-    /// device begins at [`DEVICE_BASE`](crate::DEVICE_BASE). Nothing is done.
+    /// Each limit is within the bounds that [`Config::new`] and [`Config::with_devices`] state, and the limits are those of
+    /// the first device. Nothing is done.
     pub fn laws(&self)
         ensures bounds { IsWithinBounds self.now }
-        ensures base { self.now.device_base ≡ DEVICE_BASE }
+        ensures first { self.now.number ≡ 0 }
     {
         let _ = &self.host;
     }

@@ -2,6 +2,7 @@
 
 ghost use Rattle.std.specs.Prelude.{◌≡◌};
 ghost use Rattle.acc_base.specs.Devices.{device_in};
+ghost use Rattle.acc_base.specs.Walk.{did_in};
 
 use crate::{Aim, EnterClause, ExitClause, Item, List, RegionClause, Section, UpdateClause};
 
@@ -175,6 +176,21 @@ impl Event {
             Event::HostWritten { .. } => 0,
             Event::Lent { device, .. } => *device,
             Event::Gathered { device, .. } => *device,
+        }
+    }
+
+    /// What each of its items did, in written order; nothing where it has no items.
+    pub fn did(&self) -> &[Did]
+        ensures { result.now ≡ did_in self.now }
+    {
+        match self {
+            Event::Entered { did, .. } => did.as_slice(),
+            Event::Left { did, .. } => did.as_slice(),
+            Event::EnteredData { did, .. } => did.as_slice(),
+            Event::ExitedData { did, .. } => did.as_slice(),
+            Event::Updated { did, .. } => did.as_slice(),
+            Event::Waited { .. } | Event::Stepped { .. } | Event::HostWritten { .. } => &[],
+            Event::Lent { .. } | Event::Gathered { .. } => &[],
         }
     }
 }

@@ -17,6 +17,7 @@ mod lists;
 mod loans;
 mod mappings;
 mod regions;
+mod steps;
 mod tasks;
 mod transfers;
 
@@ -32,5 +33,6 @@ pub use lists::List;
 pub use loans::Loan;
 pub use mappings::{Block, Counter, Counters, Ended, Found, Hole, Range};
 pub use regions::Holding;
+pub use steps::Steps;
 pub use tasks::Task;
 pub use transfers::{QUEUE_COUNT, Transfer};

@@ -15,12 +15,12 @@ pub enum Task {
         queue: Option<u64>,
     },
     /// Exit from a region: what an item's entry counted is undone.
-    Leave {
+    ExitRegion {
         /// What the entry counted.
         holding: Holding,
     },
     /// An item of `exit data`.
-    Exit {
+    ExitData {
         /// The `finalize` clause.
         finalize: bool,
         /// The item.

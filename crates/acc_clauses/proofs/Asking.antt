@@ -6,7 +6,7 @@ use Rattle.std.proofs.lemmas.List.{length-map, length-reverse, get_or-map, get_o
 use Rattle.std.specs.List.{list_all, list_any, AllByRecursion}
 use Rattle.acc_clauses.specs.Words.{Directive, Holding, Task, Did, Fault}
 use Rattle.acc_base.specs.declared.directives.Directive.TheVariants.{Enter, Exit, EnterData, ExitData, Update}
-use Rattle.acc_base.specs.declared.tasks.Task.TheVariants.{Leave}
+use Rattle.acc_base.specs.declared.tasks.Task.TheVariants.{ExitRegion}
 use Rattle.acc_base.specs.Results.{◌>>◌}
 use Rattle.acc_base.specs.Limits.{Limits}
 use Rattle.acc_base.specs.Records.{State}
@@ -39,10 +39,10 @@ queue_map f queue (x ∷ xs) each = (each x, queue_map f queue xs each)
 
 -- the exit from a region asks as much as it holds
 length-leave : (holdings : List Holding) → length (leave_tasks holdings) ≡ length holdings
-length-leave holdings = length-map (reverse holdings) Leave ∙ length-reverse holdings
+length-leave holdings = length-map (reverse holdings) ExitRegion ∙ length-reverse holdings
 
 -- it undoes the last of its holdings first
-pub leave_at : (holdings : List Holding) (n : ℕ) (e : Holding) (d : Task) → n < length (leave_tasks holdings) → Leave (get_or holdings (length holdings - 1 - n) e) ≡ get_or (leave_tasks holdings) n d
+pub leave_at : (holdings : List Holding) (n : ℕ) (e : Holding) (d : Task) → n < length (leave_tasks holdings) → ExitRegion (get_or holdings (length holdings - 1 - n) e) ≡ get_or (leave_tasks holdings) n d
 leave_at holdings n e d there = grind (arith, nat_tests, length-map, length-leave, get_or-map, get_or-reverse)
 
 -- ---- what holds of the tasks of a directive
@@ -55,7 +55,7 @@ pub record AreTasksOf (d : Directive) (tasks : List Task) : Type 0 where
 
 tasks_fit : (d : Directive) (holdings : List Holding) → item_count d ≤ 64 → length holdings ≤ 64 → AreTasksOf d (tasks_with d holdings)
 tasks_fit (Enter device items) holdings few held = record { few = omega (arith, few, length-map items enter_task); unmixed = inl (all_map enter_task items (λ x. refl)); queues = queue_map enter_task None items (λ x. refl) }
-tasks_fit (Exit number) holdings few held = record { few = omega (arith, held, length-leave holdings); unmixed = inr (none_map Leave (reverse holdings) (λ x. refl)); queues = queue_map Leave None (reverse holdings) (λ x. refl) }
+tasks_fit (Exit number) holdings few held = record { few = omega (arith, held, length-leave holdings); unmixed = inr (none_map ExitRegion (reverse holdings) (λ x. refl)); queues = queue_map ExitRegion None (reverse holdings) (λ x. refl) }
 tasks_fit (EnterData device items queue) holdings few held = let f = enter_data_task queue in record { few = omega (arith, few, length-map items f); unmixed = inl (all_map f items (λ x. refl)); queues = queue_map f queue items (λ x. refl) }
 tasks_fit (ExitData device items finalize queue) holdings few held = let f = exit_task finalize queue in record { few = omega (arith, few, length-map items f); unmixed = inr (none_map f items (λ x. refl)); queues = queue_map f queue items (λ x. refl) }
 tasks_fit (Update device items if_present queue) holdings few held = let f = move_task if_present queue in record { few = omega (arith, few, length-map items f); unmixed = inr (none_map f items (λ x. refl)); queues = queue_map f queue items (λ x. refl) }

@@ -3,7 +3,7 @@ use Rattle.std.proofs.lemmas.Bool.Decides.{nat_tests}
 use Rattle.std.proofs.Common.{ℕ, ◌≡◌, refl, ap, [], Option, arith, append-nil, Bool, subst, sym}
 use Rattle.std.specs.Prelude.{◌⊎◌}
 use Rattle.acc_clauses.specs.Words.{Item, ExitClause, UpdateClause, Holding, Task, Did, Step, Aim}
-use Rattle.acc_base.specs.declared.tasks.Task.TheVariants.{Enter, Leave, Exit, Move}
+use Rattle.acc_base.specs.declared.tasks.Task.TheVariants.{Enter, ExitRegion, ExitData, Move}
 use Rattle.acc_base.specs.Records.{State}
 use Rattle.acc_base.specs.Bytes.{step_state}
 use Rattle.acc_base.specs.Pointers.{aimed}
@@ -14,7 +14,7 @@ use Rattle.acc_clauses.specs.Acts.{IsEnter, CanDo, CanQueue, HasPutRoom, birth_o
 use Rattle.acc_clauses.proofs.Changes.{both}
 
 -- the task is no entry
-pub not_entry : (task : Task) → ((h : Holding) × (task ≡ Leave h)) ⊎ ((finalize : Bool) × (item : Item ExitClause) × (queue : Option ℕ) × (task ≡ Exit finalize item queue)) ⊎ ((if_present : Bool) × (item : Item UpdateClause) × (queue : Option ℕ) × (task ≡ Move if_present item queue)) → IsEnter task → ⊥
+pub not_entry : (task : Task) → ((h : Holding) × (task ≡ ExitRegion h)) ⊎ ((finalize : Bool) × (item : Item ExitClause) × (queue : Option ℕ) × (task ≡ ExitData finalize item queue)) ⊎ ((if_present : Bool) × (item : Item UpdateClause) × (queue : Option ℕ) × (task ≡ Move if_present item queue)) → IsEnter task → ⊥
 not_entry task h1 entry = grind (arith, nat_tests)
 
 -- entry attaches after its step

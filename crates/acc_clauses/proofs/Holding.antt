@@ -6,7 +6,7 @@ use Rattle.std.proofs.lemmas.Bool.Decides.{nat_tests}
 use Rattle.std.proofs.lemmas.List.Sums.{sum_by-cons}
 use Rattle.acc_clauses.specs.Words.{Section, Range, Holding, Task, Step, Did}
 use Rattle.acc_base.specs.declared.mappings.Counter.TheVariants.{Structured}
-use Rattle.acc_base.specs.declared.tasks.Task.TheVariants.{Leave}
+use Rattle.acc_base.specs.declared.tasks.Task.TheVariants.{ExitRegion}
 use Rattle.acc_base.specs.declared.events.Step.TheVariants.{Counted, Born, Dropped}
 use Rattle.acc_base.specs.Limits.{Limits, IsWithinBounds}
 use Rattle.acc_base.specs.Section.{is_within}
@@ -81,7 +81,7 @@ counted_self : (k : ℕ) (block : Option ℕ) → block ≡ Some k → ◌≡◌
 counted_self k block e = let same : (k == k) ≡ true = grind (arith, nat_tests) in rw (e, same) refl
 
 -- what a task that leaves makes of the structured counter of a block
-leave_counts : (l : Limits) (b : ℕ) (h : Holding) (step : Step) (w : Records) → IsJudgedTo l (Leave h) step w → names b step ≡ is_counted_block b h.block
+leave_counts : (l : Limits) (b : ℕ) (h : Holding) (step : Step) (w : Records) → IsJudgedTo l (ExitRegion h) step w → names b step ≡ is_counted_block b h.block
 leave_counts l b h step w says = grind (arith, nat_tests)
 
 -- the counters still cover what is left to undo
@@ -89,21 +89,21 @@ covers_next : (c : Bool) (m n k : ℕ) → cond c 1 0 + n ≤ m → k ≡ cond c
 covers_next c m n k h e = grind (arith, nat_tests)
 
 -- each task of the exit from a region finds the block that its entry counted
-pub leaves_known : (l : Limits) (n : ℕ) (hs : List Holding) (dids : List Did) (w : Records) → IsWithinBounds l → AreRecordsSound l w → AreJudged l n (map Leave hs) dids w → AllByRecursion (IsHoldingWithin w) hs
-    → ((b : ℕ) → count_held b hs ≤ structured_of b w.ranges) → AreKnown (map Leave hs) dids w
+pub leaves_known : (l : Limits) (n : ℕ) (hs : List Holding) (dids : List Did) (w : Records) → IsWithinBounds l → AreRecordsSound l w → AreJudged l n (map ExitRegion hs) dids w → AllByRecursion (IsHoldingWithin w) hs
+    → ((b : ℕ) → count_held b hs ≤ structured_of b w.ranges) → AreKnown (map ExitRegion hs) dids w
 leaves_known l n [] [] w bounds sound judged within covers = tt
 leaves_known l n (h ∷ hs) (d ∷ ds) w bounds sound judged within covers = (known, leaves_known l (suc n) hs ds v bounds left.sound judged.2 later covered)
   where
     v : Records
-    v = act (Leave h) d w
+    v = act (ExitRegion h) d w
 
-    says : IsJudgedTo l (Leave h) d.step w
-    says = task_says l n (Leave h) w d.step judged.0
+    says : IsJudgedTo l (ExitRegion h) d.step w
+    says = task_says l n (ExitRegion h) w d.step judged.0
 
-    left : IsLeft l (Leave h) d w v
-    left = task_left l (Leave h) d w bounds sound says (step_judged l n (Leave h) w d.step judged.0).free judged.1
+    left : IsLeft l (ExitRegion h) d w v
+    left = task_left l (ExitRegion h) d w bounds sound says (step_judged l n (ExitRegion h) w d.step judged.0).free judged.1
 
-    known : IsKnown w (Leave h)
+    known : IsKnown w (ExitRegion h)
     known k e =
         let one : count_held k (h ∷ hs) ≡ cond (is_counted_block k h.block) 1 0 + count_held k hs = held-cons k h hs in
         let self : ◌≡◌ {A = ℕ} (cond (is_counted_block k h.block) 1 0) 1 = counted_self k h.block e in
@@ -111,7 +111,7 @@ leaves_known l n (h ∷ hs) (d ∷ ds) w bounds sound judged within covers = (kn
         record { range = mapped.0; range_is = mapped.1; within = (within.0 k e).within mapped.0 mapped.1 }
 
     later : AllByRecursion (IsHoldingWithin v) hs
-    later = AllByRecursion-weaker (IsHoldingWithin w) (IsHoldingWithin v) hs (λ x p k e. within_act l (Leave h) d w x.item.section k says (p k e)) within.1
+    later = AllByRecursion-weaker (IsHoldingWithin w) (IsHoldingWithin v) hs (λ x p k e. within_act l (ExitRegion h) d w x.item.section k says (p k e)) within.1
 
     covered : (b : ℕ) → count_held b hs ≤ structured_of b v.ranges
     covered b =

@@ -7,7 +7,7 @@ use Rattle.acc_base.specs.declared.addresses.TheConstants.{MEMORY_MAX}
 use Rattle.acc_clauses.specs.Words.{Section, Range, Block, Loan, Task, Step}
 use Rattle.acc_base.specs.Loans.{is_lent}
 use Rattle.acc_base.specs.declared.mappings.Found.TheVariants.{Inside}
-use Rattle.acc_base.specs.declared.tasks.Task.TheVariants.{Enter, Leave, Exit, Move}
+use Rattle.acc_base.specs.declared.tasks.Task.TheVariants.{Enter, ExitRegion, ExitData, Move}
 use Rattle.acc_base.specs.declared.events.Step.TheVariants.{Nothing, Counted, Born, Dropped, Moved}
 use Rattle.acc_base.specs.Limits.{Limits, IsWithinBounds, IsFromOne}
 use Rattle.acc_base.specs.Section.{end_of, is_within, host_memory, device_memory}
@@ -104,7 +104,7 @@ pub can_by : (l : Limits) (s : State) (task : Task) (step : Step) → IsWithinBo
 can_by l s task Nothing bounds h m few known says = tt
 can_by l s (Enter counter item queue) (Counted k) bounds h m few known says = record { there = not_none (range_of k s.records.ranges) says.mapped; below = says.room }
 can_by l s (Enter counter item queue) (Born k p) bounds h m few known says = (tt, can_bear l s (section_of (Enter counter item queue)) k p bounds h m few says)
-can_by l s (Leave holding) (Dropped k ended) bounds h m few known says = record { move = can_move l s holding.item.section k bounds h m (known k says.0); not_entry = λ x. x; ends = sym says.1 }
-can_by l s (Exit finalize item queue) (Dropped k ended) bounds h m few known says = record { move = can_range l s (section_of (Exit finalize item queue)) k bounds h m says.range; not_entry = λ x. x; ends = sym says.ended_is }
+can_by l s (ExitRegion holding) (Dropped k ended) bounds h m few known says = record { move = can_move l s holding.item.section k bounds h m (known k says.0); not_entry = λ x. x; ends = sym says.1 }
+can_by l s (ExitData finalize item queue) (Dropped k ended) bounds h m few known says = record { move = can_range l s (section_of (ExitData finalize item queue)) k bounds h m says.range; not_entry = λ x. x; ends = sym says.ended_is }
 can_by l s (Move if_present item queue) (Moved k) bounds h m few known says = can_range l s item.section k bounds h m says
 can_by l s _ _ bounds h m few known says = absurd says

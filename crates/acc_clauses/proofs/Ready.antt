@@ -6,7 +6,7 @@ use Rattle.acc_base.specs.Section.{device_memory}
 use Rattle.acc_base.specs.Loans.{not_lent}
 use Rattle.acc_clauses.specs.Words.{Counter, Item, RegionClause, Aim, Did, Task, Step}
 use Rattle.acc_base.specs.declared.attachments.Aim.TheVariants as aims
-use Rattle.acc_base.specs.declared.tasks.Task.TheVariants.{Enter, Leave, Exit, Move}
+use Rattle.acc_base.specs.declared.tasks.Task.TheVariants.{Enter, ExitRegion, ExitData, Move}
 use Rattle.acc_base.specs.Limits.{Limits, IsWithinBounds}
 use Rattle.acc_base.specs.Records.{Records, State}
 use Rattle.acc_base.specs.Tasks.{queue_of}
@@ -96,7 +96,7 @@ sized_aim l x s aim sized can = subst (λ n. CanAim n aim s) (sym sized.pointers
 
 -- what is known of a task does not read the attachment counters
 known_aimed : (w : Records) (aim : Aim) (task : Task) → IsKnown w task → IsKnown (records_aimed aim w) task
-known_aimed w aim (Leave holding) known = λ k e. let around : IsMappedAround w holding.item.section k = known k e in record { range = around.range; range_is = around.range_is; within = around.within }
+known_aimed w aim (ExitRegion holding) known = λ k e. let around : IsMappedAround w holding.item.section k = known k e in record { range = around.range; range_is = around.range_is; within = around.within }
 known_aimed w aim _ known = tt
 
 -- after a detachment the step can be done
@@ -127,10 +127,10 @@ can_enter l x counter item queue did sized h =
 
 can_of : (l : Limits) (x : WithHost) (task : Task) (did : Did) → AreSizedBy l x → IsReady l (bare_state x) task did → CanDo x task did
 can_of l x (Enter counter item queue) did sized h = can_enter l x counter item queue did sized h
-can_of l x (Leave holding) did sized h = can_leave l x (Leave holding) did sized h
-    (subst (λ a. CanAim l.counter_max a (bare_state x)) (sym h.judged.aim) (can_release l (bare_state x) holding.aim h.bounds h.sound h.sized (has_detached l (bare_state x) (Leave holding) did h))) (leave_sound l holding did (bare_state x).records h.sound h.judged.aim)
-can_of l x (Exit finalize item queue) did sized h = can_leave l x (Exit finalize item queue) did sized h
-    (subst (λ a. CanAim l.counter_max a (bare_state x)) (sym h.judged.aim) (can_judged l (bare_state x) finalize (pointer_aimed (Exit finalize item queue) did.step) h.bounds h.sound h.sized (has_detached l (bare_state x) (Exit finalize item queue) did h))) (exit_sound l finalize item queue did (bare_state x).records h.sound h.judged.aim)
+can_of l x (ExitRegion holding) did sized h = can_leave l x (ExitRegion holding) did sized h
+    (subst (λ a. CanAim l.counter_max a (bare_state x)) (sym h.judged.aim) (can_release l (bare_state x) holding.aim h.bounds h.sound h.sized (has_detached l (bare_state x) (ExitRegion holding) did h))) (leave_sound l holding did (bare_state x).records h.sound h.judged.aim)
+can_of l x (ExitData finalize item queue) did sized h = can_leave l x (ExitData finalize item queue) did sized h
+    (subst (λ a. CanAim l.counter_max a (bare_state x)) (sym h.judged.aim) (can_judged l (bare_state x) finalize (pointer_aimed (ExitData finalize item queue) did.step) h.bounds h.sound h.sized (has_detached l (bare_state x) (ExitData finalize item queue) did h))) (exit_sound l finalize item queue did (bare_state x).records h.sound h.judged.aim)
 can_of l x (Move if_present item queue) did sized h = can_leave l x (Move if_present item queue) did sized h
     (subst (λ a. CanAim l.counter_max a (bare_state x)) (sym h.judged.aim) tt) (move_sound l if_present item queue did (bare_state x).records h.sound h.judged.aim)
 

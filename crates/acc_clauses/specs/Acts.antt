@@ -5,7 +5,7 @@ use Rattle.acc_base.specs.declared.addresses.TheConstants.{MEMORY_MAX}
 use Rattle.acc_clauses.specs.Words.{Directive, Section, Item, RegionClause, Range, Holding, Task, Step, Did, Aim, Transfer}
 use Rattle.acc_base.specs.declared.directives.Directive.TheVariants as directives
 use Rattle.acc_base.specs.declared.mappings.Found.TheVariants.{Absent}
-use Rattle.acc_base.specs.declared.tasks.Task.TheVariants.{Enter, Leave, Exit, Move}
+use Rattle.acc_base.specs.declared.tasks.Task.TheVariants.{Enter, ExitRegion, ExitData, Move}
 use Rattle.acc_base.specs.declared.events.Step.TheVariants.{Nothing, Counted, Born, Dropped, Moved}
 use Rattle.acc_base.specs.declared.attachments.Aim.TheVariants as aims
 use Rattle.acc_base.specs.Limits.{Limits, IsFromOne}
@@ -52,7 +52,7 @@ pub record IsMappedAround (w : Records) (section : Section) (block : ℕ) : Type
 
 -- a task that undoes a holding finds the block that was counted
 abbrev pub IsKnown : Records → Task → Type 0
-IsKnown w (Leave holding) = (block : ℕ) → holding.block ≡ Some block → IsMappedAround w holding.item.section block
+IsKnown w (ExitRegion holding) = (block : ℕ) → holding.block ≡ Some block → IsMappedAround w holding.item.section block
 IsKnown w _ = ⊤
 
 -- each task that undoes a holding finds the block that was counted, in what the tasks before it leave
@@ -190,8 +190,8 @@ pub record CanLeave (x : WithHost) (task : Task) (did : Did) : Type 0 where
 
 abbrev pub CanDo : WithHost → Task → Did → Type 0
 CanDo x (Enter counter item queue) did = CanEnter x (Enter counter item queue) did
-CanDo x (Leave holding) did = CanLeave x (Leave holding) did
-CanDo x (Exit finalize item queue) did = CanLeave x (Exit finalize item queue) did
+CanDo x (ExitRegion holding) did = CanLeave x (ExitRegion holding) did
+CanDo x (ExitData finalize item queue) did = CanLeave x (ExitData finalize item queue) did
 CanDo x (Move if_present item queue) did = CanLeave x (Move if_present item queue) did
 
 -- ---- what a task takes of the room

@@ -1,7 +1,7 @@
 -- What a plan knows of pointers after its tasks: what each look-up answers then, from what it answers before them.
 use Rattle.std.specs.Prelude.{ℕ, if◌then◌else◌, ◌==◌, ◌&&◌, List, fold, Result, ⊤}
 use Rattle.acc_clauses.specs.Words.{Task, Aim, Step, Fault}
-use Rattle.acc_base.specs.declared.tasks.Task.TheVariants.{Leave, Exit}
+use Rattle.acc_base.specs.declared.tasks.Task.TheVariants.{ExitRegion, ExitData}
 use Rattle.acc_base.specs.declared.attachments.Aim.TheVariants as aims
 use Rattle.acc_base.specs.declared.events.Step.TheVariants.{Born}
 use Rattle.acc_base.specs.Attachments.{count_after}
@@ -46,8 +46,8 @@ value_over block pointer value xs = fold (λ v x. value_by block pointer v x.did
 
 -- what becomes of the pointer of a task before its step: what leaves detaches it
 abbrev pub aim_before : Task → Step → Records → Aim
-aim_before (Leave holding) step w = judge_release holding.aim w
-aim_before (Exit finalize item queue) step w = detach_if finalize (pointer_aimed (Exit finalize item queue) step) w
+aim_before (ExitRegion holding) step w = judge_release holding.aim w
+aim_before (ExitData finalize item queue) step w = detach_if finalize (pointer_aimed (ExitData finalize item queue) step) w
 aim_before _ step w = aims.None
 
 -- neither the block in which a task detaches a pointer before its step, nor the one that the step needs is lent, and its queue has room

@@ -43,9 +43,9 @@ fn recount(present: &mut Present, task: Task, block: u64, hint: Hint)
 {
     match task {
         Task::Enter { counter, .. } => raise(present, counter, block, hint),
-        Task::Leave { .. } => present.drop_structured(block, hint),
-        Task::Exit { finalize: true, .. } => present.clear_dynamic(block, hint),
-        Task::Exit {
+        Task::ExitRegion { .. } => present.drop_structured(block, hint),
+        Task::ExitData { finalize: true, .. } => present.clear_dynamic(block, hint),
+        Task::ExitData {
             finalize: false,
             ..
         } => present.drop_dynamic(block, hint),
@@ -258,7 +258,7 @@ pub(crate) fn act_on(
             step_on(environment, host, task, did.step, hint);
             aim_on(environment, host, did.aim);
         }
-        Task::Leave { .. } | Task::Exit { .. } | Task::Move { .. } => {
+        Task::ExitRegion { .. } | Task::ExitData { .. } | Task::Move { .. } => {
             aim_on(environment, host, did.aim);
             step_on(environment, host, task, did.step, hint);
         }

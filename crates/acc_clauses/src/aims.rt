@@ -101,8 +101,8 @@ pub(crate) fn aim_before(parts: &Parts, draft: &Draft, task: Task, step: Step) -
 {
     match task {
         Task::Enter { .. } => Aim::None,
-        Task::Leave { holding } => release(parts, draft, holding.aim),
-        Task::Exit { finalize, .. } => detach(parts, draft, finalize, pointer_aimed(task, step)),
+        Task::ExitRegion { holding } => release(parts, draft, holding.aim),
+        Task::ExitData { finalize, .. } => detach(parts, draft, finalize, pointer_aimed(task, step)),
         Task::Move { .. } => Aim::None,
     }
 }

@@ -31,11 +31,11 @@ pub fn recount(task: Task, counters: Counters) -> Counters
                 dynamic: dynamic + 1,
             },
         },
-        Task::Leave { .. } => Counters {
+        Task::ExitRegion { .. } => Counters {
             structured: structured.saturating_sub(1),
             dynamic,
         },
-        Task::Exit { finalize, .. } => Counters {
+        Task::ExitData { finalize, .. } => Counters {
             structured,
             dynamic: if finalize {
                 0

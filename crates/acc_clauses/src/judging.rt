@@ -196,12 +196,12 @@ fn dropped(task: Task, block: u64, counters: Counters) -> Step
 #[tactic(auto, using(crate::proofs::Laws::plan_laws), unfolding(acc_base::specs::Steps::judge_row))]
 fn leave(parts: &Parts, draft: &Draft, holding: Holding, hint: Hint) -> Result<Step, Fault>
     requires { IsPlanned parts.now.limits draft.now parts.now.state.records }
-    ensures { (n : ℕ) → result ≡ judge_row parts.now.limits n (Task.Leave holding) (records_after draft.now parts.now.state.records) }
+    ensures { (n : ℕ) → result ≡ judge_row parts.now.limits n (Task.ExitRegion holding) (records_after draft.now parts.now.state.records) }
 {
     match holding.block {
         Some(block) => {
             let counters = counters_after(parts, draft, block, hint);
-            Ok(dropped(Task::Leave { holding }, block, counters))
+            Ok(dropped(Task::ExitRegion { holding }, block, counters))
         }
         None => Ok(Step::Nothing),
     }
@@ -219,10 +219,10 @@ fn exit(
     located: Located,
 ) -> Result<Step, Fault>
     requires planned { IsPlanned parts.now.limits draft.now parts.now.state.records }
-    requires located { located.found ≡ where_is (section_of (Task.Exit finalize item queue)) (records_after draft.now parts.now.state.records).ranges }
-    ensures { result ≡ judge_row parts.now.limits n (Task.Exit finalize item queue) (records_after draft.now parts.now.state.records) }
+    requires located { located.found ≡ where_is (section_of (Task.ExitData finalize item queue)) (records_after draft.now parts.now.state.records).ranges }
+    ensures { result ≡ judge_row parts.now.limits n (Task.ExitData finalize item queue) (records_after draft.now parts.now.state.records) }
 {
-    let task = Task::Exit {
+    let task = Task::ExitData {
         finalize,
         item,
         queue,
@@ -290,8 +290,8 @@ pub(crate) fn judge_row(
             item,
             queue,
         } => enter(parts, draft, n, counter, item, queue, located),
-        Task::Leave { holding } => leave(parts, draft, holding, located.hint),
-        Task::Exit {
+        Task::ExitRegion { holding } => leave(parts, draft, holding, located.hint),
+        Task::ExitData {
             finalize,
             item,
             queue,

@@ -56,8 +56,8 @@ pub fn section_of(task: Task) -> Section
 {
     match task {
         Task::Enter { item, .. } => section_named(is_attach(item.clause), item.section),
-        Task::Leave { holding } => holding.item.section,
-        Task::Exit { item, .. } => section_named(is_detach(item.clause), item.section),
+        Task::ExitRegion { holding } => holding.item.section,
+        Task::ExitData { item, .. } => section_named(is_detach(item.clause), item.section),
         Task::Move { item, .. } => item.section,
     }
 }
@@ -70,7 +70,7 @@ pub fn pointer_of(task: Task) -> Option<u64>
         Task::Enter { item, .. } => {
             pointer_named(is_attach(item.clause), item.section, item.pointer)
         }
-        Task::Exit { item, .. } => {
+        Task::ExitData { item, .. } => {
             pointer_named(is_detach(item.clause), item.section, item.pointer)
         }
         _ => None,
@@ -93,7 +93,7 @@ pub fn pointer_aimed(task: Task, step: Step) -> Option<u64>
 {
     let alone = match task {
         Task::Enter { item, .. } => is_attach(item.clause),
-        Task::Exit { item, .. } => is_detach(item.clause),
+        Task::ExitData { item, .. } => is_detach(item.clause),
         _ => false,
     };
     if alone || is_action(step) {
@@ -109,8 +109,8 @@ pub fn queue_of(task: Task) -> Option<u64>
 {
     match task {
         Task::Enter { queue, .. } => queue,
-        Task::Leave { .. } => None,
-        Task::Exit { queue, .. } => queue,
+        Task::ExitRegion { .. } => None,
+        Task::ExitData { queue, .. } => queue,
         Task::Move { queue, .. } => queue,
     }
 }
@@ -157,8 +157,8 @@ pub fn gives_bytes(task: Task) -> bool
     ensures { result ≡ gives_bytes task }
 {
     match task {
-        Task::Leave { holding } => copies_out(holding.item.clause),
-        Task::Exit { item, .. } => matches!(item.clause, ExitClause::Copyout),
+        Task::ExitRegion { holding } => copies_out(holding.item.clause),
+        Task::ExitData { item, .. } => matches!(item.clause, ExitClause::Copyout),
         _ => false,
     }
 }
@@ -169,7 +169,7 @@ pub fn goes_out(task: Task) -> bool
 {
     match task {
         Task::Enter { .. } => false,
-        Task::Leave { .. } | Task::Exit { .. } => true,
+        Task::ExitRegion { .. } | Task::ExitData { .. } => true,
         Task::Move { item, .. } => matches!(item.clause, UpdateClause::ToSelf),
     }
 }

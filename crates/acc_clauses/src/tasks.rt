@@ -62,7 +62,7 @@ pub(crate) fn task_at(directive: &Directive, holdings: &[Holding], n: usize) -> 
             item: items.as_slice()[n],
             queue: None,
         },
-        Directive::Exit { .. } => Task::Leave {
+        Directive::Exit { .. } => Task::ExitRegion {
             holding: holdings[holdings.len() - 1 - n],
         },
         Directive::EnterData { items, queue, .. } => enter_data_task(items.as_slice()[n], *queue),
@@ -71,7 +71,7 @@ pub(crate) fn task_at(directive: &Directive, holdings: &[Holding], n: usize) -> 
             finalize,
             queue,
             ..
-        } => Task::Exit {
+        } => Task::ExitData {
             finalize: *finalize,
             item: items.as_slice()[n],
             queue: *queue,

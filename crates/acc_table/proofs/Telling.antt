@@ -122,8 +122,8 @@ pointer_tells l n (Some pointer) = search (rules, telling)
 row_tells : (l : Limits) (n : ℕ) (task : Task) (w : Records) → Tells (judge_row l n task w)
 unfolding judge_row
 row_tells l n (tasks.Enter counter item queue) w = search (rules, telling, pointer_tells, enter_tells)
-row_tells l n (tasks.Leave holding) w = leave_tells holding.block (recounted (tasks.Leave holding)) w
-row_tells l n (tasks.Exit finalize item queue) w = search (rules, telling, pointer_tells, exit_tells)
+row_tells l n (tasks.ExitRegion holding) w = leave_tells holding.block (recounted (tasks.ExitRegion holding)) w
+row_tells l n (tasks.ExitData finalize item queue) w = search (rules, telling, pointer_tells, exit_tells)
 row_tells l n (tasks.Move if_present item queue) w = search (rules, telling, move_tells)
 
 -- nor does that for a transfer, where there is one and it has a queue

@@ -237,9 +237,9 @@ gather_legal l lease s e sound h =
     let both = then_ok (refuse_if (not (is_returnable l.full l.number lease w.blocks w.loans s.memories)) (NoLease lease.serial)) (Ok (gathered l.full lease)) e h in
     let returnable : is_returnable l.full l.number lease w.blocks w.loans s.memories ≡ true = not_false _ (refused_not _ _ both.0) in
     let known : (is_of_loan l.number lease w.blocks w.loans ≡ true) × ((not l.full || is_kept_outside lease (bytes_of lease.block s.memories)) ≡ true) = and_true _ _ returnable in
-    let fits : (((lease.device == l.number) && is_loan_of lease (loan_of lease.block w.loans)) ≡ true) × ((len_of lease.block w.blocks == length lease.bytes) ≡ true) = and_true _ _ known.0 in
-    let own_loan : is_loan_of lease (loan_of lease.block w.loans) ≡ true = (and_true (lease.device == l.number) (is_loan_of lease (loan_of lease.block w.loans)) fits.0).1 in
-    let back : IsLoanBack lease (loan_of lease.block w.loans) = loan_returned lease (loan_of lease.block w.loans) own_loan in
+    let here : ((is_loan_of lease (loan_of lease.block w.loans) && (len_of lease.block w.blocks == length lease.bytes)) ≡ true) × ((lease.device == l.number) ≡ true) = and_true _ _ known.0 in
+    let fits : (is_loan_of lease (loan_of lease.block w.loans) ≡ true) × ((len_of lease.block w.blocks == length lease.bytes) ≡ true) = and_true _ _ here.0 in
+    let back : IsLoanBack lease (loan_of lease.block w.loans) = loan_returned lease (loan_of lease.block w.loans) fits.0 in
     let own : back.loan.block ≡ lease.block = equal _ _ (found_has (IsLoanSound w.ranges) (λ (x : Loan). x.block == lease.block) w.loans back.loan sound.loans.sound back.there).1 in
     let inside : back.loan.offset + back.loan.len ≤ len_of back.loan.block w.blocks = within_block l w back.loan sound (subst (λ n. loan_of n w.loans ≡ Some back.loan) (sym own) back.there) in
     let within : lease.offset + lease.len ≤ length lease.bytes = omega (arith, subst (λ n. back.loan.offset + back.loan.len ≤ len_of n w.blocks) own inside, equal _ _ fits.1, back.offset, back.len) in

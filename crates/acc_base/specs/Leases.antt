@@ -14,9 +14,9 @@ section_bytes lease = take lease.len (drop lease.offset lease.bytes)
 abbrev pub is_kept_outside : Leased → List ℕ → Bool
 is_kept_outside lease copy = length copy == length lease.bytes && bytes_eq (take lease.offset lease.bytes) (take lease.offset copy) && bytes_eq (drop (lease.offset + lease.len) lease.bytes) (drop (lease.offset + lease.len) copy)
 
--- the lease is of this device, and its block is out under its loan there, and as long as it has bytes
+-- the lease's block is out under the lease's loan, and as long as it has bytes, and the device is the lease's
 abbrev pub is_of_loan : ℕ → Leased → List Block → List Loan → Bool
-is_of_loan d lease blocks loans = (lease.device == d) && is_loan_of lease (loan_of lease.block loans) && (len_of lease.block blocks == length lease.bytes)
+is_of_loan d lease blocks loans = is_loan_of lease (loan_of lease.block loans) && (len_of lease.block blocks == length lease.bytes) && (lease.device == d)
 
 -- and where a copy of the block was kept, only the section has changed
 abbrev pub is_returnable : Bool → ℕ → Leased → List Block → List Loan → List Memory → Bool

@@ -33,20 +33,20 @@ pub capped_at : (h : Space) (s : List (Option Stored)) (xs : List (ℕ × ℕ)) 
 capped_at h s xs n k kept slot free = subst (λ (m : ℕ). m ≤ MEMORY_MAX) (sym (whole_at s xs n k kept.rising kept.backed slot free)) (len_slot h s xs n k kept slot).1
 
 -- what a look at a slot answers is whether a lease brings its block back
-pub returnable_at : (s : List (Option Stored)) (xs : List (ℕ × ℕ)) (k : ℕ) (lease : Leased) (kept is : Bool) → IsIndexRising xs → AreBacked s xs → IsSlotOf xs lease.block k
-    → is ≡ is_back_at kept lease (get_or s k None) → is_returnable kept lease (blocks_in s xs) (loans_in s xs) (memories_in s xs) ≡ is
-returnable_at s xs k lease kept is rise backed slot here =
-    ap₂ (λ (o : Option Loan) (n : ℕ). is_loan_of lease o && n == length lease.bytes && (not kept || is_kept_outside lease (bytes_of lease.block (memories_in s xs)))) (loan_of_slot s xs lease.block k rise backed slot) (long_at s xs lease.block k rise slot)
-    ∙ (ap (λ (bytes : List ℕ). is_loan_of lease (stored_loan (get_or s k None)) && stored_len (get_or s k None) == length lease.bytes && (not kept || is_kept_outside lease bytes)) (bytes_at s xs lease.block k rise slot) ∙ sym here)
+pub returnable_at : (s : List (Option Stored)) (xs : List (ℕ × ℕ)) (k d : ℕ) (lease : Leased) (kept is : Bool) → IsIndexRising xs → AreBacked s xs → IsSlotOf xs lease.block k
+    → is ≡ is_back_at kept d lease (get_or s k None) → is_returnable kept d lease (blocks_in s xs) (loans_in s xs) (memories_in s xs) ≡ is
+returnable_at s xs k d lease kept is rise backed slot here =
+    ap₂ (λ (o : Option Loan) (n : ℕ). is_loan_of lease o && n == length lease.bytes && lease.device == d && (not kept || is_kept_outside lease (bytes_of lease.block (memories_in s xs)))) (loan_of_slot s xs lease.block k rise backed slot) (long_at s xs lease.block k rise slot)
+    ∙ (ap (λ (bytes : List ℕ). is_loan_of lease (stored_loan (get_or s k None)) && stored_len (get_or s k None) == length lease.bytes && lease.device == d && (not kept || is_kept_outside lease bytes)) (bytes_at s xs lease.block k rise slot) ∙ sym here)
 
 -- a block that is not there is not lent
 pub not_lent : (s : List (Option Stored)) (xs : List (ℕ × ℕ)) (n : ℕ) → AreBacked s xs → AllByRecursion (λ e. e.0 ≡ n → ⊥) xs → loan_of n (loans_in s xs) ≡ None
 not_lent s xs n backed none = loan_of-none n (loans_in s xs) (loans_all (λ m. m ≡ n → ⊥) s xs backed none)
 
 -- a lease of a block that is not there brings none back
-pub unknown_block : (s : List (Option Stored)) (xs : List (ℕ × ℕ)) (lease : Leased) (kept : Bool) → AreBacked s xs → AllByRecursion (λ e. e.0 ≡ lease.block → ⊥) xs → is_returnable kept lease (blocks_in s xs) (loans_in s xs) (memories_in s xs) ≡ false
-unknown_block s xs lease kept backed none = rw (not_lent s xs lease.block backed none)
+pub unknown_block : (s : List (Option Stored)) (xs : List (ℕ × ℕ)) (d : ℕ) (lease : Leased) (kept : Bool) → AreBacked s xs → AllByRecursion (λ e. e.0 ≡ lease.block → ⊥) xs → is_returnable kept d lease (blocks_in s xs) (loans_in s xs) (memories_in s xs) ≡ false
+unknown_block s xs d lease kept backed none = rw (not_lent s xs lease.block backed none)
 
 -- a lease that brings its block back has as many bytes as it is long
-pub long_lease : (o : Option Stored) (lease : Leased) (kept is : Bool) → is ≡ is_back_at kept lease o → is ≡ true → stored_len o ≡ length lease.bytes
-long_lease o lease kept is here fits = equal _ _ (and_true _ _ (and_true _ _ (sym here ∙ fits)).0).1
+pub long_lease : (o : Option Stored) (d : ℕ) (lease : Leased) (kept is : Bool) → is ≡ is_back_at kept d lease o → is ≡ true → stored_len o ≡ length lease.bytes
+long_lease o d lease kept is here fits = equal _ _ (and_true _ _ (and_true _ _ (and_true _ _ (sym here ∙ fits)).0).0).1

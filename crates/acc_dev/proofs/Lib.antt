@@ -13,3 +13,4 @@ pub mod EndedPlaces
 pub mod Ending
 pub mod Indexing
 pub mod Copied
+pub mod Crossing

@@ -9,7 +9,7 @@ use Rattle.acc_base.specs.Records.{Memory}
 use Rattle.acc_base.specs.Blocks.{rounded, place_for, block_at, without_block}
 use Rattle.acc_base.specs.Bytes.{fill_byte, memory_changed, memories_kept}
 use Rattle.acc_base.specs.Overwriting.{overwritten}
-use Rattle.acc_base.specs.Limits.{recorded}
+use Rattle.acc_base.specs.Limits.{recorded, base_on}
 use Rattle.acc_base.specs.Loans.{Leased, is_lent, len_of, with_loan, without_loan}
 use Rattle.acc_base.specs.Accounts.{EachPair, AreBlocksApart}
 use Rattle.acc_dev.specs.declared.copying.SavedBlock.{SavedBlock}
@@ -31,9 +31,9 @@ pub record DeviceState : Type 0 where
 abbrev pub HasBlock : DeviceState → ℕ → Type 0
 HasBlock d block = IsSome (block_at block d.blocks)
 
--- the device's memory begins at this address and is so long, and no block was born
-pub record IsNew (base size : ℕ) (d : DeviceState) : Type 0 where
-  pub memory_is : d.memory ≡ record { start = base; len = size }
+-- the device has this number, its memory is so long, and no block was born
+pub record IsNew (number size : ℕ) (d : DeviceState) : Type 0 where
+  pub memory_is : d.memory ≡ record { start = base_on number; len = size }
   pub blocks_are : d.blocks ≡ []
   pub memories_are : d.memories ≡ []
   pub marks_are : d.marks ≡ []

@@ -54,9 +54,9 @@ abbrev pub stored_loan : Option Stored → Option Loan
 stored_loan None = None
 stored_loan (Some s) = s.loan
 
--- the lease brings the block of a slot back
-abbrev pub is_back_at : Bool → Leased → Option Stored → Bool
-is_back_at kept lease slot = is_loan_of lease (stored_loan slot) && (stored_len slot == length lease.bytes) && (not kept || is_kept_outside lease (stored_bytes slot))
+-- the lease brings the block of a slot of this device back
+abbrev pub is_back_at : Bool → ℕ → Leased → Option Stored → Bool
+is_back_at kept d lease slot = is_loan_of lease (stored_loan slot) && (stored_len slot == length lease.bytes) && (lease.device == d) && (not kept || is_kept_outside lease (stored_bytes slot))
 
 -- the block of a number, with what its slot has
 abbrev pub block_from : ℕ → Option Stored → Block

@@ -3,7 +3,7 @@
 ghost use Rattle.std.specs.Prelude.{◌≡◌, ◌+◌, ◌^◌, ◌<◌, ◌≤◌, ◌⊎◌, ◌↔◌, ◌++◌, length, drop, [], replicate, All, IfOk, IfErr, OnOk, OnErr, IsSome, IsSomeAnd, IfSome, IsTrue, Err, None, Some, true, false};
 ghost use Rattle.std.specs.List.{AllZip, AllByRecursion};
 ghost use Rattle.std.specs.Bool.{OnTrue, OnFalse};
-ghost use Rattle.acc_base.specs.Limits.{IsDeviceBase, IsSize, IsFromOne};
+ghost use Rattle.acc_base.specs.Limits.{number_at, IsSize, IsFromOne};
 ghost use Rattle.acc_base.specs.Section.{end_of};
 ghost use Rattle.acc_base.specs.Blocks.{rounded as rounded_of, place_for, block_at, size_of, used_bytes, IsPlaceFor};
 ghost use Rattle.acc_base.specs.Holes.{IsDevice, IsNextHole};
@@ -19,7 +19,7 @@ use crate::ended::EndedBlocks;
 use crate::entries::{Stored, make_room, put, remove_block, set_mark, slot_of_block, write_at};
 use crate::filling::{fill, filled, make_vectors};
 use crate::index::Index;
-use acc_base::{Ended, Fault, Hole, MEMORY_MAX};
+use acc_base::{DEVICE_BASE, Ended, Fault, Hole, MEMORY_MAX};
 use acc_placement::{Holes, rounded};
 use slab::Slab;
 use std::alloc::Global;
@@ -80,21 +80,21 @@ impl Model for Device {
 }
 
 impl Device {
-    /// A device on which no block was born. Its memory begins at the device address `base`, which is 0x1_0000_0000 or
-    /// two, three or four times that, and has `size` bytes, a multiple of 16 from 16 to 67,108,864.
+    /// The device of a number from 0 to 3, on which no block was born. Its memory begins at the device address
+    /// `(number + 1) * 0x1_0000_0000`, and has `size` bytes, a multiple of 16 from 16 to 67,108,864.
     ///
     /// # Errors
     ///
     /// [`Fault::Memory`] alone.
-    pub fn new(alloc: Global, base: u64, size: u64) -> Result<Device, Fault>
-        requires base { IsDeviceBase base }
+    pub fn new(alloc: Global, number: u64, size: u64) -> Result<Device, Fault>
+        requires number { number < 4 }
         requires size { IsSize size }
-        ensures ok { IfOk result (IsNew base size) }
+        ensures ok { IfOk result (IsNew number size) }
         ensures only { IfErr result (λ fault. fault ≡ Fault.Memory) }
     {
         Ok(Device {
             alloc,
-            holes: Holes::new(alloc, base, size)?,
+            holes: Holes::new(alloc, (number + 1) * DEVICE_BASE, size)?,
             slab: Slab::new(alloc),
             index: Index::new(alloc),
             ended_blocks: EndedBlocks::new(alloc),
@@ -256,6 +256,13 @@ impl Device {
         ensures { result ≡ place_for self.now.memory (self.now.blocks ++ planned_blocks (self.now.births + 1) listed.now) (rounded_of len) }
     {
         self.holes.would_take(listed, len)
+    }
+
+    /// The number of the device.
+    pub fn number(&self) -> u64
+        ensures { result ≡ number_at self.now.memory.start }
+    {
+        (self.holes.base() / DEVICE_BASE).saturating_sub(1)
     }
 
     /// The number that the next block gets.

@@ -232,12 +232,12 @@ pub fn lend_at(
     stored.loan = Some(loan);
     let bytes = mem::replace(&mut stored.bytes, stays);
     Lease::of(
-        device,
         loan.serial,
         loan.block,
         loan.offset as usize,
         loan.len as usize,
         bytes,
+        device,
     )
 }
 

@@ -1,6 +1,7 @@
 //! The loans of a device: a block is taken out by a lease, which is put back.
 
 ghost use Rattle.std.specs.Prelude.{◌≡◌, ◌+◌, ◌≤◌, ◌↔◌, IfOk, IfErr, OnOk, OnErr, IsOk, IsErr, true, false};
+ghost use Rattle.acc_base.specs.Limits.{number_at};
 ghost use Rattle.acc_base.specs.Bytes.{bytes_of};
 ghost use Rattle.acc_base.specs.Loans.{loan_of, is_lent, len_of};
 ghost use Rattle.acc_base.specs.Leases.{is_returnable};
@@ -15,9 +16,9 @@ use acc_lend::Lease;
 
 impl Device {
     /// Moves the bytes of a block of the device, which is mapped, into a lease of `len` bytes of it from place `offset`
-    /// on, which end within the block. The lease tells the number of the device. The block stays where it is and is lent until [`Device::put_back`] takes the
-    /// lease (OpenACC 3.3, sections 2.5, compute constructs, and 2.6, data environment). With `keep`, a copy of all bytes
-    /// of the block stays too; without it, no byte is copied, and no memory is needed.
+    /// on, which end within the block. The block stays where it is and is lent until [`Device::put_back`] takes the lease
+    /// (OpenACC 3.3, sections 2.5, compute constructs, and 2.6, data environment). With `keep`, a copy of all bytes of the
+    /// block stays too; without it, no byte is copied, and no memory is needed.
     ///
     /// # Errors
     ///
@@ -25,7 +26,6 @@ impl Device {
     /// with `keep`. The device is then as before.
     pub fn take_out(
         &mut self,
-        device: u64,
         block: u64,
         serial: u64,
         offset: u64,
@@ -37,7 +37,7 @@ impl Device {
         requires within { offset + len ≤ len_of block self.old.blocks }
         ensures free { IsOk result → is_lent block self.old.loans ≡ false }
         ensures refused { IfErr result (IsLoanRefused self.old block keep) }
-        ensures lease { IfOk result (λ lease. lease ≡ record { device = device; serial = serial; block = block; offset = offset; len = len; bytes = bytes_of block self.old.memories }) }
+        ensures lease { IfOk result (λ lease. lease ≡ record { device = number_at self.old.memory.start; serial = serial; block = block; offset = offset; len = len; bytes = bytes_of block self.old.memories }) }
         ensures out { OnOk result (IsTakenOut self.old self.new (record { serial = serial; block = block; offset = offset; len = len }) keep) }
         ensures same { OnErr result (self.new ≡ self.old) }
     {
@@ -52,6 +52,7 @@ impl Device {
             len,
         };
         let stays = copy_at(&self.slab, slot, self.alloc, keep)?;
+        let device = self.number();
         Ok(lend_at(&mut self.slab, slot, stays, device, loan))
     }
 
@@ -60,17 +61,17 @@ impl Device {
     ///
     /// # Errors
     ///
-    /// [`Fault::NoLease`] with the lease's serial number, and the lease itself, exactly where the device has no loan of
-    /// this serial number, block, place and length of the section, or the lease has not as many bytes as the block is
-    /// long, or, with `kept`, one of its bytes outside of the section is not the copy's. The device is then as before.
+    /// [`Fault::NoLease`] with the lease's serial number, and the lease itself, exactly where the lease is of another
+    /// device, or the device has no loan of this serial number, block, place and length of the section, or the lease has
+    /// not as many bytes as the block is long, or, with `kept`, one of its bytes outside of the section is not the copy's. The device is then as before.
     pub fn put_back(&mut self, lease: Lease, kept: bool) -> Result<(), (Lease, Fault)>
-        ensures fits { IsOk result ↔ (is_returnable kept lease self.old.blocks self.old.loans self.old.memories ≡ true) }
+        ensures fits { IsOk result ↔ (is_returnable kept (number_at self.old.memory.start) lease self.old.blocks self.old.loans self.old.memories ≡ true) }
         ensures back { IfErr result (λ back. (back.0 ≡ lease) × (back.1 ≡ Fault.NoLease lease.serial)) }
         ensures put { OnOk result (IsPutBack self.old self.new lease) }
         ensures same { OnErr result (self.new ≡ self.old) }
     {
         let serial = lease.serial();
-        let Some(slot) = slot_back(&self.slab, &self.index, &lease, kept) else {
+        let Some(slot) = slot_back(&self.slab, &self.index, self.number(), &lease, kept) else {
             return Err((lease, Fault::NoLease { serial }));
         };
         restore_at(&mut self.slab, slot, lease.into_block());
@@ -87,8 +88,8 @@ impl Device {
 
     /// Whether [`Device::put_back`] takes a lease. It needs no memory.
     pub fn is_returnable(&self, lease: &Lease, kept: bool) -> bool
-        ensures { result ≡ is_returnable kept lease.now self.now.blocks self.now.loans self.now.memories }
+        ensures { result ≡ is_returnable kept (number_at self.now.memory.start) lease.now self.now.blocks self.now.loans self.now.memories }
     {
-        slot_back(&self.slab, &self.index, lease, kept).is_some()
+        slot_back(&self.slab, &self.index, self.number(), lease, kept).is_some()
     }
 }

@@ -21,10 +21,11 @@ fn is_kept_outside(lease: &Lease, copy: &[u8]) -> bool
     copy.len() == bytes.len() && bytes[..from] == copy[..from] && bytes[to..] == copy[to..]
 }
 
-/// Whether a lease brings the block of a slot back: the slot is lent under the lease's serial number, for the same
-/// section, its block is as long as the lease has bytes, and where a copy is kept, only the section differs from it.
-fn is_back_at(slab: &Slab<Stored>, slot: usize, lease: &Lease, kept: bool) -> bool
-    ensures { result ≡ is_back_at kept lease.now (get slab.now slot) }
+/// Whether a lease brings the block of a slot of a device back: the slot is lent under the lease's serial number, for the
+/// same section, its block is as long as the lease has bytes, the device is the lease's, and where a copy is kept, only
+/// the section differs from it.
+fn is_back_at(slab: &Slab<Stored>, slot: usize, device: u64, lease: &Lease, kept: bool) -> bool
+    ensures { result ≡ is_back_at kept device lease.now (get slab.now slot) }
 {
     let Some(stored) = slab.get(slot) else {
         return false;
@@ -36,19 +37,26 @@ fn is_back_at(slab: &Slab<Stored>, slot: usize, lease: &Lease, kept: bool) -> bo
         && loan.offset == lease.offset() as u64
         && loan.len == lease.len() as u64
         && stored.len == lease.block_bytes().len() as u64
+        && lease.device() == device
         && (!kept || is_kept_outside(lease, stored.bytes.as_slice()))
 }
 
-/// The slot whose block a lease brings back, if there is one.
-pub fn slot_back(slab: &Slab<Stored>, index: &Index, lease: &Lease, kept: bool) -> Option<usize>
+/// The slot of a device whose block a lease brings back, if there is one.
+pub fn slot_back(
+    slab: &Slab<Stored>,
+    index: &Index,
+    device: u64,
+    lease: &Lease,
+    kept: bool,
+) -> Option<usize>
     requires rising { IsIndexRising index.now.entries }
     requires backed { AllByRecursion (λ e. IsBacked e.0 (slot_of slab.now.slots e)) index.now.entries }
-    ensures returnable { is_some result ≡ is_returnable kept lease.now (blocks_in slab.now.slots index.now.entries) (loans_in slab.now.slots index.now.entries) (memories_in slab.now.slots index.now.entries) }
+    ensures returnable { is_some result ≡ is_returnable kept device lease.now (blocks_in slab.now.slots index.now.entries) (loans_in slab.now.slots index.now.entries) (memories_in slab.now.slots index.now.entries) }
     ensures slot { IfSome result (IsSlotOf index.now.entries lease.now.block) }
     ensures len { IfSome result (λ slot. stored_len (get slab.now slot) ≡ length lease.now.bytes) }
 {
     let slot = index.slot(lease.block())?;
-    if is_back_at(slab, slot, lease, kept) {
+    if is_back_at(slab, slot, device, lease, kept) {
         return Some(slot);
     }
     None

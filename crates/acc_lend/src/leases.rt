@@ -40,14 +40,14 @@ impl Lease {
     ghost use Rattle.acc_lend.specs.Lending.{LendsSection};
 
     /// A loan of `len` bytes from place `offset` on of the block of a device with these bytes. The block has at most
-    /// 67,108,864.
+    /// 67,108,864 bytes.
     pub fn of(
-        device: u64,
         serial: u64,
         block: u64,
         offset: usize,
         len: usize,
         bytes: Vec<u8>,
+        device: u64,
     ) -> Lease
         requires within { offset + len ≤ vec_len bytes }
         requires capped { vec_len bytes ≤ MEMORY_MAX }

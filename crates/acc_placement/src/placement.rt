@@ -231,6 +231,13 @@ impl Holes {
         self.used -= size;
     }
 
+    /// The device address from which on the space lies.
+    pub fn base(&self) -> u64
+        ensures { result ≡ self.now.base }
+    {
+        self.base
+    }
+
     /// How many bytes are taken: the sum of the sizes of the taken ranges.
     pub fn used(&self) -> u64
         ensures rest { result + total self.now.holes ≡ self.now.size }

@@ -1,7 +1,7 @@
 -- A lease is as long as the section that was asked for.
 use Rattle.std.proofs.Common.{ℕ, ◌≡◌, refl, sym, ◌∙◌, ap, subst, Some, Result, Ok, Err}
 use Rattle.std.specs.Prelude.{MatchResult, IfOk}
-use Rattle.acc_clauses.specs.Words.{Section, Event, Found, Fault}
+use Rattle.acc_base.specs.Words.{Section, Event, Found, Fault}
 use Rattle.acc_base.specs.declared.calls.Call.TheVariants.{Lend}
 use Rattle.acc_base.specs.declared.mappings.Found.TheVariants.{Inside}
 use Rattle.acc_base.specs.declared.events.Event.TheVariants as events

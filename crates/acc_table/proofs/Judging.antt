@@ -22,12 +22,12 @@ use Rattle.acc_table.proofs.Verdicts.{world_in, state_used}
 -- ---- the device in use
 
 -- what holds of the store holds of the view of its device
-pub in_view : (l : Limits) (x : Devices) (d : ℕ) (P : ℕ → Limits → State → Type 0) → AreSet l x → x.current ≡ d → P x.current x.store.limits x.store.state → P d (limits_on d l) (view d (whole_of x))
-in_view l x d P set on h = subst (λ n. P n (limits_on n l) (view n (whole_of x))) on (subst (λ m. P x.current m (view x.current (whole_of x))) set.used (subst (λ s. P x.current x.store.limits s) (sym (state_used l x set)) h))
+pub in_view : (l : Limits) (x : Devices) (d : ℕ) (P : Limits → State → Type 0) → AreSet l x → x.current ≡ d → P x.store.limits x.store.state → P (limits_on d l) (view d (whole_of x))
+in_view l x d P set on h = subst (λ n. P (limits_on n l) (view n (whole_of x))) on (subst (λ m. P m (view x.current (whole_of x))) set.used (subst (λ s. P x.store.limits s) (sym (state_used l x set)) h))
 
 -- and the other way round
-pub of_view : (l : Limits) (x : Devices) (d : ℕ) (P : ℕ → Limits → State → Type 0) → AreSet l x → x.current ≡ d → P d (limits_on d l) (view d (whole_of x)) → P x.current x.store.limits x.store.state
-of_view l x d P set on h = subst (λ s. P x.current x.store.limits s) (state_used l x set) (subst (λ m. P x.current m (view x.current (whole_of x))) (sym set.used) (subst (λ n. P n (limits_on n l) (view n (whole_of x))) (sym on) h))
+pub of_view : (l : Limits) (x : Devices) (d : ℕ) (P : Limits → State → Type 0) → AreSet l x → x.current ≡ d → P (limits_on d l) (view d (whole_of x)) → P x.store.limits x.store.state
+of_view l x d P set on h = subst (λ s. P x.store.limits s) (state_used l x set) (subst (λ m. P m (view x.current (whole_of x))) (sym set.used) (subst (λ n. P (limits_on n l) (view n (whole_of x))) (sym on) h))
 
 -- ---- loans
 
@@ -43,9 +43,9 @@ refused_from r fault h = rw h refl
 
 -- a loan that was planned in the store of its device is judged so
 pub loan_judged : (l : Limits) (base : Base) (x : Devices) (trace : List Event) (w : World) (region : ℕ) (section : Section) (r : Result Loan Fault) → AreSet l x → world_in l base x trace ≡ w → x.current ≡ device_of_region region w.state → ticket w ≡ Ok tt → trace_room w ≡ Ok tt
-    → ((device : ℕ) → MatchResult r (λ loan. IsLoanPlanned x.store.limits device region section x.store.state loan) (λ fault. lend_event x.store.limits device region section x.store.state ≡ Err fault))
+    → MatchResult r (λ loan. IsLoanPlanned x.store.limits region section x.store.state loan) (λ fault. lend_event x.store.limits x.store.limits.number region section x.store.state ≡ Err fault)
     → IsLoanJudged w region section r
-loan_judged l base x trace w region section r set same on ticket_is room_is h = subst (λ (v : World). IsLoanJudged v region section r) same (go r (in_view l x d (λ n m s. MatchResult r (λ loan. IsLoanPlanned m n region section s loan) (λ fault. lend_event m n region section s ≡ Err fault)) set here (h x.current)))
+loan_judged l base x trace w region section r set same on ticket_is room_is h = subst (λ (v : World). IsLoanJudged v region section r) same (go r (in_view l x d (λ m s. MatchResult r (λ loan. IsLoanPlanned m region section s loan) (λ fault. lend_event m m.number region section s ≡ Err fault)) set here h))
   where
     v : World
     v = world_in l base x trace
@@ -59,37 +59,37 @@ loan_judged l base x trace w region section r set same on ticket_is room_is h = 
     judgement : judge v (Lend region section) ≡ (loan_on v d region section >>= λ e. Ok (Makes e))
     judgement = loan_judgement v region section (ap (λ (u : World). ticket u) same ∙ ticket_is) (ap (λ (u : World). trace_room u) same ∙ room_is)
 
-    go : (q : Result Loan Fault) → MatchResult q (λ loan. IsLoanPlanned (limits_on d l) d region section (view d (whole_of x)) loan) (λ fault. lend_event (limits_on d l) d region section (view d (whole_of x)) ≡ Err fault) → IsLoanJudged v region section q
+    go : (q : Result Loan Fault) → MatchResult q (λ loan. IsLoanPlanned (limits_on d l) region section (view d (whole_of x)) loan) (λ fault. lend_event (limits_on d l) d region section (view d (whole_of x)) ≡ Err fault) → IsLoanJudged v region section q
     go (Ok loan) planned = (planned, judgement ∙ made_from (loan_on v d region section) (Lent d region section loan.block loan.serial) planned.event)
     go (Err fault) refused = judgement ∙ refused_from (loan_on v d region section) fault refused
 
 -- ---- leases
 
-lease_judgement : (w : World) (lease : Leased) → ticket w ≡ Ok tt → trace_room w ≡ Ok tt → judge w (Gather lease) ≡ (gather_event w.limits.full lease (view lease.device w.state) >>= λ e. Ok (Makes e))
+lease_judgement : (w : World) (lease : Leased) → ticket w ≡ Ok tt → trace_room w ≡ Ok tt → judge w (Gather lease) ≡ (gather_event (limits_on lease.device w.limits) lease (view lease.device w.state) >>= λ e. Ok (Makes e))
 unfolding judge
 lease_judgement w lease ticket_is room_is = rw (ticket_is, room_is) refl
 
 -- a lease that was compared in the store of its device is judged so
 pub lease_judged : (l : Limits) (base : Base) (x : Devices) (trace : List Event) (w : World) (lease : Leased) (r : Result ⊤ Fault) → AreSet l x → world_in l base x trace ≡ w → x.current ≡ lease.device → ticket w ≡ Ok tt → trace_room w ≡ Ok tt
-    → MatchResult r (λ _. gather_event x.store.limits.full lease x.store.state ≡ Ok (gathered x.store.limits.full lease)) (λ fault. gather_event x.store.limits.full lease x.store.state ≡ Err fault)
+    → MatchResult r (λ _. gather_event x.store.limits lease x.store.state ≡ Ok (gathered x.store.limits.full lease)) (λ fault. gather_event x.store.limits lease x.store.state ≡ Err fault)
     → IsLeaseJudged w lease r
-lease_judged l base x trace w lease r set same on ticket_is room_is h = subst (λ (v : World). IsLeaseJudged v lease r) same (go r (in_view l x lease.device (λ n m s. MatchResult r (λ _. gather_event m.full lease s ≡ Ok (gathered m.full lease)) (λ fault. gather_event m.full lease s ≡ Err fault)) set on h))
+lease_judged l base x trace w lease r set same on ticket_is room_is h = subst (λ (v : World). IsLeaseJudged v lease r) same (go r (in_view l x lease.device (λ m s. MatchResult r (λ _. gather_event m lease s ≡ Ok (gathered m.full lease)) (λ fault. gather_event m lease s ≡ Err fault)) set on h))
   where
     v : World
     v = world_in l base x trace
 
-    judgement : judge v (Gather lease) ≡ (gather_event l.full lease (view lease.device (whole_of x)) >>= λ e. Ok (Makes e))
+    judgement : judge v (Gather lease) ≡ (gather_event (limits_on lease.device l) lease (view lease.device (whole_of x)) >>= λ e. Ok (Makes e))
     judgement = lease_judgement v lease (ap (λ (u : World). ticket u) same ∙ ticket_is) (ap (λ (u : World). trace_room u) same ∙ room_is)
 
-    go : (q : Result ⊤ Fault) → MatchResult q (λ _. gather_event l.full lease (view lease.device (whole_of x)) ≡ Ok (gathered l.full lease)) (λ fault. gather_event l.full lease (view lease.device (whole_of x)) ≡ Err fault) → IsLeaseJudged v lease q
+    go : (q : Result ⊤ Fault) → MatchResult q (λ _. gather_event (limits_on lease.device l) lease (view lease.device (whole_of x)) ≡ Ok (gathered l.full lease)) (λ fault. gather_event (limits_on lease.device l) lease (view lease.device (whole_of x)) ≡ Err fault) → IsLeaseJudged v lease q
     go (Ok t) made = (made, judgement ∙ made_from _ (gathered l.full lease) made)
     go (Err fault) refused = judgement ∙ refused_from _ fault refused
 
 -- a device that has nothing has lent nothing
-gather_none : (full : Bool) (lease : Leased) (s : State) (x : OneDevice) → s.records ≡ x.records → x ≡ new_device → gather_event full lease s ≡ Err (NoLease lease.serial)
+gather_none : (l : Limits) (lease : Leased) (s : State) (x : OneDevice) → s.records ≡ x.records → x ≡ new_device → gather_event l lease s ≡ Err (NoLease lease.serial)
 unfolding gather_event
-gather_none full lease s x records new = let none : s.records ≡ new_device.records = records ∙ ap (λ (y : OneDevice). y.records) new in rw none refl
+gather_none l lease s x records new = let none : s.records ≡ new_device.records = records ∙ ap (λ (y : OneDevice). y.records) new in rw none refl
 
 -- so a lease of a device that is not there is refused
 pub lease_beyond : (w : World) (lease : Leased) → length w.state.devices ≤ lease.device → ticket w ≡ Ok tt → trace_room w ≡ Ok tt → judge w (Gather lease) ≡ Err (NoLease lease.serial)
-lease_beyond w lease beyond ticket_is room_is = lease_judgement w lease ticket_is room_is ∙ refused_from _ (NoLease lease.serial) (gather_none w.limits.full lease (view lease.device w.state) (device_at lease.device w.state.devices) refl (device_beyond lease.device w.state.devices beyond))
+lease_beyond w lease beyond ticket_is room_is = lease_judgement w lease ticket_is room_is ∙ refused_from _ (NoLease lease.serial) (gather_none (limits_on lease.device w.limits) lease (view lease.device w.state) (device_at lease.device w.state.devices) refl (device_beyond lease.device w.state.devices beyond))

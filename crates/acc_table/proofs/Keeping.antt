@@ -31,7 +31,7 @@ use Rattle.acc_clauses.proofs.Events.{planned_asked}
 use Rattle.acc_table.specs.declared.calls.Reply.{Reply}
 use Rattle.acc_table.specs.Kept.{IsKept, world_of}
 use Rattle.acc_table.specs.Making.{planned_verdict, IsMadeInto, IsCommitted, IsAsBefore}
-use Rattle.acc_table.proofs.Verdicts.{with_store, world_in, event_made, unchanged, state_used, device_told}
+use Rattle.acc_table.proofs.Verdicts.{with_store, world_in, event_made, unchanged, state_used, number_used, device_told}
 
 -- ---- births, of which a directive has at most 64
 
@@ -150,11 +150,11 @@ kept_after w call e tasks k h asked few =
     born n false other = subst (λ (t : State). t.records.births ≤ 64 * (w.history.base.events + length (w.history.trace ++ e ∷ []))) (sym (view-other d n made w.state (differ n d other))) (omega (arith, more, k.births n))
 
 -- so a directive does that was planned in the store of the device in use
-pub kept_directive : (l : Limits) (base : Base) (x : Devices) (trace : List Event) (d : Directive) (p : Planned) (e : Event) → AreSet l x → IsKept (world_in l base x trace) → IsPlanOf x.store.limits d x.store.state p → verdict_of x.current d x.store.state p.dids ≡ Makes e → judge (world_in l base x trace) (Do d) ≡ Ok (Makes e)
+pub kept_directive : (l : Limits) (base : Base) (x : Devices) (trace : List Event) (d : Directive) (p : Planned) (e : Event) → AreSet l x → IsKept (world_in l base x trace) → IsPlanOf x.store.limits d x.store.state p → verdict_of x.store.limits.number d x.store.state p.dids ≡ Makes e → judge (world_in l base x trace) (Do d) ≡ Ok (Makes e)
     → IsKept (world_after (Do d) e (world_in l base x trace))
 kept_directive l base x trace d p e set k planned is h =
-    let on : device_in e ≡ x.current = device_told x.current d x.store.state p.dids e is in
-    let asked : asked_in e x.store.state.register ≡ p.tasks = planned_asked x.store.limits x.current d x.store.state p e planned is in
+    let on : device_in e ≡ x.current = (device_told x.store.limits.number d x.store.state p.dids e is ∙ number_used l x set) in
+    let asked : asked_in e x.store.state.register ≡ p.tasks = planned_asked x.store.limits x.store.limits.number d x.store.state p e planned is in
     let seen : x.store.state ≡ view (device_in e) (whole_of x) = sym (ap (λ n. view n (whole_of x)) on ∙ state_used l x set) in
     kept_after (world_in l base x trace) (Do d) e p.tasks k h (subst (λ (s : State). asked_in e s.register ≡ p.tasks) seen asked) planned.few
 
@@ -177,12 +177,12 @@ kept_either l base x new call e trace longer (Err back) set on k next m same = k
 
 -- what the devices and a trace keep that carried a directive out, or were asked in vain
 pub kept_carried : (l : Limits) (base : Base) (x : Devices) (new : Contents) (d : Directive) (p : Planned) (trace longer : List Event) (r : Result Reply (Directive × Fault)) → AreSet l x → IsKept (world_in l base x trace) → OnOk r (IsPlanOf x.store.limits d x.store.state p)
-    → OnOk r (judge (world_in l base x trace) (Do d) ≡ Ok (planned_verdict x.current d p x.store)) → IfOk r (λ reply. IsCommitted (planned_verdict x.current d p x.store) reply x.store new trace longer) → OnErr r (IsAsBefore x.store new trace longer)
+    → OnOk r (judge (world_in l base x trace) (Do d) ≡ Ok (planned_verdict d p x.store)) → IfOk r (λ reply. IsCommitted (planned_verdict d p x.store) reply x.store new trace longer) → OnErr r (IsAsBefore x.store new trace longer)
     → IsKept (world_in l base (with_store x new) longer) × AreSet l (with_store x new)
-kept_carried l base x new d p trace longer (Ok reply) set k planned h done same = go (planned_verdict x.current d p x.store) refl done
+kept_carried l base x new d p trace longer (Ok reply) set k planned h done same = go (planned_verdict d p x.store) refl done
   where
-    go : (v : Verdict) → planned_verdict x.current d p x.store ≡ v → IsCommitted v reply x.store new trace longer → IsKept (world_in l base (with_store x new) longer) × AreSet l (with_store x new)
-    go (Makes e) is m = kept_called l base x new (Do d) e trace longer reply set (device_told x.current d x.store.state p.dids e is) (kept_directive l base x trace d p e set k planned is (h ∙ ap Ok is)) m
+    go : (v : Verdict) → planned_verdict d p x.store ≡ v → IsCommitted v reply x.store new trace longer → IsKept (world_in l base (with_store x new) longer) × AreSet l (with_store x new)
+    go (Makes e) is m = kept_called l base x new (Do d) e trace longer reply set ((device_told x.store.limits.number d x.store.state p.dids e is ∙ number_used l x set)) (kept_directive l base x trace d p e set k planned is (h ∙ ap Ok is)) m
     go Idle is m = kept_same l base x new trace longer set k m.1
 kept_carried l base x new d p trace longer (Err back) set k planned h done same = kept_same l base x new trace longer set k same
 

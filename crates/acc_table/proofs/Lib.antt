@@ -13,3 +13,4 @@ pub mod Telling
 pub mod Tallied
 pub mod Lawful
 pub mod Apart
+pub mod Crossing

@@ -25,7 +25,7 @@ use Rattle.acc_table.specs.declared.calls.Reply.TheVariants as replies
 use Rattle.acc_table.specs.Calls.{reply_of, reply_in, IsCarriedOut, IsDone}
 use Rattle.acc_table.specs.Making.{admitted, write_admitted}
 use Rattle.acc_table.specs.Replies.{HasLease, IsReplyToDirective, IsReplyTo}
-use Rattle.acc_table.proofs.Verdicts.{planned_on, judge_directive, judge_write}
+use Rattle.acc_table.proofs.Verdicts.{planned_on, planned_judged, judge_directive, judge_write}
 
 -- ---- directives
 
@@ -56,11 +56,10 @@ abbrev pub seen_by : World → Directive → State
 seen_by w d = view (device_for d w.state) w.state
 
 pub judged_as : (w : World) (d : Directive) (v : Verdict) → judge w (Do d) ≡ Ok v → (dids : List Did) × (verdict_of (device_for d w.state) d (seen_by w d) dids ≡ v)
-unfolding plan_of
 judged_as w d v h =
     let n : ℕ = device_for d w.state in
     let planned : planned_on w d ≡ Ok v = (then_ok (admitted w d) (planned_on w d) v (sym (judge_directive w d) ∙ h)).1 in
-    let judged : verdict_on w n d ≡ Ok v = (then_ok (few_items d) (verdict_on w n d) v planned).1 in
+    let judged : verdict_on w n d ≡ Ok v = planned_judged w d v planned in
     verdict_made (limits_on n w.limits) n d (view n w.state) v judged
 
 directive_replied : (w : World) (d : Directive) (v : Verdict) (reply : Reply) (next : World) → judge w (Do d) ≡ Ok v → IsCarriedOut w (Do d) v reply next → IsReplyToDirective d reply
@@ -106,8 +105,8 @@ gather_replied : (w : World) (lease : Leased) (v : Verdict) (reply : Reply) (nex
 unfolding judge gather_event
 gather_replied w lease v reply next h done =
     let s : State = view lease.device w.state in
-    let made = made_of (ticket w) (trace_room w) (gather_event w.limits.full lease s) v h in
-    let fits = then_ok (refuse_if (not (is_returnable w.limits.full lease s.records.blocks s.records.loans s.memories)) (NoLease lease.serial)) (Ok (gathered w.limits.full lease)) made.0 made.1 in
+    let made = made_of (ticket w) (trace_room w) (gather_event (limits_on lease.device w.limits) lease s) v h in
+    let fits = then_ok (refuse_if (not (is_returnable w.limits.full lease.device lease s.records.blocks s.records.loans s.memories)) (NoLease lease.serial)) (Ok (gathered w.limits.full lease)) made.0 made.1 in
     let same : gathered w.limits.full lease ≡ made.0 = ok_same _ _ fits.1 in
     subst (λ x. reply ≡ reply_in x w) (sym same) (subst (λ x. IsCarriedOut w (Gather lease) x reply next) (sym made.2) done).0
 

@@ -25,7 +25,7 @@ use Rattle.acc_table.specs.declared.calls.Reply.{Reply}
 use Rattle.acc_table.specs.declared.calls.Reply.TheVariants as replies
 use Rattle.acc_table.specs.Calls.{reply_of, IsCarriedOut, IsDone, MayWantMemory}
 use Rattle.acc_clauses.specs.Contents.{Contents}
-use Rattle.acc_base.specs.Limits.{Limits}
+use Rattle.acc_base.specs.Limits.{Limits, limits_on}
 use Rattle.acc_base.specs.Devices.{view, device_in}
 use Rattle.acc_table.specs.declared.devices.Devices.{Devices}
 use Rattle.acc_table.specs.Devices.{AreSet}
@@ -133,7 +133,7 @@ same_back {leases = leases} {at = at} {lease = lease} {removed = removed} back i
 pub record IsReturned (w : World) (serial : ℕ) (bytes : List ℕ) (leases : List Leased) (at : ℕ) (lease : Leased) : Type 0 where
   pub asked : asked_by (Back serial bytes) leases ≡ Ok (Gather lease)
   pub kept : remove leases at ≡ kept_by (Back serial bytes) leases
-  pub event : gather_event w.limits.full lease (view lease.device w.state) ≡ Ok (gathered w.limits.full lease)
+  pub event : gather_event (limits_on lease.device w.limits) lease (view lease.device w.state) ≡ Ok (gathered w.limits.full lease)
   pub judged : judge w (Gather lease) ≡ Ok (Makes (gathered w.limits.full lease))
   pub stored : bytes ≡ section lease
 
@@ -145,7 +145,7 @@ returned {serial = serial} {bytes = bytes} {leases = leases} {at = at} {lease = 
     subst (λ (l : Leased). IsReturned w serial bytes leases at l) taken_of (record {
       asked = back.asked;
       kept = back.kept;
-      event = gather_rewritten w.limits.full lease bytes (view lease.device w.state) loan back.len before.0;
+      event = gather_rewritten (limits_on lease.device w.limits) lease bytes (view lease.device w.state) loan back.len before.0;
       judged = judged_rewritten w lease bytes loan back.len before.1;
       stored = sym (section_written lease bytes loan back.len);
     })

@@ -84,8 +84,8 @@ kind w (Lend region section) e h =
     subst (λ x. IsOfKind x (Lend region section)) (lent.1 ∙ same_event _ _ made.2) (refl, refl)
 kind w (Gather lease) e h =
     let s : State = view lease.device w.state in
-    let made = made_of (ticket w) (trace_room w) (gather_event w.limits.full lease s) (Makes e) h in
-    let last = then_ok (refuse_if (not (is_returnable w.limits.full lease s.records.blocks s.records.loans s.memories)) (NoLease lease.serial)) (Ok (gathered w.limits.full lease)) made.0 made.1 in
+    let made = made_of (ticket w) (trace_room w) (gather_event (limits_on lease.device w.limits) lease s) (Makes e) h in
+    let last = then_ok (refuse_if (not (is_returnable w.limits.full lease.device lease s.records.blocks s.records.loans s.memories)) (NoLease lease.serial)) (Ok (gathered w.limits.full lease)) made.0 made.1 in
     let same : gathered w.limits.full lease ≡ e = ok_same _ _ last.1 ∙ same_event _ _ made.2 in
     subst (λ x. IsOfKind x (Gather lease)) same (refl, refl)
 

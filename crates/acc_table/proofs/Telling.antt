@@ -25,7 +25,7 @@ use Rattle.acc_base.specs.declared.transfers.TheConstants.{QUEUE_COUNT}
 use Rattle.acc_base.specs.declared.tasks.Task.{Task}
 use Rattle.acc_base.specs.declared.tasks.Task.TheVariants as tasks
 use Rattle.acc_base.specs.Results.{◌>>=◌, ◌>>◌, refuse_if}
-use Rattle.acc_base.specs.Limits.{Limits}
+use Rattle.acc_base.specs.Limits.{Limits, limits_on}
 use Rattle.acc_base.specs.Section.{device_memory}
 use Rattle.acc_base.specs.Ranges.{dynamic_of, ends_by}
 use Rattle.acc_base.specs.Blocks.{rounded, place_for}
@@ -218,7 +218,7 @@ abbrev rest_of : World → Call Leased → Result Verdict Fault
 rest_of w (Do directive) = few_items directive >> (trace_room w >> (device_there w (device_for directive w.state) >> verdict_on w (device_for directive w.state) directive))
 rest_of w (HostWrite addr bytes) = trace_room w >> (host_write_event w.limits addr bytes >>= λ e. Ok (Makes e))
 rest_of w (Lend region section) = trace_room w >> (loan_on w (device_of_region region w.state) region section >>= λ e. Ok (Makes e))
-rest_of w (Gather lease) = trace_room w >> (gather_event w.limits.full lease (view lease.device w.state) >>= λ e. Ok (Makes e))
+rest_of w (Gather lease) = trace_room w >> (gather_event (limits_on lease.device w.limits) lease (view lease.device w.state) >>= λ e. Ok (Makes e))
 
 -- it tells others alone
 rest_tells : (w : World) (call : Call Leased) → Tells (rest_of w call)

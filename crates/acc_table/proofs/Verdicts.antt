@@ -5,7 +5,7 @@ use Rattle.std.proofs.lemmas.List.{take_all, length-take-le}
 use Rattle.std.proofs.lemmas.Bool.Decides.{nat_tests}
 use Rattle.acc_clauses.specs.Words.{Section, Directive, Call, Event, Did, Transfer, Fault}
 use Rattle.acc_base.specs.Section.{is_empty, is_within, host_memory}
-use Rattle.acc_base.proofs.Results.{then_ok, ok_same, refused_not}
+use Rattle.acc_base.proofs.Results.{equal_self, then_ok, ok_same, refused_not}
 use Rattle.acc_base.proofs.LegalEvents.{IsMadeBy, made_by}
 use Rattle.acc_base.specs.declared.directives.Directive.TheVariants.{Enter, Step}
 use Rattle.acc_base.specs.declared.calls.Call.TheVariants.{Do, HostWrite, Gather}
@@ -22,7 +22,7 @@ use Rattle.acc_base.specs.Bytes.{host_after_write}
 use Rattle.acc_base.specs.Waits.{drained}
 use Rattle.acc_base.specs.Acting.{act_all_state, after}
 use Rattle.acc_base.specs.Clauses.{in_host}
-use Rattle.acc_base.specs.Judge.{few_items, step_verdict, verdict_of, plan_of, written, host_write_event, gathered, gather_event}
+use Rattle.acc_base.specs.Judge.{few_items, device_named, own_device, step_verdict, verdict_of, plan_of, written, host_write_event, gathered, gather_event}
 use Rattle.acc_base.specs.Calls.{Base, World, judge, ticket, allowance, trace_room, device_for, device_there, verdict_on, bytes_brought, world_after}
 use Rattle.acc_base.specs.Judge.{Verdict, Makes, Idle}
 use Rattle.acc_clauses.specs.Contents.{Contents}
@@ -113,18 +113,36 @@ write_made l base x new addr bytes trace longer set state is =
 
 -- what a directive is planned to be on its device, in that device's view
 abbrev pub planned_on : World → Directive → Result Verdict Fault
-planned_on w d = plan_of (limits_on (device_for d w.state) w.limits) (device_for d w.state) d (view (device_for d w.state) w.state)
+planned_on w d = plan_of (limits_on (device_for d w.state) w.limits) d (view (device_for d w.state) w.state)
+
+-- it is the device that the directive names, if it names one
+own_named : (w : World) (d : Directive) → own_device (device_for d w.state) (device_named d) ≡ Ok tt
+own_named w (Exit number) = refl
+own_named w (Enter device items) = rw (equal_self device) refl
+own_named w (EnterData device items queue) = rw (equal_self device) refl
+own_named w (ExitData device items finalize queue) = rw (equal_self device) refl
+own_named w (Update device items if_present queue) = rw (equal_self device) refl
+own_named w (Wait device queue) = rw (equal_self device) refl
+own_named w (Step device queue) = rw (equal_self device) refl
 
 -- the verdict on a directive, from what is told before its items are judged and from the plan of the items
 pub judge_directive : (w : World) (d : Directive) → judge w (Do d) ≡ (admitted w d >> planned_on w d)
 unfolding judge admitted plan_of
-judge_directive w d = go (ticket w) (allowance w d) (few_items d) (trace_room w) (device_there w (device_for d w.state))
+judge_directive w d = rw (own_named w d) (go (ticket w) (allowance w d) (few_items d) (trace_room w) (device_there w (device_for d w.state)))
   where
     go : (a b c t k : Result ⊤ Fault)
         → (a >> (b >> (c >> (t >> (k >> verdict_on w (device_for d w.state) d))))) ≡ ((a >> (b >> (c >> (t >> k)))) >> (c >> verdict_on w (device_for d w.state) d))
     go (Ok x) (Ok y) (Ok z) (Ok u) (Err f) = refl
     go (Ok x) (Ok y) (Ok z) (Err f) _ = refl
     go _ _ _ _ _ = refl
+
+-- what was planned was judged so
+pub planned_judged : (w : World) (d : Directive) (v : Verdict) → planned_on w d ≡ Ok v → verdict_on w (device_for d w.state) d ≡ Ok v
+unfolding plan_of
+planned_judged w d v h =
+    let n : ℕ = device_for d w.state in
+    let few = then_ok (few_items d) (own_device n (device_named d) >> verdict_on w n d) v h in
+    (then_ok (own_device n (device_named d)) (verdict_on w n d) v few.1).1
 
 -- what a plan answers is the verdict, where nothing was told before
 pub judged_plan : (w : World) (d : Directive) (v : Verdict) → admitted w d ≡ Ok tt → planned_on w d ≡ Ok v → judge w (Do d) ≡ Ok v
@@ -190,9 +208,9 @@ written-len offset bytes old = length-take-le (length old) (take offset old ++ (
     go false e = let high : length old < offset = grind (arith, nat_tests) in omega (arith, ap length (take_all offset old (omega arith)))
 
 -- no judgement reads the bytes of a section
-returnable_rewritten : (full : Bool) (lease : Leased) (bytes : List ℕ) (s : State) → IsLoan lease → length bytes ≡ lease.len
-    → is_returnable full (with_section lease bytes) s.records.blocks s.records.loans s.memories ≡ is_returnable full lease s.records.blocks s.records.loans s.memories
-returnable_rewritten full lease bytes s loan long =
+returnable_rewritten : (full : Bool) (d : ℕ) (lease : Leased) (bytes : List ℕ) (s : State) → IsLoan lease → length bytes ≡ lease.len
+    → is_returnable full d (with_section lease bytes) s.records.blocks s.records.loans s.memories ≡ is_returnable full d lease s.records.blocks s.records.loans s.memories
+returnable_rewritten full d lease bytes s loan long =
     let kept = kept_outside lease bytes loan long in
     rw (written-len lease.offset bytes lease.bytes, kept.before, kept.behind) refl
 
@@ -201,16 +219,16 @@ made_alike (Ok t) x y h = refl
 made_alike (Err fault) x y h = cc
 
 -- so a lease makes its event with other bytes there too
-pub gather_rewritten : (full : Bool) (lease : Leased) (bytes : List ℕ) (s : State) → IsLoan lease → length bytes ≡ lease.len → gather_event full lease s ≡ Ok (gathered full lease) → gather_event full (with_section lease bytes) s ≡ Ok (gathered full (with_section lease bytes))
+pub gather_rewritten : (l : Limits) (lease : Leased) (bytes : List ℕ) (s : State) → IsLoan lease → length bytes ≡ lease.len → gather_event l lease s ≡ Ok (gathered l.full lease) → gather_event l (with_section lease bytes) s ≡ Ok (gathered l.full (with_section lease bytes))
 unfolding gather_event
-gather_rewritten full lease bytes s loan long h =
-    rw (returnable_rewritten full lease bytes s loan long) (made_alike (refuse_if (not (is_returnable full lease s.records.blocks s.records.loans s.memories)) (NoLease lease.serial)) (gathered full lease) (gathered full (with_section lease bytes)) h)
+gather_rewritten l lease bytes s loan long h =
+    rw (returnable_rewritten l.full l.number lease bytes s loan long) (made_alike (refuse_if (not (is_returnable l.full l.number lease s.records.blocks s.records.loans s.memories)) (NoLease lease.serial)) (gathered l.full lease) (gathered l.full (with_section lease bytes)) h)
 
 pub judged_rewritten : (w : World) (lease : Leased) (bytes : List ℕ) → IsLoan lease → length bytes ≡ lease.len → judge w (Gather lease) ≡ Ok (Makes (gathered w.limits.full lease)) → judge w (Gather (with_section lease bytes)) ≡ Ok (Makes (gathered w.limits.full (with_section lease bytes)))
 unfolding judge gather_event
 judged_rewritten w lease bytes loan long h =
     let v : State = view lease.device w.state in
-    rw (returnable_rewritten w.limits.full lease bytes v loan long) (go (ticket w) (trace_room w) (refuse_if (not (is_returnable w.limits.full lease v.records.blocks v.records.loans v.memories)) (NoLease lease.serial)) (gathered w.limits.full lease) (gathered w.limits.full (with_section lease bytes)) h)
+    rw (returnable_rewritten w.limits.full lease.device lease bytes v loan long) (go (ticket w) (trace_room w) (refuse_if (not (is_returnable w.limits.full lease.device lease v.records.blocks v.records.loans v.memories)) (NoLease lease.serial)) (gathered w.limits.full lease) (gathered w.limits.full (with_section lease bytes)) h)
   where
     go : (a b c : Result ⊤ Fault) (x y : Event) → (a >> (b >> ((c >> Ok x) >>= λ e. Ok (Makes e)))) ≡ Ok (Makes x) → (a >> (b >> ((c >> Ok y) >>= λ e. Ok (Makes e)))) ≡ Ok (Makes y)
     go (Ok r) (Ok s) (Ok t) x y k = refl
@@ -221,7 +239,7 @@ pub refused_rewritten : (w : World) (lease : Leased) (bytes : List ℕ) (fault :
 unfolding judge gather_event
 refused_rewritten w lease bytes fault loan long h =
     let v : State = view lease.device w.state in
-    rw (returnable_rewritten w.limits.full lease bytes v loan long) (go (ticket w) (trace_room w) (refuse_if (not (is_returnable w.limits.full lease v.records.blocks v.records.loans v.memories)) (NoLease lease.serial)) (gathered w.limits.full lease) (gathered w.limits.full (with_section lease bytes)) h)
+    rw (returnable_rewritten w.limits.full lease.device lease bytes v loan long) (go (ticket w) (trace_room w) (refuse_if (not (is_returnable w.limits.full lease.device lease v.records.blocks v.records.loans v.memories)) (NoLease lease.serial)) (gathered w.limits.full lease) (gathered w.limits.full (with_section lease bytes)) h)
   where
     go : (a b c : Result ⊤ Fault) (x y : Event) → (a >> (b >> ((c >> Ok x) >>= λ e. Ok (Makes e)))) ≡ Err fault → (a >> (b >> ((c >> Ok y) >>= λ e. Ok (Makes e)))) ≡ Err fault
     go (Ok r) (Ok s) (Ok t) x y k = cc
@@ -245,12 +263,11 @@ verdict_no_loan n d s dids e h = go (is_idle d s) refl
 
 -- so is the event that a directive makes
 pub directive_no_loan : (w : World) (d : Directive) (e : Event) → judge w (Do d) ≡ Ok (Makes e) → is_loan e ≡ false
-unfolding plan_of
 directive_no_loan w d e h =
     let n : ℕ = device_for d w.state in
     let s : State = view n w.state in
     let planned : planned_on w d ≡ Ok (Makes e) = (then_ok (admitted w d) (planned_on w d) (Makes e) (sym (judge_directive w d) ∙ h)).1 in
-    let judged : verdict_on w n d ≡ Ok (Makes e) = (then_ok (few_items d) (verdict_on w n d) (Makes e) planned).1 in
+    let judged : verdict_on w n d ≡ Ok (Makes e) = planned_judged w d (Makes e) planned in
     let event_made : IsMadeBy (limits_on n w.limits) n d s e = made_by (limits_on n w.limits) n d s e judged in
     verdict_no_loan n d s event_made.dids e event_made.verdict_is
 
@@ -297,33 +314,37 @@ device_told n d s dids e h = go (is_idle d s) refl
     go true idle = let none : verdict_of n d s dids ≡ Idle = told_idle n d s dids idle in cc
     go false busy = same _ (sym (told n d s dids busy) ∙ h) (on d (number_told d s) (in_written_order d dids))
 
+-- the store is that of the device in use
+pub number_used : (l : Limits) (x : Devices) → AreSet l x → x.store.limits.number ≡ x.current
+number_used l x set = ap (λ (m : Limits). m.number) set.used
+
 -- what a directive came to, which was judged so, is done
-carried_out : (l : Limits) (base : Base) (x : Devices) (new : Contents) (d : Directive) (p : Planned) (v : Verdict) (reply : Reply) (trace longer : List Event) → AreSet l x → planned_verdict x.current d p x.store ≡ v → IsCommitted v reply x.store new trace longer
+carried_out : (l : Limits) (base : Base) (x : Devices) (new : Contents) (d : Directive) (p : Planned) (v : Verdict) (reply : Reply) (trace longer : List Event) → AreSet l x → planned_verdict d p x.store ≡ v → IsCommitted v reply x.store new trace longer
     → IsCarriedOut (world_in l base x trace) (Do d) v reply (world_in l base (with_store x new) longer)
 carried_out l base x new d p (Makes e) reply trace longer set is h =
-    let on : device_in e ≡ x.current = device_told x.current d x.store.state p.dids e is in
+    let on : device_in e ≡ x.current = device_told x.store.limits.number d x.store.state p.dids e is ∙ number_used l x set in
     let seen : x.store.state ≡ view (device_in e) (whole_of x) = sym (ap (λ n. view n (whole_of x)) on ∙ state_used l x set) in
     (h.reply ∙ ap (reply_of e) seen, event_made l base x new (Do d) e reply trace longer set on h)
 carried_out l base x new d p Idle reply trace longer set is h = (h.0, unchanged l base x new trace longer h.1)
 
-pub directive_done : (l : Limits) (base : Base) (x : Devices) (new : Contents) (d : Directive) (p : Planned) (trace longer : List Event) (r : Result Reply (Directive × Fault)) → AreSet l x → OnOk r (judge (world_in l base x trace) (Do d) ≡ Ok (planned_verdict x.current d p x.store))
-    → IfOk r (λ reply. IsCommitted (planned_verdict x.current d p x.store) reply x.store new trace longer) → IfOk r (λ reply. IsDone (world_in l base x trace) (Do d) reply (world_in l base (with_store x new) longer))
-directive_done l base x new d p trace longer (Ok reply) set h done = rw h (carried_out l base x new d p (planned_verdict x.current d p x.store) reply trace longer set refl done)
+pub directive_done : (l : Limits) (base : Base) (x : Devices) (new : Contents) (d : Directive) (p : Planned) (trace longer : List Event) (r : Result Reply (Directive × Fault)) → AreSet l x → OnOk r (judge (world_in l base x trace) (Do d) ≡ Ok (planned_verdict d p x.store))
+    → IfOk r (λ reply. IsCommitted (planned_verdict d p x.store) reply x.store new trace longer) → IfOk r (λ reply. IsDone (world_in l base x trace) (Do d) reply (world_in l base (with_store x new) longer))
+directive_done l base x new d p trace longer (Ok reply) set h done = rw h (carried_out l base x new d p (planned_verdict d p x.store) reply trace longer set refl done)
 directive_done l base x new d p trace longer (Err back) set h done = tt
 
 -- what is planned in the store is planned on the device in use
-pub planned_used : (l : Limits) (base : Base) (x : Devices) (d : Directive) (trace : List Event) → AreSet l x → x.current ≡ device_for d (whole_of x) → planned_on (world_in l base x trace) d ≡ plan_of x.store.limits x.current d x.store.state
+pub planned_used : (l : Limits) (base : Base) (x : Devices) (d : Directive) (trace : List Event) → AreSet l x → x.current ≡ device_for d (whole_of x) → planned_on (world_in l base x trace) d ≡ plan_of x.store.limits d x.store.state
 planned_used l base x d trace set for =
     let seen : view x.current (whole_of x) ≡ x.store.state = state_used l x set in
-    ap (λ n. plan_of (limits_on n l) n d (view n (whole_of x))) (sym for) ∙ (ap (λ s. plan_of (limits_on x.current l) x.current d s) seen ∙ ap (λ m. plan_of m x.current d x.store.state) (sym set.used))
+    ap (λ n. plan_of (limits_on n l) d (view n (whole_of x))) (sym for) ∙ (ap (λ s. plan_of (limits_on x.current l) d s) seen ∙ ap (λ m. plan_of m d x.store.state) (sym set.used))
 
 pub directive_judged : (l : Limits) (base : Base) (x : Devices) (d : Directive) (p : Planned) (trace : List Event) (r : Result Reply (Directive × Fault)) → AreSet l x → x.current ≡ device_for d (whole_of x) → admitted (world_in l base x trace) d ≡ Ok tt
-    → OnOk r (plan_of x.store.limits x.current d x.store.state ≡ Ok (planned_verdict x.current d p x.store)) → OnOk r (judge (world_in l base x trace) (Do d) ≡ Ok (planned_verdict x.current d p x.store))
-directive_judged l base x d p trace (Ok reply) set for ok h = judged_plan (world_in l base x trace) d (planned_verdict x.current d p x.store) ok (planned_used l base x d trace set for ∙ h)
+    → OnOk r (plan_of x.store.limits d x.store.state ≡ Ok (planned_verdict d p x.store)) → OnOk r (judge (world_in l base x trace) (Do d) ≡ Ok (planned_verdict d p x.store))
+directive_judged l base x d p trace (Ok reply) set for ok h = judged_plan (world_in l base x trace) d (planned_verdict d p x.store) ok (planned_used l base x d trace set for ∙ h)
 directive_judged l base x d p trace (Err back) set for ok h = tt
 
 pub directive_refused : (l : Limits) (base : Base) (x : Devices) (d : Directive) (trace : List Event) (r : Result Reply (Directive × Fault)) → AreSet l x → x.current ≡ device_for d (whole_of x) → admitted (world_in l base x trace) d ≡ Ok tt
-    → IfErr r (λ back. MayBeToldOf (plan_of x.store.limits x.current d x.store.state) back.1) → IfErr r (λ back. IsRefusal (world_in l base x trace) (Do d) back.1)
+    → IfErr r (λ back. MayBeToldOf (plan_of x.store.limits d x.store.state) back.1) → IfErr r (λ back. IsRefusal (world_in l base x trace) (Do d) back.1)
 directive_refused l base x d trace (Ok reply) set for ok h = tt
 directive_refused l base x d trace (Err back) set for ok h = refused_plan (world_in l base x trace) d back.1 ok (subst (λ r. MayBeToldOf r back.1) (sym (planned_used l base x d trace set for)) h)
 

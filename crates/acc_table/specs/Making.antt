@@ -70,15 +70,15 @@ write_admitted w section = do
 abbrev pub IsLoanJudged : World → ℕ → Section → Result Loan Fault → Type 0
 IsLoanJudged w region section result =
     let d : ℕ = device_of_region region w.state in
-    MatchResult result (λ loan. IsLoanPlanned (limits_on d w.limits) d region section (view d w.state) loan × (judge w (Lend region section) ≡ Ok (Makes (events.Lent d region section loan.block loan.serial)))) (λ fault. judge w (Lend region section) ≡ Err fault)
+    MatchResult result (λ loan. IsLoanPlanned (limits_on d w.limits) region section (view d w.state) loan × (judge w (Lend region section) ≡ Ok (Makes (events.Lent d region section loan.block loan.serial)))) (λ fault. judge w (Lend region section) ≡ Err fault)
 
 -- what a lease comes to that is brought back, or what it is refused for
 abbrev pub IsLeaseJudged : World → Leased → Result ⊤ Fault → Type 0
-IsLeaseJudged w lease result = MatchResult result (λ _. (gather_event w.limits.full lease (view lease.device w.state) ≡ Ok (gathered w.limits.full lease)) × (judge w (Gather lease) ≡ Ok (Makes (gathered w.limits.full lease)))) (λ fault. judge w (Gather lease) ≡ Err fault)
+IsLeaseJudged w lease result = MatchResult result (λ _. (gather_event (limits_on lease.device w.limits) lease (view lease.device w.state) ≡ Ok (gathered w.limits.full lease)) × (judge w (Gather lease) ≡ Ok (Makes (gathered w.limits.full lease)))) (λ fault. judge w (Gather lease) ≡ Err fault)
 
--- what a directive comes to on a device for which this was planned
-abbrev pub planned_verdict : ℕ → Directive → Planned → Contents → Verdict
-planned_verdict n d p c = verdict_of n d c.state p.dids
+-- what a directive comes to for which this was planned
+abbrev pub planned_verdict : Directive → Planned → Contents → Verdict
+planned_verdict d p c = verdict_of c.limits.number d c.state p.dids
 
 -- the fault is what a judgement refuses, or want of memory where it refuses nothing and there is something to do
 abbrev pub MayBeToldOf : Result Verdict Fault → Fault → Type 0

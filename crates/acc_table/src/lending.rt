@@ -23,14 +23,13 @@ use acc_lend::Lease;
 pub fn lend(
     store: &mut Store,
     trace: &mut Vec<Event>,
-    device: u64,
     region: u64,
     section: Section,
     loan: Loan,
 ) -> Result<Reply, Fault>
-    requires planned { IsLoanPlanned store.old.limits device region section store.old.state loan }
+    requires planned { IsLoanPlanned store.old.limits region section store.old.state loan }
     requires serial { store.old.state.register.serial < 2 ^ 48 }
-    ensures done { IfOk result (λ reply. IsMadeInto (Lent device region section loan.block loan.serial) [] reply store.old store.new trace.old.items trace.new.items) }
+    ensures done { IfOk result (λ reply. IsMadeInto (Lent store.old.limits.number region section loan.block loan.serial) [] reply store.old store.new trace.old.items trace.new.items) }
     ensures only { IfErr result (λ fault. fault ≡ Memory) }
     ensures succeeds { store.old.limits.full ≡ false → vec_len trace.old < vec_capacity trace.old → IsOk result }
     ensures same { OnErr result (IsAsBefore store.old store.new trace.old.items trace.new.items) }
@@ -38,9 +37,9 @@ pub fn lend(
     trace.reserve(1)?;
     let block = loan.block;
     let serial = loan.serial;
-    let lease = store.lend(device, loan)?;
+    let lease = store.lend(loan)?;
     trace.push_reserved(Event::Lent {
-        device,
+        device: store.number(),
         region,
         section,
         block,
@@ -52,7 +51,7 @@ pub fn lend(
 /// Takes the block of a lease back that may come back, and stores the event, for which there is room.
 /// These are the bytes that it stores: with full traces those of the section.
 pub fn take_back(store: &mut Store, trace: &mut Vec<Event>, lease: Lease, bytes: List<u8>) -> Reply
-    requires ready { gather_event store.old.limits.full lease store.old.state ≡ Ok (gathered store.old.limits.full lease) }
+    requires ready { gather_event store.old.limits lease store.old.state ≡ Ok (gathered store.old.limits.full lease) }
     requires stored { bytes ≡ recorded store.old.limits.full (section_bytes lease) }
     requires place { vec_len trace.old < vec_capacity trace.old }
     ensures { IsMadeInto (gathered store.old.limits.full lease) lease.bytes result store.old store.new trace.old.items trace.new.items }
@@ -102,7 +101,7 @@ pub fn gather(
     lease: Lease,
 ) -> Result<Reply, (Lease, Fault)>
     requires full { full ≡ store.old.limits.full }
-    requires ready { gather_event store.old.limits.full lease store.old.state ≡ Ok (gathered store.old.limits.full lease) }
+    requires ready { gather_event store.old.limits lease store.old.state ≡ Ok (gathered store.old.limits.full lease) }
     ensures done { IfOk result (λ reply. IsMadeInto (gathered store.old.limits.full lease) lease.bytes reply store.old store.new trace.old.items trace.new.items) }
     ensures succeeds { store.old.limits.full ≡ false → vec_len trace.old < vec_capacity trace.old → IsOk result }
     ensures back { IfErr result (λ back. (back.0 ≡ lease) × (back.1 ≡ Memory)) }

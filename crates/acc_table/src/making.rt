@@ -1,6 +1,6 @@
 //! How a judged directive becomes an event. All growths come before the first change.
 
-ghost use Rattle.std.specs.Prelude.{ℕ, ◌≡◌, ◌+◌, ◌<◌, ◌≤◌, ◌^◌, ◌++◌, ◌∷◌, [], false, length, Ok, vec_len, vec_capacity, is_none, IsOk, IfOk, IfErr, OnOk, OnErr, IfSome};
+ghost use Rattle.std.specs.Prelude.{◌≡◌, ◌+◌, ◌<◌, ◌≤◌, ◌^◌, ◌++◌, ◌∷◌, [], false, length, Ok, vec_len, vec_capacity, is_none, IsOk, IfOk, IfErr, OnOk, OnErr, IfSome};
 ghost use Rattle.acc_base.specs.declared.faults.Fault.TheVariants.{Memory};
 ghost use Rattle.acc_base.specs.Limits.{recorded};
 ghost use Rattle.acc_base.specs.Bytes.{host_after_write};
@@ -129,12 +129,11 @@ fn make_room(
     Ok(List::from_vec(did))
 }
 
-/// Does a directive on the device of the store for which this was planned and room was made, and which is not idle, and answers the reply.
+/// Does a directive for which this was planned and room was made, and which is not idle, and answers the reply.
 fn commit(
     store: &mut Store,
     trace: &mut Vec<Event>,
     plan: &Plan,
-    device: u64,
     directive: Directive,
     did: List<Did>,
 ) -> Reply
@@ -145,12 +144,12 @@ fn commit(
     requires busy { is_idle directive store.old.state ≡ false }
     requires room { HasPlanRoom directive plan.now store.old.room }
     requires place { vec_len trace.old < vec_capacity trace.old }
-    ensures done { IsCommitted (planned_verdict device directive plan.now store.old) result store.old store.new trace.old.items trace.new.items }
+    ensures done { IsCommitted (planned_verdict directive plan.now store.old) result store.old store.new trace.old.items trace.new.items }
 {
     let number = number_told(store, &directive);
     let reply = reply_told(&directive, number);
     store.commit(&directive, plan);
-    trace.push_reserved(event_told(device, directive, number, did));
+    trace.push_reserved(event_told(store.number(), directive, number, did));
     reply
 }
 
@@ -159,7 +158,7 @@ fn commit(
 ///
 /// # Errors
 ///
-/// The first refusal of the directive's items, or [`Fault::Memory`] where there is none.
+/// What the store refuses to plan, or [`Fault::Memory`] where there is no such refusal.
 fn prepare(
     store: &mut Store,
     trace: &mut Vec<Event>,
@@ -168,13 +167,13 @@ fn prepare(
 ) -> Result<Option<List<Did>>, Fault>
     requires births { store.old.state.records.births + 64 ≤ 2 ^ 48 }
     ensures same { IsAsBefore store.old store.new trace.old.items trace.new.items }
-    ensures judged { (device : ℕ) → OnOk result (plan_of store.old.limits device directive.now store.old.state ≡ Ok (planned_verdict device directive.now plan.new store.old)) }
+    ensures judged { OnOk result (plan_of store.old.limits directive.now store.old.state ≡ Ok (planned_verdict directive.now plan.new store.old)) }
     ensures planned { OnOk result (IsPlanOf store.new.limits directive.now store.new.state plan.new) }
     ensures idle { IfOk result (λ did. is_none did ≡ is_idle directive.now store.old.state) }
     ensures did { IfOk result (λ told. IfSome told (λ did. did ≡ plan.new.written)) }
     ensures room { IfOk result (λ told. IfSome told (λ _. HasPlanRoom directive.now plan.new store.new.room)) }
     ensures place { IfOk result (λ told. IfSome told (λ _. vec_len trace.new < vec_capacity trace.new)) }
-    ensures refused { (device : ℕ) → IfErr result (MayBeToldOf (plan_of store.old.limits device directive.now store.old.state)) }
+    ensures refused { IfErr result (MayBeToldOf (plan_of store.old.limits directive.now store.old.state)) }
 {
     store.plan(directive, plan)?;
     if is_idle(store, directive) {
@@ -183,31 +182,30 @@ fn prepare(
     Ok(Some(make_room(store, trace, directive, plan)?))
 }
 
-/// Judges a directive on the device that the store has, makes room for it, does it and stores its event, and answers the
+/// Judges a directive, makes room for it, does it and stores its event, and answers the
 /// reply.
 ///
 /// # Errors
 ///
-/// The first refusal of the directive's items, or [`Fault::Memory`] where there is none. The directive comes back, and
+/// What the store refuses to plan, or [`Fault::Memory`] where there is no such refusal. The directive comes back, and
 /// nothing changed.
 pub fn carry_out(
     store: &mut Store,
     trace: &mut Vec<Event>,
     plan: &mut Plan,
-    device: u64,
     directive: Directive,
 ) -> Result<Reply, (Directive, Fault)>
     requires births { store.old.state.records.births + 64 ≤ 2 ^ 48 }
     requires regions { store.old.state.register.next < 2 ^ 48 }
-    ensures judged { OnOk result (plan_of store.old.limits device directive store.old.state ≡ Ok (planned_verdict device directive plan.new store.old)) }
+    ensures judged { OnOk result (plan_of store.old.limits directive store.old.state ≡ Ok (planned_verdict directive plan.new store.old)) }
     ensures planned { OnOk result (IsPlanOf store.old.limits directive store.old.state plan.new) }
-    ensures done { IfOk result (λ reply. IsCommitted (planned_verdict device directive plan.new store.old) reply store.old store.new trace.old.items trace.new.items) }
+    ensures done { IfOk result (λ reply. IsCommitted (planned_verdict directive plan.new store.old) reply store.old store.new trace.old.items trace.new.items) }
     ensures back { IfErr result (λ back. back.0 ≡ directive) }
-    ensures refused { IfErr result (λ back. MayBeToldOf (plan_of store.old.limits device directive store.old.state) back.1) }
+    ensures refused { IfErr result (λ back. MayBeToldOf (plan_of store.old.limits directive store.old.state) back.1) }
     ensures same { OnErr result (IsAsBefore store.old store.new trace.old.items trace.new.items) }
 {
     match prepare(store, trace, plan, &directive) {
-        Ok(Some(did)) => Ok(commit(store, trace, plan, device, directive, did)),
+        Ok(Some(did)) => Ok(commit(store, trace, plan, directive, did)),
         Ok(None) => Ok(Reply::Idle),
         Err(fault) => Err((directive, fault)),
     }

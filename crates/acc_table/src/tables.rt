@@ -203,7 +203,7 @@ impl Table {
         let kept = &mut *self.kept;
         kept.devices.select(device);
         let store = &mut kept.devices.store;
-        carry_out(store, &mut kept.trace, &mut kept.plan, device, directive)
+        carry_out(store, &mut kept.trace, &mut kept.plan, directive)
     }
 
     /// There is a ticket for one more event.
@@ -329,7 +329,6 @@ impl Table {
         lend(
             &mut kept.devices.store,
             &mut kept.trace,
-            device,
             region,
             section,
             loan,

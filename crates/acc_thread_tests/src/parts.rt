@@ -67,7 +67,7 @@ fn run_eight<R: Threads + Wait + Sync + AllocGlobal, K: Pointwise + Sync, G: Gat
 ) -> Result<Vec<u8>, Fault> {
     let cuts = Cuts::even(rt.alloc(), 8, 4)?;
     let bytes = vec![in rt.alloc(); 0u8; 8]?;
-    let mut lease = Lease::of(0, 1, 1, 0, 8, bytes);
+    let mut lease = Lease::of(1, 1, 0, 8, bytes, 0);
     run_parts(rt, &mut lease, &cuts, kernel, &[], gate);
     Ok(lease.into_block())
 }

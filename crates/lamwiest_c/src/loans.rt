@@ -30,7 +30,7 @@ fn take_lease(alloc: Global, leases: &mut Vec<Lease>, at: usize) -> Lease
     ensures left { leases.new.items ≡ slice_set leases.old.items at lease_of_nothing }
     ensures len { vec_len leases.new ≡ vec_len leases.old }
 {
-    let nothing = Lease::of(0, 0, 0, 0, 0, Vec::new(alloc));
+    let nothing = Lease::of(0, 0, 0, 0, Vec::new(alloc), 0);
     mem::replace(&mut leases[at], nothing)
 }
 

@@ -1,5 +1,6 @@
-use Rattle.std.proofs.Common.{◌≡◌, sym, ◌∙◌, ap, subst, List, [], ◌∷◌, ◌++◌}
+use Rattle.std.proofs.Common.{ℕ, ◌≡◌, sym, ◌∙◌, ap, subst, List, [], ◌∷◌, ◌++◌}
 use Rattle.acc_clauses.specs.Words.{Did, Event}
+use Rattle.acc_base.specs.Limits.{Limits}
 use Rattle.acc_base.specs.Judge.{Verdict, Makes, verdict_of}
 use Rattle.acc_clauses.specs.Planned.{in_written_order, state_by}
 use Rattle.acc_table.specs.Making.{number_told, event_told, reply_told, IsCommitted}
@@ -8,7 +9,8 @@ use Rattle.acc_table.proofs.making.commit.Goals as goal
 
 pub returns : goal.returns
 returns c =
-    let k = c.args.device in
+    let k : ℕ = c.args.store.now.limits.number in
+    let own : c.number.result ≡ k = c.number.ensures ∙ ap (λ (l : Limits). l.number) c.commit.ensures.limits in
     let d = c.args.directive in
     let s = c.args.store.now.state in
     let dids : List Did = c.args.plan.now.dids in
@@ -19,7 +21,7 @@ returns c =
       done = subst (λ (v : Verdict). IsCommitted v c.reply_told-reply.result c.args.store.now c.commit.new.self c.args.trace.now.items c.push_reserved.new.self.items) (sym made) (record {
         reply = c.reply_told-reply.ensures ∙ (ap (reply_told d) c.number_told-number.ensures ∙ replied k d (number_told d s) c.args.did s);
         limits = c.commit.ensures.limits;
-        state = c.commit.ensures.state k ∙ ap (λ (v : Verdict). state_by c.args.store.now.limits.full v s) made;
-        trace = c.push_reserved.ensures.items ∙ ap (λ (e : Event). c.args.trace.now.items ++ e ∷ []) (c.event_told.ensures ∙ ap (λ n. event_told k d n c.args.did) c.number_told-number.ensures);
+        state = c.commit.ensures.state ∙ ap (λ (v : Verdict). state_by c.args.store.now.limits.full v s) made;
+        trace = c.push_reserved.ensures.items ∙ ap (λ (e : Event). c.args.trace.now.items ++ e ∷ []) (c.event_told.ensures ∙ (ap (λ m. event_told m d c.number_told-number.result c.args.did) own ∙ ap (λ n. event_told k d n c.args.did) c.number_told-number.ensures));
       });
     }

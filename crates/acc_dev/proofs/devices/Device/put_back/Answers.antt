@@ -1,6 +1,7 @@
 use Rattle.std.proofs.Common.{◌≡◌, ℕ, Option, true, false, refl, sym, ap, ◌∙◌, subst}
 use Rattle.std.specs.Prelude.{is_some}
 use Rattle.std.proofs.lemmas.Bool.{false≢true}
+use Rattle.acc_base.specs.Limits.{number_at}
 use Rattle.acc_base.specs.Leases.{is_returnable}
 use Rattle.acc_dev.specs.Room.{room_ready}
 use Rattle.acc_dev.specs.Device.{DeviceState, IsPutBack}
@@ -18,8 +19,8 @@ slot_back-requires-clause-backed c = c.self.invariant.0.backed
 
 pub returns-in_default-clause-fits : goal.returns-in_default-clause-fits
 returns-in_default-clause-fits c =
-    let told = c.slot_back.ensures.returnable in
-    let not = subst (λ (d : DeviceState). is_returnable c.args.kept c.args.lease d.blocks d.loans d.memories ≡ false) c.self.view_is (sym told ∙ ap (λ (o : Option ℕ). is_some o) c.in_default.is) in
+    let told = rw c.number.ensures at c.slot_back.ensures.returnable in
+    let not = subst (λ (d : DeviceState). is_returnable c.args.kept (number_at c.args.self.now.memory.start) c.args.lease d.blocks d.loans d.memories ≡ false) c.self.view_is (sym told ∙ ap (λ (o : Option ℕ). is_some o) c.in_default.is) in
     (λ e. absurd (false≢true e), λ e. sym not ∙ e)
 
 pub restore_at-requires : goal.restore_at-requires
@@ -42,8 +43,8 @@ invariant_of-self c =
 
 pub returns-clause-fits : goal.returns-clause-fits
 returns-clause-fits c =
-    let told = c.slot_back.ensures.returnable in
-    (λ e. subst (λ (d : DeviceState). is_returnable c.args.kept c.args.lease d.blocks d.loans d.memories ≡ true) c.self.view_is (sym told ∙ ap (λ (o : Option ℕ). is_some o) c.in-Some.is), λ e. refl)
+    let told = rw c.number.ensures at c.slot_back.ensures.returnable in
+    (λ e. subst (λ (d : DeviceState). is_returnable c.args.kept (number_at c.args.self.now.memory.start) c.args.lease d.blocks d.loans d.memories ≡ true) c.self.view_is (sym told ∙ ap (λ (o : Option ℕ). is_some o) c.in-Some.is), λ e. refl)
 
 pub returns-clause-put : goal.returns-clause-put
 returns-clause-put c =

@@ -1,6 +1,7 @@
 use Rattle.std.proofs.lemmas.Result.{err_from_is_err_and}
 use Rattle.std.proofs.Common.{◌≡◌, ◌+◌, ◌≤◌, List, ℕ, true, false, None, get_or, refl, sym, ap, ◌∙◌, subst, inl, inr}
 use Rattle.std.proofs.lemmas.Bool.{false≢true}
+use Rattle.acc_base.specs.Limits.{number_at}
 use Rattle.acc_base.specs.Bytes.{bytes_of}
 use Rattle.acc_base.specs.Loans.{Leased, is_lent, len_of}
 use Rattle.acc_dev.specs.Room.{room_ready}
@@ -74,7 +75,9 @@ returns-clause-lease c =
     let slot = c.slot_of_block-slot.ensures in
     let bytes = bytes_at s.slab.slots s.index.entries c.args.block c.slot_of_block-slot.result c.self.invariant.0.rising slot in
     let now = subst (λ (d : DeviceState). bytes_of c.args.block d.memories ≡ stored_bytes (get_or s.slab.slots c.slot_of_block-slot.result None)) c.self.view_is bytes in
-    c.lend_at.ensures.lease ∙ ap (λ (b : List ℕ). let l : Leased = record { device = c.args.device; serial = c.args.serial; block = c.args.block; offset = c.args.offset; len = c.args.len; bytes = b } in l) (sym now)
+    c.lend_at.ensures.lease
+    ∙ (ap (λ (n : ℕ). let l : Leased = record { device = n; serial = c.args.serial; block = c.args.block; offset = c.args.offset; len = c.args.len; bytes = stored_bytes (get_or s.slab.slots c.slot_of_block-slot.result None) } in l) c.number-device.ensures
+    ∙ ap (λ (b : List ℕ). let l : Leased = record { device = number_at c.args.self.now.memory.start; serial = c.args.serial; block = c.args.block; offset = c.args.offset; len = c.args.len; bytes = b } in l) (sym now))
 
 pub returns-clause-out : goal.returns-clause-out
 returns-clause-out c =

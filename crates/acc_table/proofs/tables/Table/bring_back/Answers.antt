@@ -50,7 +50,7 @@ take_back-requires-clause-ready c =
     let back : IsBackAt c.args.serial c.args.bytes c.args.leases.now.items c.in-Some.at c.index-lease.result.now = back_at c.deref.ensures.value c.place_of.ensures c.in-Some.is c.index-lease.ensures in
     let lease : IsReturned w c.args.serial c.args.bytes c.args.leases.now.items c.in-Some.at c.overwrite.new.self = returned back c.remove-lease.ensures.value c.overwrite.ensures c.as_slice.ensures t.same c.laws.ensures c.in_ok-admit_lease.ensures.judged in
     let on : c.overwrite.new.self.device ≡ x.current = sym (c.select.ensures.current ∙ c.device.ensures) in
-    of_view l x c.overwrite.new.self.device (λ n m s. gather_event m.full c.overwrite.new.self s ≡ Ok (gathered m.full c.overwrite.new.self)) t.set (sym on) lease.event
+    of_view l x c.overwrite.new.self.device (λ m s. gather_event m c.overwrite.new.self s ≡ Ok (gathered m.full c.overwrite.new.self)) t.set (sym on) lease.event
 
 pub take_back-requires-clause-stored : goal.take_back-requires-clause-stored
 take_back-requires-clause-stored c =

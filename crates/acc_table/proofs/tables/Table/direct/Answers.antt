@@ -59,10 +59,8 @@ invariant_of-self c =
     let longer : List Event = c.carry_out.new.trace.items in
     let for : x.current ≡ device_for d (whole_of x) = c.select.ensures.current ∙ (c.in-Ok.ensures.0 ∙ ap (λ (w : World). device_for d w.state) (sym t.same)) in
     let ok : admitted (world_in l base x trace) d ≡ Ok tt = subst (λ (w : World). admitted w d ≡ Ok tt) (sym t.same) c.in-Ok.ensures.1 in
-    let told : OnOk r (plan_of x.store.limits x.current d x.store.state ≡ Ok (planned_verdict x.current d p x.store)) = subst (λ k. OnOk r (plan_of x.store.limits k d x.store.state ≡ Ok (planned_verdict k d p x.store))) (sym c.select.ensures.current) c.carry_out.ensures.judged in
-    let judged : OnOk r (judge (world_in l base x trace) (Do d) ≡ Ok (planned_verdict x.current d p x.store)) = directive_judged l base x d p trace r t.set for ok told in
-    let done : IfOk r (λ reply. IsCommitted (planned_verdict x.current d p x.store) reply x.store new trace longer) = subst (λ k. IfOk r (λ reply. IsCommitted (planned_verdict k d p x.store) reply x.store new trace longer)) (sym c.select.ensures.current) c.carry_out.ensures.done in
-    kept_carried l base x new d p trace longer r t.set t.kept c.carry_out.ensures.planned judged done c.carry_out.ensures.same
+    let judged : OnOk r (judge (world_in l base x trace) (Do d) ≡ Ok (planned_verdict d p x.store)) = directive_judged l base x d p trace r t.set for ok c.carry_out.ensures.judged in
+    kept_carried l base x new d p trace longer r t.set t.kept c.carry_out.ensures.planned judged c.carry_out.ensures.done c.carry_out.ensures.same
 
 pub returns-clause-done : goal.returns-clause-done
 returns-clause-done c =
@@ -79,10 +77,8 @@ returns-clause-done c =
     let longer : List Event = c.carry_out.new.trace.items in
     let for : x.current ≡ device_for d (whole_of x) = c.select.ensures.current ∙ (c.in-Ok.ensures.0 ∙ ap (λ (w : World). device_for d w.state) (sym t.same)) in
     let ok : admitted (world_in l base x trace) d ≡ Ok tt = subst (λ (w : World). admitted w d ≡ Ok tt) (sym t.same) c.in-Ok.ensures.1 in
-    let told : OnOk r (plan_of x.store.limits x.current d x.store.state ≡ Ok (planned_verdict x.current d p x.store)) = subst (λ k. OnOk r (plan_of x.store.limits k d x.store.state ≡ Ok (planned_verdict k d p x.store))) (sym c.select.ensures.current) c.carry_out.ensures.judged in
-    let judged : OnOk r (judge (world_in l base x trace) (Do d) ≡ Ok (planned_verdict x.current d p x.store)) = directive_judged l base x d p trace r t.set for ok told in
-    let done : IfOk r (λ reply. IsCommitted (planned_verdict x.current d p x.store) reply x.store new trace longer) = subst (λ k. IfOk r (λ reply. IsCommitted (planned_verdict k d p x.store) reply x.store new trace longer)) (sym c.select.ensures.current) c.carry_out.ensures.done in
-    subst (λ (w : World). IfOk r (λ reply. IsDone w (Do d) reply (world_in l base (with_store x new) longer))) t.same (directive_done l base x new d p trace longer r t.set judged done)
+    let judged : OnOk r (judge (world_in l base x trace) (Do d) ≡ Ok (planned_verdict d p x.store)) = directive_judged l base x d p trace r t.set for ok c.carry_out.ensures.judged in
+    subst (λ (w : World). IfOk r (λ reply. IsDone w (Do d) reply (world_in l base (with_store x new) longer))) t.same (directive_done l base x new d p trace longer r t.set judged c.carry_out.ensures.done)
 
 pub returns-clause-refused : goal.returns-clause-refused
 returns-clause-refused c =
@@ -96,5 +92,4 @@ returns-clause-refused c =
     let r : Result Reply (Directive × Fault) = c.carry_out.result in
     let for : x.current ≡ device_for d (whole_of x) = c.select.ensures.current ∙ (c.in-Ok.ensures.0 ∙ ap (λ (w : World). device_for d w.state) (sym t.same)) in
     let ok : admitted (world_in l base x trace) d ≡ Ok tt = subst (λ (w : World). admitted w d ≡ Ok tt) (sym t.same) c.in-Ok.ensures.1 in
-    let told : IfErr r (λ back. MayBeToldOf (plan_of x.store.limits x.current d x.store.state) back.1) = subst (λ k. IfErr r (λ back. MayBeToldOf (plan_of x.store.limits k d x.store.state) back.1)) (sym c.select.ensures.current) c.carry_out.ensures.refused in
-    subst (λ (w : World). IfErr r (λ back. IsRefusal w (Do d) back.1)) t.same (directive_refused l base x d trace r t.set for ok told)
+    subst (λ (w : World). IfErr r (λ back. IsRefusal w (Do d) back.1)) t.same (directive_refused l base x d trace r t.set for ok c.carry_out.ensures.refused)

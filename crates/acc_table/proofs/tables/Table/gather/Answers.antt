@@ -2,7 +2,7 @@ use Rattle.std.proofs.Common.{◌≡◌, ◌∙◌, refl, sym, ap, subst, List, 
 use Rattle.std.specs.Prelude.{IfOk}
 use Rattle.acc_clauses.specs.Words.{Event}
 use Rattle.acc_base.specs.declared.calls.Call.TheVariants.{Gather}
-use Rattle.acc_base.specs.Limits.{Limits}
+use Rattle.acc_base.specs.Limits.{Limits, limits_on}
 use Rattle.acc_base.specs.Loans.{Leased}
 use Rattle.acc_base.specs.Calls.{Base, World, judge}
 use Rattle.acc_base.specs.Judge.{Makes, gathered, gather_event}
@@ -38,8 +38,8 @@ gather-requires-clause-ready c =
     let t : AreDevicesOf l base x trace c.args.self.now = selected l base c.deref_mut-kept.result.now.devices x trace c.args.self.now (o.kept, o.set) o.same (c.select.ensures.set l o.set) c.select.ensures.same in
     let lease : Leased = c.args.lease in
     let on : x.current ≡ lease.device = c.select.ensures.current ∙ c.device.ensures in
-    let ready = subst (λ (w : World). gather_event w.limits.full lease (view lease.device w.state) ≡ Ok (gathered w.limits.full lease)) (sym t.same) c.in-Ok.ensures.judged.0 in
-    of_view l x lease.device (λ n m s. gather_event m.full lease s ≡ Ok (gathered m.full lease)) t.set on ready
+    let ready = subst (λ (w : World). gather_event (limits_on lease.device w.limits) lease (view lease.device w.state) ≡ Ok (gathered w.limits.full lease)) (sym t.same) c.in-Ok.ensures.judged.0 in
+    of_view l x lease.device (λ m s. gather_event m lease s ≡ Ok (gathered m.full lease)) t.set on ready
 
 pub invariant_of-self : goal.invariant_of-self
 invariant_of-self c =

@@ -15,6 +15,7 @@ pub struct Area {
     pub height: u64,
 }
 
+/// A place in the picture, in pixels.
 #[derive(Clone, Copy)]
 pub struct Point {
     /// How far from the left.

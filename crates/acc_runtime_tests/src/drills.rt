@@ -255,6 +255,7 @@ impl<
         Fault::Memory
     }
 
+    /// Makes a drill with what goes on around it, and compares what it answers and leaves.
     pub fn run_drill(&mut self, drilling: Drilling) -> Result<(), Fault> {
         let (_, work, around, wanted, kept) = drilling;
         let found = numbers(self.drill_as(work, around));

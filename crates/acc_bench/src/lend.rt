@@ -43,7 +43,6 @@ pub enum Work {
     Loop,
 }
 
-/// Adds a number to each byte, modulo 256, and answers the first.
 fn add_to_each(bytes: &mut [u8], number: u8) -> u64 {
     for byte in bytes.iter_mut() {
         *byte = byte.wrapping_add(number);
@@ -51,7 +50,6 @@ fn add_to_each(bytes: &mut [u8], number: u8) -> u64 {
     bytes.first().map(|byte| u64::from(*byte)).unwrap_or(0)
 }
 
-/// Runs `Add` over a loan in so many parts, where there is memory for their lengths.
 fn add<R: Threads + Wait + Sync + AllocGlobal>(rt: &R, lease: &mut Lease, parts: usize) {
     if let Ok(cuts) = Cuts::even(rt.alloc(), lease.len(), parts) {
         run_parts(rt, lease, &cuts, &Add(3), &[], &Open);
@@ -82,7 +80,6 @@ impl Loans {
         self.device.take_out(0, 1, serial, 0, len, false)
     }
 
-    /// Brings the block back.
     fn put_back(&mut self, lease: Lease) -> Result<u64, Fault> {
         match self.device.put_back(lease, false) {
             Ok(()) => Ok(0),
@@ -102,7 +99,6 @@ pub fn run<R: Print + Clock + Threads + Wait + Sync + AllocGlobal>(rt: &R) -> Re
     Ok(())
 }
 
-/// Measures a block of so many bytes.
 fn measure<R: Print + Clock + Threads + Wait + Sync + AllocGlobal>(rt: &R, len: u64) -> Result<()>
     requires { IsFromOne MEMORY_MAX len }
 {
@@ -128,7 +124,6 @@ fn repeat<R: Threads + Wait + Sync + AllocGlobal>(
     Ok(found)
 }
 
-/// Makes the round of a number, and returns a byte that it found.
 fn round<R: Threads + Wait + Sync + AllocGlobal>(
     rt: &R,
     loans: &mut Loans,

@@ -1,5 +1,5 @@
-//! Measures the library: `acc_bench NAME` prints how long the calls of one crate take, and what threads that share a table
-//! come to. Without a name it prints a usage line, which lists the names.
+//! Measures the library: `acc_bench NAME` prints how long the calls of one crate take, or threads that share a table.
+//! Without a name it prints a usage line, which lists the names.
 #![tactic(auto)]
 
 mod lend;
@@ -24,7 +24,6 @@ fn main(rt: HostRuntime) -> Result<()> {
     }
 }
 
-/// Measures what has this name.
 fn measure<R: Print + Clock + Threads + Wait + Sync + AllocGlobal>(
     rt: &R,
     name: &str,
@@ -41,7 +40,6 @@ fn measure<R: Print + Clock + Threads + Wait + Sync + AllocGlobal>(
     }
 }
 
-/// Prints how the program is called.
 fn tell_usage<R: Print>(rt: &R) -> Result<()> {
     println!(rt; "usage: acc_bench present|table|script|lend|pairs|drills|crowd")?;
     Ok(())

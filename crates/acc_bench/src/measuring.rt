@@ -65,7 +65,6 @@ pub fn tell_since<R: Print + Clock>(
     tell(rt, place, count, name, taken)
 }
 
-/// Prints how long something lasts, beside how many others.
 fn tell<R: Print>(rt: &R, place: &str, count: u64, name: &str, taken: Duration) -> Result<()> {
     println!(rt; "{place} {count}: {name} {taken:?}")?;
     Ok(())
@@ -79,7 +78,6 @@ pub fn run<S: Subject, R: Print + Clock + AllocGlobal>(rt: &R) -> Result<()> {
     Ok(())
 }
 
-/// Measures a new subject.
 fn measure<S: Subject, R: Print + Clock + AllocGlobal>(rt: &R, count: u64) -> Result<()> {
     let mut subject = S::make(rt.alloc(), count)?;
     for (name, work) in S::ROWS {
@@ -89,7 +87,6 @@ fn measure<S: Subject, R: Print + Clock + AllocGlobal>(rt: &R, count: u64) -> Re
     Ok(())
 }
 
-/// The least time of a round.
 fn least_time<S: Subject, R: Clock + AllocGlobal>(
     rt: &R,
     subject: &mut S,

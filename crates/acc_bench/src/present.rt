@@ -30,7 +30,6 @@ fn start_at(place: u64) -> u64 {
 }
 
 impl Mapped {
-    /// Maps all ranges.
     fn fill(&mut self) -> Result<(), Fault> {
         for place in 0..self.count {
             self.map(start_at(place))?;

@@ -10,7 +10,7 @@ use std::sync::Wait;
 use std::thread::Threads;
 use std::time::Instant;
 
-/// Prints how long a script takes that maps arrays of 16 bytes one after the other, and reports them all.
+/// Prints how long scripts take that map arrays of 16 bytes one after the other, and report them all.
 pub fn run<R: Print + Clock + Threads + Wait + Sync + AllocGlobal>(rt: &R) -> Result<()> {
     for count in [1_000, 32_000, 64_000] {
         measure(rt, count)?;
@@ -18,7 +18,6 @@ pub fn run<R: Print + Clock + Threads + Wait + Sync + AllocGlobal>(rt: &R) -> Re
     Ok(())
 }
 
-/// Measures the script of so many arrays.
 fn measure<R: Print + Clock + Threads + Wait + Sync + AllocGlobal>(
     rt: &R,
     count: u64,
@@ -35,7 +34,6 @@ fn measure<R: Print + Clock + Threads + Wait + Sync + AllocGlobal>(
     )
 }
 
-/// The text of a script of so many arrays.
 fn text_of(alloc: Global, count: u64) -> Result<String, AllocError> {
     let mut text = String::new(alloc);
     for number in 0..count {
@@ -45,7 +43,6 @@ fn text_of(alloc: Global, count: u64) -> Result<String, AllocError> {
     Ok(text)
 }
 
-/// Runs a script.
 fn play<R: Threads + Wait + Sync + AllocGlobal>(rt: &R, text: &str) -> Result<(), Fault> {
     let mut reader = MemorySource::new(text.as_bytes());
     let mut writer = MemorySink::new(rt.alloc());

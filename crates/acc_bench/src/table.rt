@@ -31,7 +31,7 @@ pub enum Work {
     IsPresent,
 }
 
-/// The 16 bytes of a number, counted from 0. Between those of two numbers are 16 others.
+/// The section of the 16 bytes of a number, counted from 0. Between those of two numbers are 16 others.
 pub fn section_at(number: u64) -> Section {
     Section {
         start: HOST_BASE.wrapping_add(number.wrapping_mul(32)),
@@ -57,7 +57,6 @@ pub fn items<C: Copy + Drop>(
     Ok(items)
 }
 
-/// Carries out a directive.
 fn apply(table: &mut Table, directive: Directive) -> Result<u64, Fault> {
     match table.apply(Call::Do(directive)) {
         Ok(reply) => {
@@ -115,18 +114,15 @@ fn update(table: &mut Table, alloc: Global, at: u64, queue: Option<u64>) -> Resu
     )
 }
 
-/// A wait for all queues.
 fn wait() -> Directive {
     let (device, queue) = (0, None);
     Directive::Wait { device, queue }
 }
 
-/// A new table.
 fn new_table(alloc: Global) -> Result<Box<Table>, Fault> {
     Ok(Box::new(alloc, Table::new(alloc, largest()?)?)?)
 }
 
-/// Maps so many ranges.
 fn map_all(table: &mut Table, alloc: Global, count: u64) -> Result<(), Fault> {
     for number in 0..count {
         apply(table, enter_data(alloc, number, 1)?)?;

@@ -45,7 +45,6 @@ pub fn run<R: Print + Clock + Threads + Wait + Sync + AllocGlobal>(
     Ok(())
 }
 
-/// The rounds of so many threads, on a new runtime with these limits.
 fn play<
     Regions: Ledger + Send + Sync,
     Tickets: Ledger + Send + Sync,
@@ -165,14 +164,12 @@ impl<Regions: Ledger, Tickets: Ledger, Events: Ledger, R: Wait + AllocGlobal> Th
         self.unmap()
     }
 
-    /// Maps the bytes.
     fn map(&mut self) -> Result<(), Fault> {
         let items = items(self.rt.alloc(), EnterClause::Copyin, self.number, 1)?;
         self.runtime
             .enter_data(self.rt, self.caller, 0, items, None)
     }
 
-    /// Unmaps the bytes.
     fn unmap(&mut self) -> Result<(), Fault> {
         let items = items(self.rt.alloc(), ExitClause::Delete, self.number, 1)?;
         self.runtime

@@ -12,7 +12,7 @@ use std::sync::Wait;
 use std::sync::ledger::Ledger;
 use std::thread::Threads;
 
-/// Makes a drill on a new runtime, and writes the line that tells what it left.
+/// Makes a drill of `threads` threads with `rounds` rounds each on a new runtime, and writes the line of what it left.
 ///
 /// # Errors
 ///
@@ -36,7 +36,6 @@ pub fn run_drill<R: Threads + Wait + Sync + AllocGlobal, O: Sink>(
     }
 }
 
-/// Makes a drill on a new runtime for three ledgers.
 fn drilled<
     Regions: Ledger + Send + Sync,
     Tickets: Ledger + Send + Sync,
@@ -53,7 +52,6 @@ fn drilled<
     drill(rt, &runtime, &mut caller, threads, rounds, &Open)
 }
 
-/// Writes the line that tells what a drill left, in one piece; false where that failed.
 fn write_left<O: Sink>(out: &mut O, left: Drilled) -> bool {
     // The longest line has 118 bytes: that with four numbers of 20 digits.
     let mut line = ArrayString::<120>::new();

@@ -12,11 +12,11 @@ use std::fmt::{self, Write};
 /// Why the program ends with status 2.
 #[derive(Clone, Copy)]
 pub enum Mishap<'a> {
-    /// A fault of a run.
+    /// A fault of a run, or of the limits.
     Fault(Fault),
-    /// A file of this name cannot be read.
+    /// A file of this name cannot be read, or has more than 16,777,216 bytes.
     Unread(&'a str),
-    /// The line of a number cannot be emitted.
+    /// The line of a number cannot be emitted as C, and why.
     Unfit(u64, Reason),
     /// A picture's file of this name cannot be written; with the number of its line, where it is one of many.
     Unwritten(&'a str, Option<u64>),
@@ -49,7 +49,6 @@ pub fn tell_mishap<E: Sink>(alloc: Global, err: &mut E, mishap: Mishap<'_>) {
     }
 }
 
-/// Writes what cannot be done with a file.
 fn tell_file<E: Sink>(alloc: Global, err: &mut E, words: &str, name: &str, line: Option<u64>) {
     let mut page = Page::new(alloc);
     page.text(words);
@@ -61,7 +60,6 @@ fn tell_file<E: Sink>(alloc: Global, err: &mut E, words: &str, name: &str, line:
     let _ = write_all(err, page.as_slice());
 }
 
-/// Writes that the line of a number cannot be emitted, in one piece and without memory.
 fn tell_unfit<E: Sink>(err: &mut E, number: u64, reason: &str) {
     // The longest line has 103 bytes: that of `Unsettled` with a number of 20 digits.
     let mut line = ArrayString::<112>::new();
@@ -77,7 +75,6 @@ pub fn tell<E: Sink>(err: &mut E, fault: Fault) {
     let _ = write_all(err, line.as_bytes());
 }
 
-/// Writes the line of a fault: of a script's fault, where it is and what it is.
 fn write_fault<W: Write>(line: &mut W, fault: Fault) -> fmt::Result {
     match fault {
         Fault::Script { line: number, kind } => writeln!(line, "accrun: line {number}: {kind}"),
@@ -98,7 +95,6 @@ fn put_place(page: &mut Page, line: u64) {
     let _ = writeln!(page, "accrun: line {line} of the output is not as expected");
 }
 
-/// Puts a line of one of the outputs, or that it has ended.
 fn put_line(page: &mut Page, whose: &str, line: Option<&[u8]>) {
     page.text(whose);
     match line {

@@ -6,7 +6,7 @@ use std::fs::{self, OpenFile};
 use std::io::Write;
 use std::rt::Files;
 
-/// Where files are.
+/// Reads and writes whole files by their names.
 pub trait FileStore {
     /// The bytes of a file.
     ///
@@ -15,8 +15,8 @@ pub trait FileStore {
     /// [`Fault::Read`] where it cannot be read, or has more than 16,777,216 bytes; [`Fault::Memory`].
     fn read(&self, name: &str) -> Result<Vec<u8>, Fault>;
 
-    /// Makes a file of some bytes, in place of one that has that name; false where that failed, and then no half of it
-    /// stays.
+    /// Makes a file of these bytes, in place of one that has that name; false where that failed. A half that was
+    /// written is removed again, if it is a regular file.
     fn write(&self, name: &str, bytes: &[u8]) -> bool;
 }
 
@@ -47,7 +47,7 @@ impl<R: Files + AllocGlobal> FileStore for Disk<'_, R> {
     }
 }
 
-/// Removes a file that could be written in part alone; what is no regular file stays.
+/// What is no regular file, as a terminal or a pipe, is no half of a picture and stays.
 fn remove_half<R: Files>(rt: &R, name: &str, file: &R::File) {
     if let Ok(metadata) = file.metadata() {
         if metadata.is_file() {

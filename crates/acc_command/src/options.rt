@@ -51,7 +51,6 @@ pub struct Options<'a> {
     pub drill: Option<u64>,
 }
 
-/// An option that takes the size of a memory.
 fn size_option<'a>(alloc: Global, name: &'a str, help: &'a str) -> Arg<'a> {
     Arg::new(alloc, name)
         .long(name)
@@ -62,7 +61,6 @@ fn size_option<'a>(alloc: Global, name: &'a str, help: &'a str) -> Arg<'a> {
         .default_value("65536")
 }
 
-/// The option of how many devices there are.
 fn devices_option<'a>(alloc: Global) -> Arg<'a> {
     Arg::new(alloc, "devices")
         .long("devices")
@@ -73,7 +71,6 @@ fn devices_option<'a>(alloc: Global) -> Arg<'a> {
         .default_value("1")
 }
 
-/// The option of how many threads each kernel works in, or the drill has.
 fn threads_option<'a>(alloc: Global) -> Arg<'a> {
     Arg::new(alloc, "threads")
         .long("threads")
@@ -84,7 +81,6 @@ fn threads_option<'a>(alloc: Global) -> Arg<'a> {
         .default_value("1")
 }
 
-/// The option of a drill.
 fn drill_option<'a>(alloc: Global) -> Arg<'a> {
     Arg::new(alloc, "drill")
         .long("drill")
@@ -94,7 +90,6 @@ fn drill_option<'a>(alloc: Global) -> Arg<'a> {
         .value_parser(value_parser!(u64).range(1..=1_000))
 }
 
-/// The option of what the trace keeps of each event.
 fn trace_option<'a>(alloc: Global) -> Arg<'a> {
     Arg::new(alloc, "trace")
         .long("trace")
@@ -106,14 +101,12 @@ fn trace_option<'a>(alloc: Global) -> Arg<'a> {
         .default_value("counts")
 }
 
-/// The file that has the script.
 fn file_argument<'a>(alloc: Global) -> Arg<'a> {
     Arg::new(alloc, "FILE")
         .help("The script, in place of standard input")
         .action(ArgAction::Set)
 }
 
-/// The option of the file that the output is compared with.
 fn expect_option<'a>(alloc: Global) -> Arg<'a> {
     Arg::new(alloc, "expect")
         .long("expect")
@@ -125,7 +118,7 @@ fn expect_option<'a>(alloc: Global) -> Arg<'a> {
 /// The languages that a script can be emitted in.
 const LANGUAGES: &[&str] = &["c"];
 
-/// What belongs to a run, and so does not go with a program that is emitted.
+/// Options of runs, which do not go with a program that is emitted.
 const OF_RUNS: &[&str] = &[
     "echo",
     "json",
@@ -136,7 +129,6 @@ const OF_RUNS: &[&str] = &[
     "drill",
 ];
 
-/// The option of the language that the script is emitted in.
 fn emit_option<'a>(alloc: Global) -> Result<Arg<'a>, AllocError> {
     let mut option = Arg::new(alloc, "emit")
         .long("emit")
@@ -151,7 +143,6 @@ fn emit_option<'a>(alloc: Global) -> Result<Arg<'a>, AllocError> {
     Ok(option)
 }
 
-/// An option of the file of a picture.
 fn picture_option<'a>(alloc: Global, name: &'a str, help: &'a str) -> Arg<'a> {
     Arg::new(alloc, name)
         .long(name)
@@ -160,7 +151,6 @@ fn picture_option<'a>(alloc: Global, name: &'a str, help: &'a str) -> Arg<'a> {
         .action(ArgAction::Set)
 }
 
-/// An option that is there or not.
 fn flag<'a>(alloc: Global, name: &'a str, help: &'a str) -> Arg<'a> {
     Arg::new(alloc, name)
         .long(name)
@@ -180,7 +170,6 @@ pub fn parsed_options<'a>(alloc: Global, words: &'a [String]) -> Result<Options<
     Ok(options_of(&matches))
 }
 
-/// The command, without its options.
 fn bare<'a>(alloc: Global) -> Command<'a> {
     Command::new(alloc, "accrun")
         .about("Runs a script of OpenACC data directives on simulated devices")
@@ -189,7 +178,6 @@ fn bare<'a>(alloc: Global) -> Command<'a> {
         .after_help(AFTER_HELP)
 }
 
-/// Adds the options of what runs, and within which limits.
 fn with_limits<'a>(alloc: Global, command: Command<'a>) -> Result<Command<'a>, AllocError> {
     command.args(vec![in alloc;
         size_option(alloc, "host", "Size of host memory"),
@@ -201,7 +189,6 @@ fn with_limits<'a>(alloc: Global, command: Command<'a>) -> Result<Command<'a>, A
     ]?)
 }
 
-/// Adds the script, and the options of what is shown of it.
 fn with_views<'a>(alloc: Global, command: Command<'a>) -> Result<Command<'a>, AllocError> {
     command.args(vec![in alloc;
         file_argument(alloc),
@@ -215,19 +202,16 @@ fn with_views<'a>(alloc: Global, command: Command<'a>) -> Result<Command<'a>, Al
     ]?)
 }
 
-/// The options of the program that a script is emitted as.
 fn program_options<'a>(alloc: Global) -> Result<Vec<Arg<'a>>, Error> {
     let emit = emit_option(alloc)?;
     let until = flag(alloc, "until-refusal", "End it with the first refusal").requires_arg("emit")?;
     Ok(vec![in alloc; emit, until]?)
 }
 
-/// Adds them.
 fn with_programs<'a>(alloc: Global, command: Command<'a>) -> Result<Command<'a>, Error> {
     Ok(command.args(program_options(alloc)?)?)
 }
 
-/// What the command line says, once it is read.
 fn options_of<'a>(matches: &ArgMatches<'a>) -> Options<'a> {
     Options {
         file: matches.get_str("FILE"),
@@ -253,7 +237,6 @@ fn options_of<'a>(matches: &ArgMatches<'a>) -> Options<'a> {
     }
 }
 
-/// How the program is called.
 const USAGE: &str = "accrun [OPTIONS] [FILE]";
 
 /// What the help says after the options: the statements, an example, the status.

@@ -5,7 +5,7 @@ use acc_base::Fault;
 use acc_follow::{Frame, Page, PictureSink, Stop};
 use std::alloc::Global;
 
-/// Keeps pictures as files.
+/// Keeps pictures as files of these names.
 #[derive(Clone, Copy)]
 pub struct PictureFiles<'a, D> {
     /// Where the files are.
@@ -37,7 +37,6 @@ impl<D: FileStore> PictureFiles<'_, D> {
         self.files.write(name, picture)
     }
 
-    /// Writes the picture behind the line of a number.
     fn write_numbered(&self, number: u64, picture: &[u8]) -> Result<bool, Fault> {
         let mut page = Page::new(self.alloc);
         put_numbered(&mut page, self.each.unwrap_or(""), number);

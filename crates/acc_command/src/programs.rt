@@ -9,7 +9,11 @@ use acc_script::{Sink, Source, Status, read_all};
 use std::sync::Wait;
 use std::thread::Threads;
 
-/// Reads the script and writes it as a program in C: nothing is written where that cannot be done.
+/// Reads the script and writes it as a program in C.
+///
+/// # Errors
+///
+/// Those of [`read_all`], [`emit`] and [`write_page`]. Up to a failure of the sink nothing is written.
 pub fn emit_script<'a, R: Threads + Wait + Sync + AllocGlobal, S: Source, O: Sink>(
     rt: &R,
     options: Options<'_>,

@@ -17,13 +17,14 @@ use clap::error::ErrorKind;
 use std::sync::Wait;
 use std::thread::Threads;
 
-/// The status of a script that ran to its end, with no statement refused.
+/// The status of a run in which no statement was refused, or with `--expect` one whose output is the expected one. It
+/// is that of a drill, of a program that was emitted, and of help too.
 pub const CLEAN: u8 = 0;
 
-/// The status of a script that ran to its end, with some statement refused, or with another output than expected.
+/// The status of a script that ran to its end, with some statement refused; with `--expect`, with another output.
 pub const REFUSED: u8 = 1;
 
-/// The status of a fault.
+/// The status of a fault, of the command line too.
 pub const FAULTED: u8 = 2;
 
 /// How many data regions may be open at a time.
@@ -47,7 +48,7 @@ const NOT_TEXT: &str = "error: a word of the command line is not UTF-8
 For more information, try '--help'.
 ";
 
-/// Tells that the words of the command line could not be had, and answers the status.
+/// Tells on `err` that the words of the command line could not be had, and answers the status.
 pub fn tell_words<E: Sink>(err: &mut E, fault: WordsFault) -> u8 {
     match fault {
         WordsFault::Memory => tell(err, Fault::Memory),
@@ -58,15 +59,16 @@ pub fn tell_words<E: Sink>(err: &mut E, fault: WordsFault) -> u8 {
     FAULTED
 }
 
-/// Parses the command line, runs the script or the drill, flushes the output and answers the status: 0, 1 where a
-/// statement was refused or the output is not as expected, 2 for a fault.
+/// Parses the command line, runs the script or the drill, flushes the output, and answers the status: [`CLEAN`],
+/// [`REFUSED`] or [`FAULTED`].
 ///
-/// `words` begins with the program's name. The script is read from `reader`, or is one of the files, and its output
-/// goes to `out`, or is compared with one of them. For a drill nothing is read. A fault of
-/// the command line is told on `err` in the parser's words, and then nothing is read. Each other fault is told there in
-/// one line, after `out` was flushed: first that the file with the expected output cannot be read, then
-/// [`Fault::BadConfig`], then those of the run, and [`Fault::Write`] where the flush fails after a run without fault. Help and the version that were asked for go to `out`, with status 0. A
-/// failure of `err` changes nothing.
+/// `words` begins with the program's name. The script is read from `reader`, or is one of the files. Its output goes to
+/// `out`, or is compared with one of the files. A drill reads nothing.
+///
+/// A fault of the command line is told on `err` in the parser's words, and then nothing is read. Each other fault is
+/// told there in one line, after `out` was flushed, and with `--explain` its reason follows. The first of these is
+/// told: the expected output cannot be read; [`Fault::BadConfig`]; those of the run; [`Fault::Write`] where the flush
+/// fails. Help and the version go to `out`. A failure of `err` changes nothing.
 pub fn tool<R: Threads + Wait + Sync + AllocGlobal, S: Source, O: Output, E: Sink, D: FileStore>(
     rt: &R,
     words: Vec<String>,
@@ -95,7 +97,6 @@ pub fn tool<R: Threads + Wait + Sync + AllocGlobal, S: Source, O: Output, E: Sin
     }
 }
 
-/// Flushes the output of a run; where only that fails, the result is [`Fault::Write`].
 fn flushed<'a, O: Output>(
     out: &mut O,
     ending: Result<Status, Mishap<'a>>,
@@ -106,7 +107,6 @@ fn flushed<'a, O: Output>(
     ending
 }
 
-/// Does what the options say, within the program's limits.
 fn carried_out<
     'a,
     R: Threads + Wait + Sync + AllocGlobal,
@@ -131,7 +131,6 @@ fn carried_out<
     }
 }
 
-/// Runs the script of a file.
 fn run_file<'a, R: Threads + Wait + Sync + AllocGlobal, O: Output, E: Sink, D: FileStore>(
     rt: &R,
     options: Options<'a>,
@@ -147,7 +146,6 @@ fn run_file<'a, R: Threads + Wait + Sync + AllocGlobal, O: Output, E: Sink, D: F
     use_script(rt, options, config, &mut reader, out, err, files, reason)
 }
 
-/// Runs the script within these limits, or emits it as a program.
 fn use_script<
     'a,
     R: Threads + Wait + Sync + AllocGlobal,
@@ -171,7 +169,6 @@ fn use_script<
     run_script(rt, options, config, reader, out, err, files, reason)
 }
 
-/// The bytes of a file.
 fn read_file<'a, D: FileStore>(files: &D, name: &'a str) -> Result<Vec<u8>, Mishap<'a>> {
     match files.read(name) {
         Ok(bytes) => Ok(bytes),
@@ -180,7 +177,6 @@ fn read_file<'a, D: FileStore>(files: &D, name: &'a str) -> Result<Vec<u8>, Mish
     }
 }
 
-/// Does what the options say, and compares the output with a file in place of writing it.
 fn compared<'a, R: Threads + Wait + Sync + AllocGlobal, S: Source, E: Sink, D: FileStore>(
     rt: &R,
     options: Options<'a>,
@@ -200,7 +196,6 @@ fn compared<'a, R: Threads + Wait + Sync + AllocGlobal, S: Source, E: Sink, D: F
     }
 }
 
-/// Tells the first difference of two outputs, if there is one.
 fn agreement<R: AllocGlobal, E: Sink>(
     rt: &R,
     expected: &[u8],
@@ -216,7 +211,6 @@ fn agreement<R: AllocGlobal, E: Sink>(
     }
 }
 
-/// Runs the script within these limits, and shows more of it where that is asked for.
 fn run_script<
     'a,
     R: Threads + Wait + Sync + AllocGlobal,
@@ -256,7 +250,6 @@ fn run_script<
     }
 }
 
-/// What is told where a script that was followed ended early.
 fn mishap_of(options: Options<'_>, stop: Stop) -> Mishap<'_> {
     match stop {
         Stop::Fault(fault) => Mishap::Fault(fault),
@@ -267,7 +260,6 @@ fn mishap_of(options: Options<'_>, stop: Stop) -> Mishap<'_> {
     }
 }
 
-/// Makes a drill of so many rounds within these limits.
 fn drill_threads<R: Threads + Wait + Sync + AllocGlobal, O: Sink>(
     rt: &R,
     options: Options<'_>,
@@ -279,7 +271,6 @@ fn drill_threads<R: Threads + Wait + Sync + AllocGlobal, O: Sink>(
     Ok(Status::Clean)
 }
 
-/// The program's limits, with the sizes, the number of devices and the kind of trace of the command line.
 fn limits(options: Options) -> Result<Config, Fault> {
     let config = Config::new(
         options.host,
@@ -298,16 +289,14 @@ fn limits(options: Options) -> Result<Config, Fault> {
     })
 }
 
-/// How many threads work at a kernel, each at a part, or in a drill. The command line gives no other number: here it is
-/// only known to the prover too.
+/// The command line has no other numbers; here that is told to the prover.
 fn threads(options: Options<'_>) -> usize
     ensures { (1 ≤ result) × (result ≤ 64) }
 {
     options.threads.clamp(1, 64) as usize
 }
 
-/// Writes what the command line's parser has to say: a fault of the command line to `err`, and help or the version, which
-/// were asked for, to `out`.
+/// A fault of the command line goes to `err`; help and the version, which were asked for, go to `out`.
 fn tell_usage<R: AllocGlobal, O: Output, E: Sink>(
     rt: &R,
     out: &mut O,
@@ -329,7 +318,6 @@ fn tell_usage<R: AllocGlobal, O: Output, E: Sink>(
     tell_answer(out, err, &text)
 }
 
-/// Writes what was asked for in place of a run.
 fn tell_answer<O: Output, E: Sink>(out: &mut O, err: &mut E, text: &str) -> u8 {
     if write_all(out, text.as_bytes()) && out.flush() {
         return CLEAN;

@@ -29,6 +29,10 @@ impl From<io::Error> for WordsFault {
 }
 
 /// The words of the command line; the first is the program's name.
+///
+/// # Errors
+///
+/// Those of [`WordsFault`].
 pub fn read_words<R: Env + AllocGlobal>(rt: &R) -> Result<Vec<String>, WordsFault> {
     let args = env::args(rt)?;
     Ok(args.collect(rt.alloc())?)

@@ -13,7 +13,11 @@ use std::alloc::Global;
 /// How many bytes stand on one line of the program.
 const BYTES_ON_LINE: u64 = 32;
 
-/// Emits a question for bytes of host memory.
+/// Emits a question for the bytes of a section of host memory.
+///
+/// # Errors
+///
+/// `OutsideArray` where no one array has the section.
 pub fn emit_show(emitter: &mut Emitter, section: Section) -> Result<(), EmitFault> {
     let Emitter {
         twins,
@@ -29,7 +33,11 @@ pub fn emit_show(emitter: &mut Emitter, section: Section) -> Result<(), EmitFaul
     put_bytes(sheet, marks, "show", section, own, twin)
 }
 
-/// Emits a question for bytes of the device.
+/// Emits a question for the bytes that the device has of a section.
+///
+/// # Errors
+///
+/// `OutsideArray` where no one array has the section.
 pub fn emit_peek(emitter: &mut Emitter, section: Section) -> Result<(), EmitFault> {
     let Emitter {
         twins,
@@ -45,15 +53,18 @@ pub fn emit_peek(emitter: &mut Emitter, section: Section) -> Result<(), EmitFaul
     put_bytes(sheet, marks, "peek", section, own, twin)
 }
 
-/// Emits a question for presence.
+/// Emits a question for the presence of a section.
+///
+/// # Errors
+///
+/// `OutsideArray` where no one array has the section.
 pub fn emit_present(emitter: &mut Emitter, section: Section) -> Result<(), EmitFault> {
     let is_present = emitter.twins.own.table.is_present(DEVICE, section);
     let word = if is_present { "yes" } else { "no" };
     put_word(&mut emitter.sheet, "present", section, word)
 }
 
-/// Puts the call that looks at the bytes of a section, with those that have to come: `own` are the bytes of the script's
-/// table, and `twin` those of its twin. A byte that is not compared is `??`.
+/// `own` are the bytes of the script's table, and `twin` those of its twin. A byte that is not compared is `??`.
 fn put_bytes(
     sheet: &mut Sheet,
     marks: &Marks,
@@ -83,13 +94,11 @@ fn put_bytes(
     Ok(())
 }
 
-/// Ends a line of digits, if there is one, and begins the next.
 fn put_break(sheet: &mut Sheet, is_first: bool) {
     sheet.body.text(if is_first { ",\n" } else { "\"\n" });
     sheet.start("    \"");
 }
 
-/// Puts the call that looks at a section, with the word that has to come.
 fn put_word(sheet: &mut Sheet, call: &str, section: Section, word: &str) -> Result<(), EmitFault> {
     if section.len == 0 {
         put_passed_over(sheet);
@@ -107,7 +116,6 @@ fn put_passed_over(sheet: &mut Sheet) {
     sheet.start("/* an empty section: nothing to compare */\n");
 }
 
-/// Puts a call with its line, its section and the section's length.
 fn put_question(sheet: &mut Sheet, call: &str, section: Section) -> Result<(), EmitFault> {
     let number = sheet.line;
     sheet.start(call);
@@ -121,6 +129,10 @@ fn put_question(sheet: &mut Sheet, call: &str, section: Section) -> Result<(), E
 }
 
 /// Emits what no OpenACC program can see, as a comment with what the table says.
+///
+/// # Errors
+///
+/// [`Fault::Memory`] alone.
 pub fn emit_comment(alloc: Global, emitter: &mut Emitter, effect: Effect) -> Result<(), EmitFault> {
     let mut text = MemorySink::new(alloc);
     let line = emitter.sheet.line;
@@ -131,7 +143,6 @@ pub fn emit_comment(alloc: Global, emitter: &mut Emitter, effect: Effect) -> Res
     Ok(())
 }
 
-/// Puts the lines that the table says as a comment.
 fn put_comment(sheet: &mut Sheet, text: &[u8]) {
     sheet.start("/* no program can see this; the table says:\n");
     let mut rest = text;

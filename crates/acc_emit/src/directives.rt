@@ -22,7 +22,7 @@ pub struct Frame {
     pub opens: bool,
 }
 
-/// The frame of the start of a region.
+/// The frame of the start of a region (OpenACC 3.3, section 2.6.5).
 pub const REGION: Frame = Frame {
     head: "data",
     queue: None,
@@ -32,7 +32,7 @@ pub const REGION: Frame = Frame {
     opens: true,
 };
 
-/// The frame of an `enter data`.
+/// The frame of an `enter data` (OpenACC 3.3, section 2.6.6).
 pub fn enter_frame(queue: Option<u64>) -> Frame {
     Frame {
         head: "enter data",
@@ -42,7 +42,7 @@ pub fn enter_frame(queue: Option<u64>) -> Frame {
     }
 }
 
-/// The frame of an `exit data`.
+/// The frame of an `exit data` (OpenACC 3.3, section 2.6.6).
 pub fn exit_frame(queue: Option<u64>, finalize: bool) -> Frame {
     Frame {
         head: "exit data",
@@ -58,7 +58,7 @@ pub fn exit_frame(queue: Option<u64>, finalize: bool) -> Frame {
     }
 }
 
-/// The frame of an `update`.
+/// The frame of an `update` (OpenACC 3.3, the update directive).
 pub fn update_frame(queue: Option<u64>, if_present: bool) -> Frame {
     Frame {
         head: "update",
@@ -69,7 +69,7 @@ pub fn update_frame(queue: Option<u64>, if_present: bool) -> Frame {
     }
 }
 
-/// Puts a directive, or, where C asks for it, one for each item. They do the same: items act one after the other.
+/// Puts a directive, or one for each item where C asks for it. Items act one after the other, so both do the same.
 pub fn put_directive(sheet: &mut Sheet, frame: Frame, items: &[Written]) -> Result<(), EmitFault> {
     if fit_one_directive(&sheet.names, items) {
         return put_clauses(sheet, frame, items);
@@ -106,7 +106,6 @@ fn put_passed_over(sheet: &mut Sheet, frame: Frame, item: Written) {
     put_opening(sheet, frame);
 }
 
-/// Puts a directive with one item.
 fn put_clause_alone(sheet: &mut Sheet, frame: Frame, item: Written) -> Result<(), EmitFault> {
     if item.words.zero {
         put_with_zero(sheet, frame, item)
@@ -115,7 +114,7 @@ fn put_clause_alone(sheet: &mut Sheet, frame: Frame, item: Written) -> Result<()
     }
 }
 
-/// Puts a directive whose item has the modifier `zero`, and what a compiler that does not know it is to do in its place.
+/// A compiler that does not know the modifier `zero` fills in its place.
 fn put_with_zero(sheet: &mut Sheet, frame: Frame, item: Written) -> Result<(), EmitFault> {
     let without_block = Frame {
         opens: false,
@@ -137,7 +136,6 @@ fn put_with_zero(sheet: &mut Sheet, frame: Frame, item: Written) -> Result<(), E
     put_fill(sheet, item)
 }
 
-/// Puts a fill of a new block, for a compiler that does not know the modifier.
 fn put_fill(sheet: &mut Sheet, item: Written) -> Result<(), EmitFault> {
     if !item.is_born() {
         return Ok(());
@@ -152,7 +150,6 @@ fn put_fill(sheet: &mut Sheet, item: Written) -> Result<(), EmitFault> {
     Ok(())
 }
 
-/// Puts one directive with these items.
 fn put_clauses(sheet: &mut Sheet, frame: Frame, items: &[Written]) -> Result<(), EmitFault> {
     sheet.start("#pragma acc ");
     sheet.body.text(frame.head);
@@ -172,7 +169,6 @@ fn put_opening(sheet: &mut Sheet, frame: Frame) {
     }
 }
 
-/// Puts a clause with one section.
 fn put_clause(sheet: &mut Sheet, item: Written) -> Result<(), EmitFault> {
     sheet.body.text(" ");
     sheet.body.text(item.words.word);
@@ -192,7 +188,7 @@ fn put_queue(sheet: &mut Sheet, queue: Option<u64>) {
     }
 }
 
-/// Puts a `wait`.
+/// Puts a `wait` for a queue, or for all (OpenACC 3.3, the wait directive).
 pub fn put_wait(sheet: &mut Sheet, queue: Option<u64>) {
     sheet.start("#pragma acc wait");
     if let Some(queue) = queue {

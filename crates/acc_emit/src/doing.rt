@@ -36,7 +36,6 @@ pub fn emit_last_event(alloc: Global, emitter: &mut Emitter) -> Result<(), EmitF
     }
 }
 
-/// Emits the start of a region.
 fn emit_start(emitter: &mut Emitter, items: Vec<Written>) -> Result<(), EmitFault> {
     note_all(emitter, None, &items)?;
     put_directive(&mut emitter.sheet, crate::directives::REGION, &items)?;
@@ -45,7 +44,6 @@ fn emit_start(emitter: &mut Emitter, items: Vec<Written>) -> Result<(), EmitFaul
     Ok(())
 }
 
-/// Emits the end of the innermost region.
 fn emit_end(emitter: &mut Emitter, did: &[Did]) -> Result<(), EmitFault> {
     let Some(region) = emitter.regions.pop() else {
         return Ok(());
@@ -56,7 +54,6 @@ fn emit_end(emitter: &mut Emitter, did: &[Did]) -> Result<(), EmitFault> {
     put_end(&mut emitter.sheet, &items, is_one)
 }
 
-/// Emits a directive without a block.
 fn emit_standalone(
     emitter: &mut Emitter,
     frame: Frame,
@@ -97,8 +94,8 @@ fn pointer_at(table: &Table, place: u64) -> u64 {
     address_of(table.host_read(pointer_section(place)).unwrap_or(&[]))
 }
 
-/// A block whose mapping ends may not be named by a copy that waits in another queue: whether it is there until that copy
-/// is made, OpenACC does not say.
+/// OpenACC does not say whether a block is there until a copy in another queue is made. So its mapping may not end
+/// while one waits.
 fn check_ended(emitter: &Emitter, queue: Option<u64>, item: Written) -> Result<(), EmitFault> {
     match item.ended_block() {
         Some(block) if emitter.marks.waits.keep(block, queue) => {

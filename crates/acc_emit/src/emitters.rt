@@ -32,7 +32,7 @@ impl Emitter {
         })
     }
 
-    /// The fault of the line that is being emitted.
+    /// The fault of the line that is being emitted, for a reason.
     pub fn unfit(&self, reason: Reason) -> EmitFault {
         self.sheet.unfit(reason)
     }

@@ -37,7 +37,6 @@ pub fn emit<R: Threads + Wait + Sync + AllocGlobal>(
     Ok(emitter.sheet.whole(rt.alloc())?)
 }
 
-/// Emits all lines, or those up to the first that is refused.
 fn emit_lines<R: Threads + Wait + Sync + AllocGlobal>(
     rt: &R,
     emitter: &mut Emitter,
@@ -59,7 +58,6 @@ fn emit_lines<R: Threads + Wait + Sync + AllocGlobal>(
     end_at(emitter, until_refusal)
 }
 
-/// Whether a script may end behind its last line.
 fn end_at(emitter: &mut Emitter, until_refusal: bool) -> Result<(), EmitFault> {
     emitter.sheet.line = emitter.sheet.line.saturating_add(1);
     if emitter.twins.own.table.regions() > 0 {
@@ -73,7 +71,7 @@ fn end_at(emitter: &mut Emitter, until_refusal: bool) -> Result<(), EmitFault> {
     Ok(())
 }
 
-/// Emits a line; answers whether it was refused, so that the program ends with it.
+/// Answers whether the line was refused and the program ends with it.
 fn emit_line<R: Threads + Wait + Sync + AllocGlobal>(
     rt: &R,
     emitter: &mut Emitter,
@@ -109,7 +107,6 @@ fn put_statement(sheet: &mut Sheet, line: &[u8]) {
     }
 }
 
-/// Emits a statement that is done.
 fn emit_plan(
     alloc: Global,
     emitter: &mut Emitter,

@@ -23,7 +23,7 @@ pub enum Reason {
 }
 
 impl Reason {
-    /// What is told of it.
+    /// What is told of it, behind the number of the line.
     pub fn text(self) -> &'static str {
         match self {
             Reason::Refused => "the statement is refused",

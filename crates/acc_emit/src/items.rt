@@ -21,7 +21,6 @@ pub trait Clause: Copy {
     fn words(self) -> Words;
 }
 
-/// A clause without a modifier.
 fn plain(word: &'static str) -> Words {
     Words { word, zero: false }
 }
@@ -118,7 +117,7 @@ impl Written {
         matches!(self.did.step, Step::Born { .. })
     }
 
-    /// The pointer that it attached or detached.
+    /// The host address of the pointer that it attached or detached.
     pub fn pointer(self) -> Option<u64> {
         match self.did.aim {
             Aim::None => None,
@@ -129,7 +128,7 @@ impl Written {
         }
     }
 
-    /// The pointer that it attached.
+    /// The host address of the pointer that it attached.
     pub fn attached(self) -> Option<u64> {
         match self.did.aim {
             Aim::New { pointer, .. } | Aim::Again { pointer, .. } => Some(pointer),
@@ -137,7 +136,7 @@ impl Written {
         }
     }
 
-    /// The block whose mapping it ended.
+    /// The number of the block whose mapping it ended.
     pub fn ended_block(self) -> Option<u64> {
         match self.did.step {
             Step::Dropped { block, ended: true } => Some(block),
@@ -145,7 +144,7 @@ impl Written {
         }
     }
 
-    /// The block to or from which it copied its section, or put the copy into a queue.
+    /// The number of the block to or from which it copied its section, at once or by a queue.
     pub fn copied_block(self) -> Option<u64> {
         let word = self.words.word;
         match self.did.step {
@@ -159,8 +158,8 @@ impl Written {
     }
 }
 
-/// Whether one directive of C can have all of the items: each names another array, as C asks, and none has a pointer,
-/// which a call attaches before the next item, or the modifier `zero`, which not each compiler knows.
+/// Whether one directive of C can have all of the items: each names another array, as C asks. None has a pointer, since
+/// a call attaches it before the next item. None has the modifier `zero`, which not each compiler knows.
 pub fn fit_one_directive(names: &Names, items: &[Written]) -> bool {
     for (nth, item) in items.iter().enumerate() {
         let is_plain = item.is_clause() && item.pointer().is_none() && !item.words.zero;
@@ -171,13 +170,11 @@ pub fn fit_one_directive(names: &Names, items: &[Written]) -> bool {
     !items.is_empty()
 }
 
-/// Whether no item before the nth is of the array of a section.
 fn is_of_new_array(names: &Names, items: &[Written], nth: usize, section: Section) -> bool {
     items.iter().take(nth).all(|item| array_start(names, item.section)
         != array_start(names, section))
 }
 
-/// Where the array of a section starts.
 fn array_start(names: &Names, section: Section) -> Option<u32> {
     names.spot(section.start).map(|spot| spot.array.start)
 }

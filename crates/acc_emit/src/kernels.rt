@@ -19,7 +19,6 @@ pub fn put_kernel(
     }
 }
 
-/// Puts the loop of a kernel with a number: of one that changes each byte by an operator, or of one that counts.
 fn put_loop(
     sheet: &mut Sheet,
     section: Section,
@@ -42,7 +41,6 @@ fn put_loop(
     Ok(())
 }
 
-/// Puts the loop that adds the host's bytes of a source.
 fn put_plus(sheet: &mut Sheet, source: Section, section: Section) -> Result<(), EmitFault> {
     let count = source.len.min(section.len);
     if count == 0 {
@@ -75,7 +73,6 @@ fn put_source(sheet: &mut Sheet, source: Section, count: u64) -> Result<(), Emit
     Ok(())
 }
 
-/// Puts the directive of a loop over a section.
 fn put_start(sheet: &mut Sheet, section: Section) -> Result<(), EmitFault> {
     sheet.start("#pragma acc parallel loop present(");
     sheet.put_section(section)?;
@@ -89,7 +86,6 @@ fn put_for(sheet: &mut Sheet, count: u64) {
     sheet.body.text("; i++)\n");
 }
 
-/// Puts the byte that a round of the loop changes, up to its new value.
 fn put_target(sheet: &mut Sheet, section: Section) -> Result<(), EmitFault> {
     sheet.start("    ");
     sheet.put_cell(section)?;

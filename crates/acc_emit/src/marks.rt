@@ -28,7 +28,7 @@ impl Marks {
         })
     }
 
-    /// Marks the bytes of a section.
+    /// Marks the bytes of a section of host memory.
     pub fn mark_all(&mut self, section: Section) {
         for offset in 0..section.len {
             self.mark(section.start.saturating_add(offset));

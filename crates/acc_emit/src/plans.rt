@@ -18,7 +18,7 @@ pub enum Plan<'a> {
     },
     /// A directive.
     Directive,
-    /// The choice of a device.
+    /// The choice of the device of this number.
     Device(u64),
     /// A parallel loop over a section.
     Kernel {

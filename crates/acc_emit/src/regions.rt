@@ -24,7 +24,7 @@ impl OpenRegion {
         }
     }
 
-    /// Its items, with what undoing each of them did.
+    /// Its items, each with what undoing it did in place of what it did.
     pub fn undone(mut self, did: &[Did]) -> Vec<Written> {
         for (item, done) in self.items.iter_mut().zip(did) {
             item.did = *done;

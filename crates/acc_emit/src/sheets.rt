@@ -39,7 +39,7 @@ impl Sheet {
         }
     }
 
-    /// The fault of this line.
+    /// The fault of this line, for a reason.
     pub fn unfit(&self, reason: Reason) -> EmitFault {
         EmitFault::Line {
             line: self.line,
@@ -47,7 +47,7 @@ impl Sheet {
         }
     }
 
-    /// Notes that the program handles so many bytes at a time.
+    /// Notes that the program handles `length` bytes at a time.
     pub fn need(&mut self, length: u64) {
         self.longest = self.longest.max(length);
     }
@@ -109,6 +109,10 @@ impl Sheet {
     }
 
     /// The whole program, once all lines are emitted.
+    ///
+    /// # Errors
+    ///
+    /// [`Fault::Memory`] alone.
     pub fn whole(&self, alloc: Global) -> Result<Page, Fault> {
         let mut page = Page::new(alloc);
         page.text(crate::harness::HEAD);
@@ -121,7 +125,6 @@ impl Sheet {
     }
 }
 
-/// The array in which a section lies.
 fn spot_of(names: &Names, line: u64, section: Section) -> Result<Spot<'_>, EmitFault> {
     match names.within(section) {
         Some(spot) => Ok(spot),

@@ -30,7 +30,11 @@ pub struct Twins {
 }
 
 impl Twins {
-    /// New tables for a script.
+    /// New tables for a script: its own within these limits, and a twin with more room.
+    ///
+    /// # Errors
+    ///
+    /// [`Fault::Memory`] alone.
     pub fn new(alloc: Global, config: Config) -> Result<Twins, Fault> {
         let twin = twin_config(config)?;
         let own = boxed_session(alloc, config)?;
@@ -87,7 +91,6 @@ pub fn follow_on_twin<R: Threads + Wait + Sync + AllocGlobal>(
     Ok(effect)
 }
 
-/// Fills the blocks of the last event that nothing fills with other bytes.
 fn fill_births<R: Threads + Wait + Sync + AllocGlobal>(
     rt: &R,
     twin: &mut Session,

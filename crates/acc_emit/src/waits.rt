@@ -65,7 +65,6 @@ impl Waits {
     }
 }
 
-/// What two sections have in common.
 fn common(one: Section, other: Section) -> Section {
     let start = one.start.max(other.start);
     let end = one

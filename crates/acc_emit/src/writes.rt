@@ -10,7 +10,7 @@ use acc_read::{Array, ScriptKernel};
 use std::alloc::Global;
 use std::fmt::Write;
 
-/// Declares an array.
+/// Declares an array of the program, with its size in bytes.
 pub fn declare(
     alloc: Global,
     sheet: &mut Sheet,
@@ -31,7 +31,7 @@ fn put_size(sheet: &mut Sheet, size: u64) {
     let _ = writeln!(sheet.head, "[{size}];");
 }
 
-/// Emits a write of the host.
+/// Emits a write of the host into a section.
 pub fn emit_write(emitter: &mut Emitter, section: Section) -> Result<(), EmitFault> {
     let Emitter {
         twins,
@@ -58,7 +58,7 @@ fn put_write(sheet: &mut Sheet, section: Section, bytes: &[u8]) -> Result<(), Em
     Ok(())
 }
 
-/// Emits a write of a pointer.
+/// Emits a write of a host address into a pointer.
 pub fn emit_point(emitter: &mut Emitter, section: Section) -> Result<(), EmitFault> {
     let Emitter {
         twins,

@@ -13,8 +13,8 @@ use std::alloc::{AllocError, Global};
 /// How many bytes of a token are shown at most.
 const SHOWN: usize = 40;
 
-/// Puts why a line is at fault: the line with a mark at the first place that is wrong, what was found there and what could
-/// stand there, and what to write in its place where that is known.
+/// Puts why the line of a number is at fault: the line, marked at the first place that is wrong, and what stands there.
+/// What could stand there follows, and what to write in its place where that is known.
 ///
 /// # Errors
 ///
@@ -40,7 +40,6 @@ pub fn explain_fault(
     }
 }
 
-/// A line with too many bytes.
 fn put_long(page: &mut Page, number: u64, line: &[u8]) {
     put_note(page, number);
     page.text("it has ");
@@ -48,7 +47,6 @@ fn put_long(page: &mut Page, number: u64, line: &[u8]) {
     page.text(" bytes with its comment, and may have 4096\n");
 }
 
-/// A line with a byte that is no text.
 fn put_not_text(page: &mut Page, number: u64, line: &[u8]) {
     let place = line
         .iter()
@@ -60,7 +58,6 @@ fn put_not_text(page: &mut Page, number: u64, line: &[u8]) {
     page.text(", and only printable ASCII, blanks and tabs may stand before a comment\n");
 }
 
-/// A line in which a token is wrong or missing.
 fn explain_token(
     page: &mut Page,
     reader: Reader<'_>,
@@ -84,7 +81,6 @@ fn explain_token(
     Ok(())
 }
 
-/// What stands in a line before a comment.
 fn text_of(line: &[u8]) -> &[u8] {
     let len = line.iter().take_while(|b| **b != b'#').count();
     line.get(..len).unwrap_or(line)
@@ -99,7 +95,6 @@ fn place_of(text: &[u8], tokens: &[Token], nth: usize) -> usize {
     }
 }
 
-/// Puts what was found.
 fn put_found(page: &mut Page, found: &[u8]) {
     page.text("found ");
     if found.is_empty() {
@@ -140,7 +135,6 @@ fn put_why(page: &mut Page, reader: Reader<'_>, finding: Finding<'_>) -> Result<
     Ok(())
 }
 
-/// Puts what could stand in its place.
 fn add_wanted(page: &mut Page, reader: Reader<'_>, finding: Finding<'_>) -> Result<(), AllocError> {
     let front = front_of(finding.text, finding.tokens, finding.nth);
     let wanted = wanted_behind(reader, front)?;
@@ -151,7 +145,6 @@ fn add_wanted(page: &mut Page, reader: Reader<'_>, finding: Finding<'_>) -> Resu
     Ok(())
 }
 
-/// Puts what to write in its place, where that is known.
 fn add_hint(page: &mut Page, reader: Reader<'_>, number: u64, finding: Finding<'_>) {
     let mut hint = Page::new(reader.alloc);
     if put_hint(&mut hint, reader, finding) {

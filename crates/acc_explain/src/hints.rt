@@ -19,23 +19,22 @@ pub struct Finding<'a> {
     pub kind: ScriptFault,
 }
 
-/// Whether a token is this text.
 fn is_text(token: &[u8], text: &str) -> bool {
     token == text.as_bytes()
 }
 
 impl<'a> Finding<'a> {
-    /// The token that is wrong; none where one is missing.
+    /// The bytes of the token that is wrong; none where one is missing.
     pub fn found(self) -> &'a [u8] {
         self.at(self.nth)
     }
 
-    /// The token of a number.
+    /// The bytes of the token of a number, from 0 on; none where there are fewer.
     pub fn at(self, nth: usize) -> &'a [u8] {
         nth_bytes(self.text, self.tokens, nth)
     }
 
-    /// The token before the wrong one.
+    /// The bytes of the token before the wrong one; none where that is the first.
     pub fn before(self) -> &'a [u8] {
         match self.nth.checked_sub(1) {
             Some(nth) => self.at(nth),
@@ -191,7 +190,7 @@ fn put_taken_hint(page: &mut Page, reader: Reader<'_>, finding: Finding<'_>) -> 
     true
 }
 
-/// Whether a line begins with `#pragma acc`, as in C. It is a comment.
+/// Whether a line begins with `#pragma acc`, as in C. In a script it is a comment.
 pub fn is_pragma(line: &[u8]) -> bool {
     let Some(rest) = line.trim_ascii().strip_prefix(b"#".as_slice()) else {
         return false;
@@ -202,7 +201,7 @@ pub fn is_pragma(line: &[u8]) -> bool {
     rest.trim_ascii_start().starts_with(b"acc")
 }
 
-/// Puts a warning of a line that begins so.
+/// Puts a warning of a line that begins so, by its number.
 pub fn warn_of_pragma(page: &mut Page, number: u64) {
     page.text("accrun: line ");
     page.number(number);

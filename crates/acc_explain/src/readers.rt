@@ -37,7 +37,7 @@ impl Reader<'_> {
         )
     }
 
-    /// Whether some tail does so.
+    /// Whether some tail of a sentence does so.
     pub fn can_go_on(self, front: &[u8]) -> bool {
         self.fits(front, "")
             || SENTENCES
@@ -45,7 +45,6 @@ impl Reader<'_> {
                 .any(|sentence| self.fits_some(front, sentence))
     }
 
-    /// Whether some tail of a sentence does so.
     fn fits_some(self, front: &[u8], sentence: &str) -> bool {
         let mut from = 0;
         for _ in 0..sentence.len() {
@@ -60,8 +59,7 @@ impl Reader<'_> {
         false
     }
 
-    /// Which token of a text is wrong, where the text is at fault so: its number from 0 on, or how many there are where
-    /// one is missing.
+    /// The number, from 0 on, of the token for which a text has this fault; the number of tokens where one is missing.
     pub fn place(self, text: &[u8], tokens: &[Token], kind: ScriptFault) -> usize {
         match kind {
             ScriptFault::Syntax => self.first_unfit(text, tokens),
@@ -70,8 +68,8 @@ impl Reader<'_> {
         }
     }
 
-    /// The first token with which a text can no more become a line. It is searched by halves, since with a token also
-    /// each one behind it is too many.
+    /// The first token with which a text can no more become a line. What stands behind such a token fits no better, so
+    /// it is searched by halves.
     fn first_unfit(self, text: &[u8], tokens: &[Token]) -> usize {
         let mut fit = 0usize;
         let mut unfit = tokens.len().saturating_add(1);
@@ -89,7 +87,6 @@ impl Reader<'_> {
         unfit.saturating_sub(1)
     }
 
-    /// The first token with which a text is at fault so.
     fn first_with(self, text: &[u8], tokens: &[Token], kind: ScriptFault) -> usize {
         for nth in 0..tokens.len() {
             let front = front_of(text, tokens, nth.saturating_add(1));
@@ -101,14 +98,14 @@ impl Reader<'_> {
     }
 }
 
-/// The text up to the end of so many tokens.
+/// The text up to the end of the first `count` tokens; none of it where there are fewer.
 pub fn front_of<'a>(text: &'a [u8], tokens: &[Token], count: usize) -> &'a [u8] {
     let last = count.checked_sub(1).and_then(|nth| tokens.get(nth));
     let end = last.map_or(0, |token| token.end);
     text.get(..end).unwrap_or(&[])
 }
 
-/// A sentence from a token on.
+/// A sentence from one of its tokens on.
 pub fn tail_of(sentence: &str, token: Token) -> &str {
     sentence.get(token.start..).unwrap_or("")
 }

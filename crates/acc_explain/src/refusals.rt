@@ -16,7 +16,6 @@ struct Named {
     pointer: Option<u64>,
 }
 
-/// One device of a table.
 #[derive(Clone, Copy)]
 struct DeviceView<'a> {
     table: &'a Table,
@@ -33,8 +32,8 @@ impl DeviceView<'_> {
     }
 }
 
-/// Puts why a statement was refused: its item by the array's name, the mapped ranges that it meets on its device
-/// with their counters, and for a full device the largest hole.
+/// Puts why the statement of a line was refused, on the table that it left as it was. Its item is told by the array's
+/// name. The mapped ranges that it meets on its device follow with their counters, and the holes of a full device.
 pub fn explain_refusal(
     page: &mut Page,
     table: &Table,
@@ -64,7 +63,6 @@ fn device_of(table: &Table, statement: &Statement<'_>) -> u64 {
     }
 }
 
-/// Puts of which line this tells.
 fn put_place(page: &mut Page, number: u64) {
     page.text("accrun: line ");
     page.number(number);
@@ -93,7 +91,6 @@ fn item_of(statement: &Statement<'_>, fault: Fault) -> Option<(u64, Named)> {
     Some((nth, named_in(statement, nth as usize)?))
 }
 
-/// What the item of a number names in a statement.
 fn named_in(statement: &Statement<'_>, nth: usize) -> Option<Named> {
     match statement {
         Statement::Direct(directive) => named_by(directive, nth),
@@ -111,7 +108,6 @@ fn named_in(statement: &Statement<'_>, nth: usize) -> Option<Named> {
     }
 }
 
-/// What the item of a number names in a directive.
 fn named_by(directive: &Directive, nth: usize) -> Option<Named> {
     match directive {
         Directive::Enter { items, .. } => nth_of(items, nth),
@@ -145,7 +141,6 @@ fn kernel_section(kernel: ScriptKernel, section: Section, nth: usize) -> Section
     }
 }
 
-/// Puts what an item names.
 fn put_item(page: &mut Page, names: &Names, nth: u64, named: Named) {
     put_cause(page);
     page.text("item ");
@@ -226,7 +221,7 @@ fn put_ranges(page: &mut Page, view: DeviceView<'_>, names: &Names, section: Sec
     told
 }
 
-/// Puts how many more ranges it meets than were told.
+/// Puts how many more ranges the section meets than were told.
 fn put_others(page: &mut Page, told: u64) {
     if told > TOLD {
         put_cause(page);
@@ -251,7 +246,6 @@ fn meets(one: Section, other: Section) -> bool {
         && other.start < one.start.saturating_add(one.len)
 }
 
-/// Puts a mapped range that is met.
 fn put_range(page: &mut Page, names: &Names, mapped: Mapped) {
     put_cause(page);
     page.text("it meets the mapping of ");
@@ -265,7 +259,7 @@ fn put_range(page: &mut Page, names: &Names, mapped: Mapped) {
     page.text(if mapped.lent { ", lent\n" } else { "\n" });
 }
 
-/// Puts an item before it that names some of the same bytes.
+/// Puts an item of the same directive, before the refused one, that names some of the same bytes.
 fn put_other(page: &mut Page, names: &Names, other: u64, named: Section, section: Section) {
     if meets(named, section) {
         put_cause(page);
@@ -277,7 +271,6 @@ fn put_other(page: &mut Page, names: &Names, other: u64, named: Section, section
     }
 }
 
-/// Puts what a refusal says, in words.
 fn put_fault(page: &mut Page, view: DeviceView<'_>, fault: Fault) {
     put_cause(page);
     match fault {
@@ -333,7 +326,6 @@ fn put_host(page: &mut Page, table: &Table) {
     );
 }
 
-/// Puts which devices there are.
 fn put_devices(page: &mut Page, table: &Table, device: u64) {
     let count = table.config().devices();
     put_limit(page, "there is no device ", device, "; ");
@@ -344,7 +336,6 @@ fn put_devices(page: &mut Page, table: &Table, device: u64) {
     }
 }
 
-/// Puts how many copies wait in a queue.
 fn put_queue(page: &mut Page, view: DeviceView<'_>, q: u64) {
     if q < QUEUE_COUNT {
         put_limit(
@@ -356,7 +347,6 @@ fn put_queue(page: &mut Page, view: DeviceView<'_>, q: u64) {
     }
 }
 
-/// Puts what is free of the device before the statement.
 fn put_holes(page: &mut Page, view: DeviceView<'_>, need: u64) {
     let mut largest = 0;
     let mut free = 0;

@@ -91,7 +91,7 @@ pub const ROUTINES: &[Advice] = &[
     ("acc_deviceptr", "a script asks: address PLACE"),
 ];
 
-/// Other words.
+/// Words of directives that stand elsewhere in scripts, or not at all.
 pub const WORDS: &[Advice] = &[
     (
         "pragma",

@@ -8,8 +8,8 @@ const BEFORE: usize = 60;
 /// How many bytes of a line are shown at most.
 const SHOWN: usize = 100;
 
-/// Puts a line behind its number, and under it a mark at a place; the line of the mark is left open. Where the line is
-/// long, the part around the place is shown.
+/// Puts a line behind its number, and under it a mark at a place. The line of the mark is left open. Of a long line the
+/// part around the place is shown.
 pub fn put_source(page: &mut Page, number: u64, line: &[u8], place: usize) {
     let from = place.saturating_sub(BEFORE);
     page.text("  ");
@@ -25,12 +25,12 @@ pub fn put_source(page: &mut Page, number: u64, line: &[u8], place: usize) {
     page.text("^ ");
 }
 
-/// Puts a line that says more, under the line of a number.
+/// Begins a line that says more, under the line of a number.
 pub fn put_note(page: &mut Page, number: u64) {
     put_gutter(page, number, " = ");
 }
 
-/// Puts a line that says more, under a line that tells what became of a statement.
+/// Begins a line that says more, under a line that tells what became of a statement.
 pub fn put_cause(page: &mut Page) {
     page.text("    = ");
 }
@@ -63,7 +63,6 @@ fn put_part(page: &mut Page, line: &[u8], from: usize) {
     }
 }
 
-/// How many dots stand before a part from a place on.
 fn cut_len(from: usize) -> usize {
     if from > 0 { 2 } else { 0 }
 }

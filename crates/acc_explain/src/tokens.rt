@@ -12,6 +12,10 @@ pub struct Token {
 }
 
 /// The tokens of a text, from left to right. A character that is no token stands among them.
+///
+/// # Errors
+///
+/// Where memory is wanting.
 pub fn tokens_of(alloc: Global, text: &[u8]) -> Result<Vec<Token>, AllocError> {
     let mut tokens = Vec::new(alloc);
     let mut from = 0;
@@ -41,7 +45,7 @@ pub fn next_token(text: &[u8], from: usize) -> Option<Token> {
     })
 }
 
-/// The bytes of a token.
+/// The bytes of a token of the text; none where it is not of this text.
 pub fn bytes_of(text: &[u8], token: Token) -> &[u8] {
     text.get(token.start..token.end).unwrap_or(&[])
 }
@@ -58,12 +62,12 @@ fn is_blank(b: u8) -> bool {
     b == b' ' || b == b'\t'
 }
 
-/// Whether a byte may stand in a word.
+/// Whether a byte may stand in a word: letters, digits and `_`.
 pub fn is_word_byte(b: u8) -> bool {
     b.is_ascii_alphanumeric() || b == b'_'
 }
 
-/// Whether a byte is a mark.
+/// Whether a byte is a mark, which is a token alone.
 pub fn is_mark(b: u8) -> bool {
     matches!(b, b'(' | b')' | b'[' | b']' | b':' | b',')
 }

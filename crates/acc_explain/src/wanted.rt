@@ -6,7 +6,7 @@ use crate::tokens::{bytes_of, is_mark, next_token};
 use acc_page::Page;
 use std::alloc::{AllocError, Global};
 
-/// What could stand at a place.
+/// A token, or kind of token, that could stand at a place.
 #[derive(Clone, Copy, PartialEq, Eq)]
 pub enum Wanted<'a> {
     /// A name.
@@ -25,7 +25,11 @@ pub enum Wanted<'a> {
     End,
 }
 
-/// What could stand behind a front part of a line.
+/// All that could stand behind a front part of a line, each once.
+///
+/// # Errors
+///
+/// Where memory is wanting.
 pub fn wanted_behind(reader: Reader<'_>, front: &[u8]) -> Result<Vec<Wanted<'static>>, AllocError> {
     let mut all = Vec::new(reader.alloc);
     for sentence in SENTENCES {
@@ -62,7 +66,6 @@ fn add_wanted(
     Ok(())
 }
 
-/// Adds one that is not there yet.
 fn add(all: &mut Vec<Wanted<'static>>, wanted: Wanted<'static>) -> Result<(), AllocError> {
     if !all.contains(&wanted) {
         all.push(wanted)?;
@@ -85,8 +88,8 @@ fn first_of(tail: &'static str) -> Wanted<'static> {
     }
 }
 
-/// Whether it is told. Where a name can stand, the reader takes each word for one, so that keywords seem to fit there,
-/// and modifiers but behind a parenthesis; and it takes a number or a name for digits.
+/// Whether it is told. The reader takes any word for a name, so keywords seem to fit where a name does, and modifiers
+/// fit only behind a parenthesis. It takes numbers and names for digits too.
 fn is_told(wanted: Wanted<'_>, is_open: bool, has_name: bool, has_digits: bool) -> bool {
     match wanted {
         Wanted::Digits => true,
@@ -97,7 +100,7 @@ fn is_told(wanted: Wanted<'_>, is_open: bool, has_name: bool, has_digits: bool) 
     }
 }
 
-/// Puts them, with `or` before the last one.
+/// Puts all of them, with `or` before the last one.
 pub fn put_wanted(page: &mut Page, all: &[Wanted<'_>]) {
     for (nth, wanted) in all.iter().enumerate() {
         let left = all.len().saturating_sub(nth);
@@ -106,7 +109,6 @@ pub fn put_wanted(page: &mut Page, all: &[Wanted<'_>]) {
     }
 }
 
-/// What stands before the one of a number, with so many left.
 fn separator(nth: usize, left: usize) -> &'static str {
     if nth == 0 {
         ""

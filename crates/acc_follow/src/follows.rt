@@ -55,8 +55,10 @@ pub struct Setting {
 }
 
 /// Reads a whole script and runs it as `acc_script::run` does, line by line on a new table of these limits, and shows
-/// more of it. The log and what is explained go to `err`, each line's behind what it prints; why a line is at fault goes
-/// to `reason`, since that stands behind the fault itself. Pictures go to `pictures`.
+/// more of it.
+///
+/// The log and what is explained go to `err`, each line's behind what it prints. Why a line is at fault goes to
+/// `reason`, since it stands behind the fault itself. Pictures go to `pictures`.
 ///
 /// # Errors
 ///
@@ -81,7 +83,6 @@ pub fn follow<
     follow_input(rt, setting, &input, out, err, pictures, reason)
 }
 
-/// Follows the script of an input, on a new table.
 fn follow_input<R: Threads + Wait + Sync + AllocGlobal, O: Output, E: Sink, G: PictureSink>(
     rt: &R,
     setting: Setting,
@@ -95,14 +96,14 @@ fn follow_input<R: Threads + Wait + Sync + AllocGlobal, O: Output, E: Sink, G: P
     follower.follow(rt, input, out, err, pictures, reason)
 }
 
-/// How a script ended, where its log was written to its end or not.
+/// The end of a run counts first, and then whether its log was written.
 fn ended(ending: Result<Status, Stop>, is_told: Result<(), Fault>) -> Result<Status, Stop> {
     let status = ending?;
     is_told?;
     Ok(status)
 }
 
-/// What follows a script whose first line is yet to run. It is boxed, as so much is dear to hand on.
+/// It is boxed: so much is dear to hand on.
 fn follower_of<R: AllocGlobal>(rt: &R, setting: Setting) -> Result<Box<Follower>, Fault> {
     let follower = Follower {
         session: Session::new(rt.alloc(), setting.config, setting.parts)?,
@@ -115,7 +116,6 @@ fn follower_of<R: AllocGlobal>(rt: &R, setting: Setting) -> Result<Box<Follower>
     Ok(Box::new(rt.alloc(), follower)?)
 }
 
-/// A script that is followed.
 #[derive(Drop)]
 struct Follower {
     session: Session,
@@ -129,7 +129,6 @@ struct Follower {
 }
 
 impl Follower {
-    /// Follows a whole script, and ends its log.
     fn follow<R: Threads + Wait + Sync + AllocGlobal, O: Output, E: Sink, G: PictureSink>(
         &mut self,
         rt: &R,
@@ -144,7 +143,6 @@ impl Follower {
         ended(ending, is_told)
     }
 
-    /// Runs a whole script, and draws what it leaves.
     fn script<R: Threads + Wait + Sync + AllocGlobal, O: Output, E: Sink, G: PictureSink>(
         &mut self,
         rt: &R,
@@ -161,7 +159,6 @@ impl Follower {
         Ok(status)
     }
 
-    /// Follows all lines of an input.
     fn lines<R: Threads + Wait + Sync + AllocGlobal, O: Output, E: Sink, G: PictureSink>(
         &mut self,
         rt: &R,
@@ -210,7 +207,6 @@ impl Follower {
         is_new && !matches!(trace.last(), Some(Event::HostWritten { .. }))
     }
 
-    /// Draws the memories.
     fn draw<R: AllocGlobal, G: PictureSink>(
         &self,
         rt: &R,
@@ -223,7 +219,6 @@ impl Follower {
         pictures.keep(frame, page.whole()?)
     }
 
-    /// Puts the picture of the memories.
     fn put_picture<R: AllocGlobal>(
         &self,
         rt: &R,
@@ -239,7 +234,6 @@ impl Follower {
         Ok(())
     }
 
-    /// How a script ends behind its last line.
     fn end_at(&self, line: u64, refused: bool, reason: &mut Page) -> Result<Status, Fault> {
         if self.session.table.regions() > 0 {
             if self.views.explain {
@@ -276,7 +270,6 @@ impl Follower {
         Ok(effect.is_refused())
     }
 
-    /// Runs the line of a number, and answers what it has to print.
     fn perform<R: Threads + Wait + Sync + AllocGlobal>(
         &mut self,
         rt: &R,
@@ -298,7 +291,6 @@ impl Follower {
         }
     }
 
-    /// Reads a line, for the current device and the innermost region.
     fn read<'a, R: AllocGlobal>(&self, rt: &R, line: &'a [u8]) -> Result<Statement<'a>, Trouble> {
         let Session { arrays, device, .. } = &self.session;
         line_at(rt.alloc(), arrays, *device, self.session.innermost(), line)
@@ -317,7 +309,7 @@ impl Follower {
         Ok(())
     }
 
-    /// Puts why a line is at fault, where that is to be explained. Want of memory cuts it short: the fault itself is told.
+    /// Want of memory cuts the reason short, and the fault itself is told.
     fn give_reason<R: AllocGlobal>(
         &self,
         rt: &R,
@@ -349,7 +341,7 @@ impl Follower {
         write_told(&page, out, err)
     }
 
-    /// Writes why a line was refused, where it was. It is read once more: it changed nothing.
+    /// It is read once more: a refused line changed nothing.
     fn explain<R: AllocGlobal, O: Output, E: Sink>(
         &self,
         rt: &R,
@@ -386,7 +378,6 @@ impl Follower {
         Ok(())
     }
 
-    /// Writes the lines of the log that tell of a line of the script.
     fn tell<O: Output, E: Sink>(
         &mut self,
         number: u64,
@@ -404,7 +395,6 @@ impl Follower {
         self.write_log(out, err)
     }
 
-    /// Writes the last line of the log.
     fn end_log<O: Output, E: Sink>(&mut self, out: &mut O, err: &mut E) -> Result<(), Fault> {
         if !self.views.log {
             return Ok(());
@@ -413,7 +403,7 @@ impl Follower {
         self.write_log(out, err)
     }
 
-    /// Writes what the log has, behind what was printed so far.
+    /// What was printed so far is flushed first.
     fn write_log<O: Output, E: Sink>(&mut self, out: &mut O, err: &mut E) -> Result<(), Fault> {
         write_told(&self.log.page, out, err)?;
         self.log.page.clear();
@@ -421,7 +411,7 @@ impl Follower {
     }
 }
 
-/// Writes a page to `err`, behind what was printed so far.
+/// What was printed so far is flushed first.
 fn write_told<O: Output, E: Sink>(page: &Page, out: &mut O, err: &mut E) -> Result<(), Fault> {
     let lines = page.whole()?;
     if lines.is_empty() {
@@ -434,7 +424,7 @@ fn write_told<O: Output, E: Sink>(page: &Page, out: &mut O, err: &mut E) -> Resu
     Ok(())
 }
 
-/// The fault of a line that gives no statement.
+/// The fault of a line that gives no statement, with the number of the line.
 pub fn fault_of(line: u64, trouble: Trouble) -> Fault {
     match trouble {
         Trouble::Memory => Fault::Memory,
@@ -442,7 +432,6 @@ pub fn fault_of(line: u64, trouble: Trouble) -> Fault {
     }
 }
 
-/// Writes a statement behind `> `; nothing for a line that has none.
 fn write_echo<R: AllocGlobal, W: Sink>(rt: &R, line: &[u8], writer: &mut W) -> Result<(), Fault> {
     let text = statement_text(line);
     if text.is_empty() {
@@ -455,7 +444,6 @@ fn write_echo<R: AllocGlobal, W: Sink>(rt: &R, line: &[u8], writer: &mut W) -> R
     write_page(&page, writer)
 }
 
-/// Writes what a line has to print.
 fn show<R: AllocGlobal, W: Sink>(
     rt: &R,
     number: u64,
@@ -474,7 +462,6 @@ fn show<R: AllocGlobal, W: Sink>(
     }
 }
 
-/// Writes the report as an object of JSON.
 fn write_object<R: AllocGlobal, W: Sink>(
     rt: &R,
     table: &Table,
@@ -485,7 +472,12 @@ fn write_object<R: AllocGlobal, W: Sink>(
     write_page(&page, writer)
 }
 
-/// Writes a whole page.
+/// Writes a whole page to a sink.
+///
+/// # Errors
+///
+/// [`Fault::Memory`] where some of the page found none, and then nothing was written; [`Fault::Write`] where the sink
+/// fails.
 pub fn write_page<W: Sink>(page: &Page, writer: &mut W) -> Result<(), Fault> {
     if write_all(writer, page.whole()?) {
         Ok(())

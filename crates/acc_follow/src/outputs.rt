@@ -3,9 +3,9 @@
 use acc_script::{MemorySink, Sink, ToWrite};
 use std::io::Write;
 
-/// A sink that may keep back what it took.
+/// A sink that may keep back what it took, until it is flushed.
 pub trait Output: Sink {
-    /// Hands on what was kept back; true where that was done.
+    /// Hands on what was kept back; false where that failed.
     fn flush(&mut self) -> bool;
 }
 
@@ -15,7 +15,7 @@ impl<W: Write + Drop> Output for ToWrite<W> {
     }
 }
 
-// It keeps all that it took.
+// It keeps nothing back.
 impl Output for MemorySink {
     fn flush(&mut self) -> bool {
         true

@@ -13,11 +13,11 @@ pub enum Frame {
 
 /// Keeps pictures.
 pub trait PictureSink {
-    /// Keeps a picture, a file of SVG.
+    /// Keeps a picture, the bytes of a file of SVG.
     ///
     /// # Errors
     ///
-    /// [`Stop::Picture`] where that failed; memory may be wanting for its name.
+    /// [`Stop::Picture`] where that failed; [`Fault::Memory`] where there is none for its name.
     fn keep(&self, frame: Frame, picture: &[u8]) -> Result<(), Stop>;
 }
 

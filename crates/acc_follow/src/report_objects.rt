@@ -5,8 +5,8 @@ use acc_page::Page;
 use acc_table::{Mapped, Table};
 use std::fmt::Write;
 
-/// Writes the report of a table as one JSON object on one line. It says what the report's lines say, in their order;
-/// addresses are numbers.
+/// Puts the report of a table as one JSON object on one line: what the report's lines say, in their order. Addresses
+/// are decimal numbers.
 pub fn put_report(page: &mut Page, table: &Table) {
     let config = table.config();
     put_sizes(page, config.host(), config.device());
@@ -19,7 +19,6 @@ pub fn put_report(page: &mut Page, table: &Table) {
     put_totals(page, table.regions(), table.events());
 }
 
-/// The devices, by rising number.
 fn put_devices(page: &mut Page, table: &Table) {
     page.text(",\"devices\":[");
     for device in 0..table.config().devices() {
@@ -31,7 +30,6 @@ fn put_devices(page: &mut Page, table: &Table) {
     page.text("]");
 }
 
-/// What a device has.
 fn put_device(page: &mut Page, table: &Table, device: u64) {
     put_used(page, table.used(device));
     page.text(",\"ranges\":[");
@@ -43,7 +41,6 @@ fn put_device(page: &mut Page, table: &Table, device: u64) {
     page.text("]");
 }
 
-/// Puts a comma before all but the first.
 fn put_comma(page: &mut Page, is_first: bool) {
     if !is_first {
         page.text(",");

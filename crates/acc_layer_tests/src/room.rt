@@ -63,8 +63,8 @@ pub fn filled(alloc: Global, order: Order, count: u64) -> Result<Rows<()>, Fault
     Ok(rows)
 }
 
-/// By which keys entries come, how many, how many of the first go again, how many more come then, and how many rows there
-/// are in the end.
+/// By which keys entries come, how many, how many of the first go, how many more come, and how many rows there are
+/// then.
 ///
 /// A row has place for 64. One that is full when an entry comes at its end keeps the 63 on its other side. Two rows
 /// side by side become one where they have 32 or fewer together.

@@ -41,18 +41,17 @@ struct Waiting {
     copied: Copied,
 }
 
-/// A queue of a device.
 #[derive(Clone, Copy, PartialEq, Eq)]
 struct Queue {
     device: u64,
     queue: u64,
 }
 
-/// A block of a device.
+/// A block: the number of its device, and its own number there.
 type Block = (u64, u64);
 
-/// What the events so far say, read and changed on one device at a time. Where memory was wanting for some of it, it says
-/// so.
+/// What the events so far say, read and changed on one device at a time. Where memory was wanting for some of it,
+/// [`Account::wants`] tells so.
 #[derive(Drop)]
 pub struct Account {
     /// The device that is read and changed.
@@ -66,7 +65,7 @@ pub struct Account {
 }
 
 impl Account {
-    /// That of a table without events.
+    /// The account of a table without events.
     pub fn new(alloc: Global) -> Account {
         Account {
             device: 0,
@@ -78,7 +77,7 @@ impl Account {
         }
     }
 
-    /// Whether memory was wanting for some of it.
+    /// Whether memory was wanting for some of it. Then it may be wrong.
     pub fn wants(&self) -> bool {
         self.wants
     }
@@ -91,7 +90,7 @@ impl Account {
         is_here.then_some(*placed)
     }
 
-    /// A range is mapped, or its counters are these now.
+    /// Keeps a range with its counters, new or changed.
     pub fn set(&mut self, placed: Placed) {
         if self
             .ranges
@@ -102,19 +101,20 @@ impl Account {
         }
     }
 
-    /// The mapping of a range has ended.
+    /// Drops a range whose mapping has ended.
     pub fn remove(&mut self, placed: Placed) {
         self.ranges
             .remove(&(self.device, placed.range.section.start));
     }
 
-    /// How often a pointer in a block is attached.
+    /// How often a pointer is attached in a block, by its host address and the block's number (OpenACC 3.3, section
+    /// 2.6.8).
     pub fn attached(&self, block: u64, pointer: u64) -> u64 {
         let key = ((self.device, block), pointer);
         self.pointers.get(&key).copied().unwrap_or(0)
     }
 
-    /// A pointer in a block is attached so often now.
+    /// Keeps how often a pointer is attached in a block now.
     pub fn attach(&mut self, block: u64, pointer: u64, count: u64) {
         let key = ((self.device, block), pointer);
         if self.pointers.insert(key, count).is_err() {
@@ -122,7 +122,7 @@ impl Account {
         }
     }
 
-    /// A copy is put into a queue.
+    /// Puts a copy at the end of a queue (OpenACC 3.3, section 2.16).
     pub fn put(&mut self, queue: u64, copied: Copied) {
         let queue = self.queue(queue);
         if self.waiting.push(Waiting { queue, copied }).is_err() {
@@ -130,7 +130,7 @@ impl Account {
         }
     }
 
-    /// The first copy of a queue, which is made now.
+    /// Takes the first copy out of a queue, if one waits there.
     pub fn take(&mut self, queue: u64) -> Option<Copied> {
         let queue = self.queue(queue);
         let nth = self.waiting.iter().position(|w| w.queue == queue)?;
@@ -140,7 +140,6 @@ impl Account {
         None
     }
 
-    /// The queue of a number.
     fn queue(&self, queue: u64) -> Queue {
         Queue {
             device: self.device,
@@ -148,7 +147,7 @@ impl Account {
         }
     }
 
-    /// The first of the device's queues in which copies wait.
+    /// The least number of a queue of the device in which copies wait.
     pub fn first_queue(&self) -> Option<u64> {
         let device = self.device;
         let here = self.waiting.iter().filter(|w| w.queue.device == device);
@@ -160,14 +159,14 @@ impl Account {
         self.waiting.len()
     }
 
-    /// A region is open whose entry is the event at a place of the trace.
+    /// Keeps that a region is open, by the place of its entry in the trace.
     pub fn open(&mut self, at: usize) {
         if self.regions.push(at).is_err() {
             self.wants = true;
         }
     }
 
-    /// The innermost region is left; answers the place of its entry in the trace.
+    /// Drops the innermost region, and answers the place of its entry in the trace.
     pub fn close(&mut self) -> Option<usize> {
         self.regions.pop()
     }

@@ -26,7 +26,6 @@ impl Log {
         self.tell_aim(names, told, did.aim);
     }
 
-    /// Tells a mapping that was found and counted once more.
     fn tell_counted(&mut self, names: &Names, told: LogItem, counter: Counter) {
         let Some(found) = self.account.inside(told.section) else {
             return;
@@ -63,7 +62,6 @@ impl Log {
         self.tell_range(names, told, "dropped", found.lowered(drops));
     }
 
-    /// Tells the end of a mapping.
     fn tell_end(&mut self, names: &Names, told: LogItem, found: Placed) {
         self.tell_copy(names, told, found);
         self.totals.ended = self.totals.ended.saturating_add(1);
@@ -81,8 +79,8 @@ impl Log {
         }
     }
 
-    /// Tells an item that did nothing to mappings: its section is empty or absent, or nothing of `enter data` counts it.
-    /// One of `attach` or `detach` names none.
+    /// The section is empty or absent, or nothing of `enter data` counts it. An item of `attach` or `detach` names
+    /// none.
     fn tell_nothing(&mut self, names: &Names, told: LogItem) {
         if told.is_pointer {
             return;
@@ -101,7 +99,6 @@ impl Log {
         }
     }
 
-    /// Tells a mapping as it is now, and keeps it so.
     fn tell_range(&mut self, names: &Names, told: LogItem, word: &str, placed: Placed) {
         self.account.set(placed);
         put_range(&mut self.page, names, told, word, placed);
@@ -128,7 +125,6 @@ impl Log {
         }
     }
 
-    /// Tells a copy that was put into a queue.
     fn tell_put(&mut self, names: &Names, told: LogItem, queue: u64, copied: Copied) {
         self.account.put(queue, copied);
         put_item(&mut self.page, told, "put");
@@ -137,7 +133,7 @@ impl Log {
         put_name(&mut self.page, names, copied.section);
     }
 
-    /// Tells what an item did to its pointer.
+    /// Tells what an item did to its pointer, and keeps how often that is attached now.
     pub(crate) fn tell_aim(&mut self, names: &Names, told: LogItem, aim: Aim) {
         match aim {
             Aim::None => {
@@ -173,7 +169,6 @@ impl Log {
         }
     }
 
-    /// Tells how often a pointer is attached now, and keeps that.
     fn tell_count(&mut self, names: &Names, block: u64, pointer: u64, count: u64) {
         self.account.attach(block, pointer, count);
         self.page.text(" count ");

@@ -23,7 +23,7 @@ pub struct LogItem {
 }
 
 impl LogItem {
-    /// An item of `data`, which enters.
+    /// An item of `data`, at the entry to its region (OpenACC 3.3, section 2.6.5).
     pub fn of_region(place: usize, item: Item<RegionClause>) -> LogItem {
         LogItem {
             place,
@@ -35,7 +35,7 @@ impl LogItem {
         }
     }
 
-    /// The same item, which leaves at the end of its region.
+    /// The same item, at the exit from its region.
     pub fn left_by(place: usize, item: Item<RegionClause>) -> LogItem {
         LogItem {
             place,
@@ -50,7 +50,7 @@ impl LogItem {
         }
     }
 
-    /// An item of `enter data`.
+    /// An item of `enter data` (OpenACC 3.3, section 2.6.6).
     pub fn of_enter(place: usize, item: Item<EnterClause>, queue: Option<u64>) -> LogItem {
         LogItem {
             place,
@@ -62,7 +62,7 @@ impl LogItem {
         }
     }
 
-    /// An item of `exit data`.
+    /// An item of `exit data` (OpenACC 3.3, section 2.6.6).
     pub fn of_exit(place: usize, item: Item<ExitClause>, queue: Option<u64>) -> LogItem {
         LogItem {
             place,
@@ -74,7 +74,7 @@ impl LogItem {
         }
     }
 
-    /// An item of `update`.
+    /// An item of `update` (OpenACC 3.3, the update directive).
     pub fn of_update(place: usize, item: Item<UpdateClause>, queue: Option<u64>) -> LogItem {
         LogItem {
             place,
@@ -86,7 +86,7 @@ impl LogItem {
         }
     }
 
-    /// The mapping that it makes, to a new block at a place.
+    /// The mapping that it makes, to a new block at a device address, with this counter 1 and the other 0.
     pub fn born(self, counter: Counter, block: u64, place: u64) -> Placed {
         let range = Range {
             section: self.section,
@@ -110,7 +110,7 @@ pub enum Drops {
 }
 
 impl Placed {
-    /// The range with a counter raised by one.
+    /// The range with one of its counters raised by one.
     pub fn raised(self, counter: Counter) -> Placed {
         let mut raised = self;
         match counter {
@@ -122,7 +122,7 @@ impl Placed {
         raised
     }
 
-    /// The range with a counter lowered so.
+    /// The range with a counter lowered so; none falls below 0.
     pub fn lowered(self, drops: Drops) -> Placed {
         let mut lowered = self;
         match drops {

@@ -8,10 +8,10 @@ use acc_page::{Names, Page};
 /// What each line of a log begins with.
 pub const MARK: &str = "lamwiest: ";
 
-/// What each line begins with that tells one thing of a call.
+/// What a line begins with that tells one thing of a call.
 const INNER_MARK: &str = "lamwiest:   ";
 
-/// Puts the line of a statement.
+/// Puts the line of a statement, by the number of its line.
 pub fn put_head(page: &mut Page, number: u64, text: &[u8]) {
     page.text(MARK);
     page.text("line ");
@@ -21,7 +21,7 @@ pub fn put_head(page: &mut Page, number: u64, text: &[u8]) {
     page.text("\n");
 }
 
-/// Puts a line of some words.
+/// Puts a line that says these words.
 pub fn put_inner(page: &mut Page, words: &str) {
     page.text(INNER_MARK);
     page.text(words);
@@ -52,7 +52,7 @@ pub fn put_written(page: &mut Page, names: &Names, section: Section) {
     put_name(page, names, section);
 }
 
-/// Puts the line of a copy that stood first in a queue.
+/// Puts the line of a copy that was made as the first of a queue.
 pub fn put_copied(page: &mut Page, names: &Names, copied: Copied, queue: u64) {
     page.text(INNER_MARK);
     page.text("copied");
@@ -61,7 +61,7 @@ pub fn put_copied(page: &mut Page, names: &Names, copied: Copied, queue: u64) {
     put_name(page, names, copied.section);
 }
 
-/// Puts the line of a region that was entered or exited.
+/// Puts the line of a region that was entered or exited, by its number.
 pub fn put_region(page: &mut Page, words: &str, number: u64) {
     page.text(INNER_MARK);
     page.text(words);
@@ -69,7 +69,7 @@ pub fn put_region(page: &mut Page, words: &str, number: u64) {
     page.text("\n");
 }
 
-/// Puts the line of a loan to a kernel, or of its end.
+/// Puts the line of a loan to a kernel, or of its end, by its serial number (OpenACC 3.3, section 2.5).
 pub fn put_loan(page: &mut Page, names: &Names, word: &str, copied: Copied, serial: u64) {
     page.text(INNER_MARK);
     page.text(word);
@@ -80,7 +80,7 @@ pub fn put_loan(page: &mut Page, names: &Names, word: &str, copied: Copied, seri
     put_name(page, names, copied.section);
 }
 
-/// Begins the line of an item.
+/// Begins the line of an item, by its place in the directive.
 pub fn put_item(page: &mut Page, told: LogItem, word: &str) {
     page.text(INNER_MARK);
     page.text("item ");
@@ -123,7 +123,7 @@ pub fn put_skipped(page: &mut Page, names: &Names, told: LogItem, why: &str) {
     put_name(page, names, told.section);
 }
 
-/// Puts the direction and the addresses of a copy.
+/// Puts the direction of a copy, its host address, its length in bytes and its device address.
 pub fn put_copy(page: &mut Page, copied: Copied) {
     page.text(way(copied.out));
     put_addresses(page, copied.section);
@@ -137,13 +137,13 @@ fn put_addresses(page: &mut Page, section: Section) {
     page.number(section.len);
 }
 
-/// Puts a device address.
+/// Puts a device address, behind `at`.
 pub fn put_place(page: &mut Page, place: u64) {
     page.text(" at ");
     page.address(place);
 }
 
-/// Puts the number of a queue.
+/// Puts the number of a queue, behind `queue`.
 pub fn put_queue(page: &mut Page, queue: u64) {
     page.text(" queue ");
     page.number(queue);
@@ -167,7 +167,6 @@ pub fn put_spot(page: &mut Page, names: &Names, address: u64) {
     page.text("\n");
 }
 
-/// The direction of a copy.
 fn way(out: bool) -> &'static str {
     if out { " out" } else { " in" }
 }

@@ -1,6 +1,5 @@
 //! The log: each call of a script, and behind it a line for each thing that it did, told from the events of the table.
-//!
-//! Its words are those of OpenACC: bytes are copied in to the device and copied out to host memory.
+//! Bytes are copied in to the device and copied out to host memory, in the words of OpenACC.
 
 use crate::accounts::{Account, Copied};
 use crate::log_items::{Drops, LogItem};
@@ -44,12 +43,12 @@ impl Log {
         }
     }
 
-    /// Puts the lines of a statement that was run: none where it made no call and was not refused. With several devices
-    /// they say on which one something was done.
+    /// Puts the lines of a statement that made events, was refused, or stepped an empty queue. With several devices they
+    /// say on which one something was done.
     ///
     /// # Errors
     ///
-    /// [`Fault::Memory`] alone, where some of it found no memory.
+    /// [`Fault::Memory`] alone, where the account of events found none. Of its own text the page tells that itself.
     pub fn tell(
         &mut self,
         names: &Names,
@@ -71,13 +70,13 @@ impl Log {
         Ok(())
     }
 
-    /// Puts the last line, which says how much was done in all.
+    /// Puts the last line: how much was done in all, and how many copies wait still.
     pub fn tell_total(&mut self) {
         let waiting = self.account.waiting() as u64;
         put_total(&mut self.page, &self.totals, waiting);
     }
 
-    /// Tells on which device a statement did something, where there are several: all of its events are on one.
+    /// All events of a statement are on one device, so it is told once.
     fn tell_device(&mut self, table: &Table) {
         let device = table.trace().get(self.told).and_then(device_of);
         if let (true, Some(device)) = (table.config().devices() > 1, device) {
@@ -85,7 +84,6 @@ impl Log {
         }
     }
 
-    /// Tells the events that were not told yet.
     fn tell_events(&mut self, names: &Names, trace: &[Event]) {
         for at in self.told..trace.len() {
             if let Some(event) = trace.get(at) {
@@ -95,7 +93,6 @@ impl Log {
         self.told = trace.len();
     }
 
-    /// Tells what came of a statement beside its events.
     fn put_outcome(&mut self, effect: Effect) {
         match effect {
             Effect::EmptyQueue => put_inner(&mut self.page, "idle"),
@@ -107,7 +104,6 @@ impl Log {
         }
     }
 
-    /// Tells the event at a place of the trace.
     fn tell_event(&mut self, names: &Names, trace: &[Event], at: usize, event: &Event) {
         self.account.device = event.device();
         match event {
@@ -170,7 +166,6 @@ impl Log {
         }
     }
 
-    /// Tells the items of `data`.
     fn tell_entry(&mut self, names: &Names, items: &[Item<RegionClause>], did: &[Did]) {
         for place in 0..items.len() {
             if let Some((item, did)) = paired(items, did, place) {
@@ -180,7 +175,6 @@ impl Log {
         }
     }
 
-    /// Tells the items of `enter data`.
     fn tell_entered(
         &mut self,
         names: &Names,
@@ -196,7 +190,6 @@ impl Log {
         }
     }
 
-    /// Tells the items of `exit data`.
     fn tell_exited(
         &mut self,
         names: &Names,
@@ -218,7 +211,7 @@ impl Log {
         }
     }
 
-    /// Tells the items of `end data`, the last one first: what its `data` counted of them is counted once less.
+    /// Tells the items of `end data`, the last one first.
     fn tell_exit(&mut self, names: &Names, trace: &[Event], did: &[Did]) {
         let Some(at) = self.account.close() else {
             return;
@@ -253,7 +246,7 @@ impl Log {
         }
     }
 
-    /// Tells what became of an item that a region held; nothing where it held none.
+    /// Tells what became of an item that a region held; nothing where its entry did nothing.
     fn tell_holding(&mut self, names: &Names, told: LogItem, held: Did, did: Did) {
         if !matches!(held.aim, Aim::None) {
             self.tell_aim(names, told, did.aim);
@@ -263,7 +256,6 @@ impl Log {
         }
     }
 
-    /// Tells the items of `update`.
     fn tell_updated(
         &mut self,
         names: &Names,
@@ -291,7 +283,6 @@ impl Log {
         }
     }
 
-    /// Tells the copy that stood first in a queue, which was made.
     fn tell_made(&mut self, names: &Names, queue: u64) {
         if let Some(copied) = self.account.take(queue) {
             self.totals.copied(copied.out, copied.section.len);
@@ -299,7 +290,6 @@ impl Log {
         }
     }
 
-    /// Tells that a block was lent to a kernel.
     fn tell_lent(&mut self, names: &Names, section: Section, serial: u64) {
         if let Some(found) = self.account.inside(section) {
             let copied = Copied {
@@ -312,7 +302,6 @@ impl Log {
         }
     }
 
-    /// Tells that the block that was lent came back.
     fn tell_gathered(&mut self, names: &Names, serial: u64) {
         if let Some(copied) = self.lent {
             self.lent = None;
@@ -321,7 +310,7 @@ impl Log {
     }
 }
 
-/// The device on which an event acted; none for a write of the host.
+/// A write of the host is on no device here, though its event names the first.
 fn device_of(event: &Event) -> Option<u64> {
     match event {
         Event::HostWritten { .. } => None,
@@ -329,7 +318,6 @@ fn device_of(event: &Event) -> Option<u64> {
     }
 }
 
-/// The item at a place and what was done for it.
 fn paired<C: Copy>(items: &[Item<C>], did: &[Did], place: usize) -> Option<(Item<C>, Did)> {
     Some((*items.get(place)?, *did.get(place)?))
 }

@@ -3,7 +3,7 @@
 use crate::log_lines::MARK;
 use acc_page::Page;
 
-/// How many mappings were made and ended, copies made each way with their bytes, and statements refused.
+/// How many mappings were made and ended, how many copies each way with their bytes, and how many statements refused.
 #[derive(Clone, Copy)]
 pub struct Totals {
     /// Mappings that were made.
@@ -23,7 +23,7 @@ pub struct Totals {
 }
 
 impl Totals {
-    /// Nothing was done.
+    /// Nothing was done yet.
     pub fn new() -> Totals {
         Totals {
             mapped: 0,
@@ -36,7 +36,7 @@ impl Totals {
         }
     }
 
-    /// A copy of so many bytes was made, from the device to host memory or the other way.
+    /// Adds a copy of `len` bytes, from the device to host memory or the other way.
     pub fn copied(&mut self, out: bool, len: u64) {
         if out {
             self.copies_out = self.copies_out.saturating_add(1);
@@ -48,7 +48,7 @@ impl Totals {
     }
 }
 
-/// Puts the last line of a log, with how many copies wait.
+/// Puts the last line of a log; `waiting` is how many copies wait in queues.
 pub fn put_total(page: &mut Page, totals: &Totals, waiting: u64) {
     page.text(MARK);
     page.text("total");
@@ -71,7 +71,6 @@ pub fn put_total(page: &mut Page, totals: &Totals, waiting: u64) {
     page.text("\n");
 }
 
-/// Puts two words, each with its number.
 fn put_counts(page: &mut Page, word: &str, number: u64, other_word: &str, other: u64) {
     page.text(word);
     page.number(number);

@@ -6,7 +6,6 @@ use acc_read::Array;
 use std::alloc::{AllocError, Global};
 use std::collections::BTreeMap;
 
-/// An array and its name.
 #[derive(Drop)]
 struct Named {
     name: Vec<u8>,
@@ -33,7 +32,7 @@ impl Spot<'_> {
         page.text("]");
     }
 
-    /// Puts so many bytes from here on as scripts name them: `a[8:4]`, or `a` where they are the whole array.
+    /// Puts `len` bytes from here on as scripts name them: `a[8:4]`, or `a` where they are the whole array.
     pub fn put_part(self, page: &mut Page, len: u64) {
         page.bytes(self.name);
         if self.offset == 0 && len == self.array.whole().len {
@@ -54,14 +53,14 @@ pub struct Names {
 }
 
 impl Names {
-    /// No array.
+    /// No array is declared yet.
     pub fn new(alloc: Global) -> Names {
         Names {
             all: BTreeMap::new(alloc),
         }
     }
 
-    /// Adds an array.
+    /// Adds an array under its first address.
     ///
     /// # Errors
     ///
@@ -72,7 +71,7 @@ impl Names {
         Ok(())
     }
 
-    /// Where an address lies; `None` where no array has it.
+    /// Where a host address lies; `None` where no array has it.
     pub fn spot(&self, address: u64) -> Option<Spot<'_>> {
         let address = u32::try_from(address).ok()?;
         let (_, named) = self.all.range(..=address).next_back()?;
@@ -87,7 +86,6 @@ impl Names {
     }
 }
 
-/// Where an address lies in an array, if it does.
 fn spot_in(named: &Named, address: u64) -> Option<Spot<'_>> {
     let array = named.array;
     if address < u64::from(array.start) || u64::from(array.end) <= address {

@@ -4,7 +4,7 @@ use acc_base::Fault;
 use std::alloc::Global;
 use std::fmt::{self, Write};
 
-/// A text that grows. Where memory is wanting, it says so once, at its end: so what writes it needs no `?`.
+/// A text that grows. [`Page::whole`] alone tells where memory was wanting, so what writes to it needs no `?`.
 #[derive(Drop)]
 pub struct Page {
     bytes: Vec<u8>,
@@ -12,7 +12,7 @@ pub struct Page {
 }
 
 impl Page {
-    /// No text.
+    /// An empty text.
     pub fn new(alloc: Global) -> Page {
         Page {
             bytes: Vec::new(alloc),
@@ -20,12 +20,12 @@ impl Page {
         }
     }
 
-    /// Adds some text.
+    /// Adds a text, as [`Page::bytes`] does.
     pub fn text(&mut self, text: &str) {
         self.bytes(text.as_bytes());
     }
 
-    /// Adds some bytes.
+    /// Adds bytes. Where memory is wanting they are left out, and [`Page::whole`] fails from then on.
     pub fn bytes(&mut self, bytes: &[u8]) {
         if self.bytes.extend_from_slice(bytes).is_err() {
             self.wants = true;
@@ -42,12 +42,12 @@ impl Page {
         let _ = write!(self, "0x{address:x}");
     }
 
-    /// Adds a fault: its number, its name, and each field with its value.
+    /// Adds a fault as its `Display` does: its number, its name, and each field with its value.
     pub fn fault(&mut self, fault: Fault) {
         let _ = write!(self, "{fault}");
     }
 
-    /// Takes all text away.
+    /// Takes all text away. That some of it found no memory stays known.
     pub fn clear(&mut self) {
         self.bytes.clear();
     }
@@ -67,7 +67,7 @@ impl Page {
         }
     }
 
-    /// The text so far.
+    /// The text so far, without what found no memory.
     pub fn as_slice(&self) -> &[u8] {
         &self.bytes
     }

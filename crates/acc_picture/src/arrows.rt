@@ -18,8 +18,8 @@ struct Arrow {
     target: u64,
 }
 
-/// Puts the arrows of all attached pointers of a device. Pointers one behind the other that go from the same row to the
-/// same row share one. What a lent block's pointers hold is not known.
+/// Puts the arrows of all attached pointers of a device (OpenACC 3.3, section 2.6.8). Neighbours that go from one row
+/// to one row share an arrow. What the pointers of a lent block hold is not known.
 pub fn put_arrows(page: &mut Page, table: &Table, names: &Names, scene: &Scene) {
     let (mut from, mut to) = (usize::MAX, usize::MAX);
     for attached in &scene.attached {
@@ -33,7 +33,6 @@ pub fn put_arrows(page: &mut Page, table: &Table, names: &Names, scene: &Scene) 
     }
 }
 
-/// The arrow of a pointer, where its target is known.
 fn arrow_of(table: &Table, scene: &Scene, attached: Attachment) -> Option<Arrow> {
     let place = table.device_address(scene.device, attached.pointer)?;
     let target = target_of(table, scene.device, attached.pointer)?;
@@ -45,7 +44,7 @@ fn arrow_of(table: &Table, scene: &Scene, attached: Attachment) -> Option<Arrow>
     })
 }
 
-/// What a pointer holds on a device.
+/// The device address that a pointer's eight bytes hold on a device.
 fn target_of(table: &Table, device: u64, pointer: u64) -> Option<u64> {
     let section = Section {
         start: pointer,
@@ -55,7 +54,7 @@ fn target_of(table: &Table, device: u64, pointer: u64) -> Option<u64> {
     Some(u64::from_le_bytes(*bytes))
 }
 
-/// Puts an arrow at the right of the device's column: the farther it reaches, the farther out.
+/// The farther an arrow reaches, the farther it stands out to the right.
 fn put_arrow(page: &mut Page, names: &Names, arrow: Arrow) {
     open_titled(page);
     put_title(page, names, arrow);

@@ -18,7 +18,6 @@ struct Bar {
 }
 
 impl Bar {
-    /// Puts its name, its size and its outline.
     fn put_outline(self, page: &mut Page, name: &str) {
         let y = self.y.saturating_add(12);
         open_text(page, "name", Point { x: MARGIN, y });
@@ -42,14 +41,14 @@ impl Bar {
         );
     }
 
-    /// Where an address lies in it.
+    /// Where an address lies, in pixels from the left end.
     fn pixel(self, address: u64) -> u64 {
         let offset = address.saturating_sub(self.base).min(self.size);
         offset.saturating_mul(BAR_WIDTH) / self.size.max(1)
     }
 
-    /// Puts some addresses, at least one pixel wide, unless they are a hole or end at a pixel that was put before;
-    /// answers up to which pixel some were put.
+    /// Puts some addresses, at least one pixel wide, and answers behind which pixel all is free. A hole is left out,
+    /// and so is what ends where something was put before.
     fn put_next(self, page: &mut Page, put: u64, kind: Kind, start: u64, len: u64) -> u64 {
         let from = self.pixel(start).min(BAR_WIDTH - 1);
         let until = self
@@ -63,7 +62,7 @@ impl Bar {
     }
 }
 
-/// Puts the bar of host memory, with the mapped ranges.
+/// Puts the bar of host memory of `size` bytes, with the mapped ranges, at an upper edge.
 pub fn put_host_bar(page: &mut Page, y: u64, size: u64, parts: &[Part]) {
     let base = HOST_BASE;
     let bar = Bar { y, base, size };
@@ -75,7 +74,7 @@ pub fn put_host_bar(page: &mut Page, y: u64, size: u64, parts: &[Part]) {
     close_group(page);
 }
 
-/// Puts the bar of a device, with its blocks.
+/// Puts the bar of a device's memory of `size` bytes, with its blocks, at an upper edge.
 pub fn put_device_bar(page: &mut Page, y: u64, size: u64, device: u64, entries: &[Entry]) {
     let base = DEVICE_BASE.saturating_mul(device.saturating_add(1));
     let bar = Bar { y, base, size };

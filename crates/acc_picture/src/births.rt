@@ -6,7 +6,11 @@ use acc_table::Table;
 use std::alloc::AllocError;
 use std::collections::BTreeMap;
 
-/// Adds an entry of no size for each block that was made since the base of the table: at each place the last one stays.
+/// Adds an entry of no size for each block that was made since the base of the table. At each place the last one stays.
+///
+/// # Errors
+///
+/// Where memory is wanting.
 pub fn add_births(
     table: &Table,
     device: u64,

@@ -58,7 +58,7 @@ impl DeviceRow {
         }
     }
 
-    /// Adds an attached pointer.
+    /// Adds an attached pointer that lies in the row; the first one is shown.
     pub fn attach(&mut self, attached: Attachment) {
         self.attached = self.attached.or(Some(attached));
         self.pointers = self.pointers.saturating_add(1);
@@ -69,7 +69,7 @@ impl DeviceRow {
         self.first.place
     }
 
-    /// Puts the row of a number.
+    /// Puts the row as the one of a number, counted from 0.
     pub fn put(&self, page: &mut Page, alloc: Global, names: &Names, nth: usize) {
         let area = device_area(nth);
         open_titled(page);
@@ -84,7 +84,6 @@ impl DeviceRow {
         close_group(page);
     }
 
-    /// What it looks like.
     fn class(&self) -> &'static str {
         if self.count > 1 {
             "group"
@@ -93,7 +92,6 @@ impl DeviceRow {
         }
     }
 
-    /// Puts what has no room in it.
     fn put_title(&self, page: &mut Page) {
         page.text("blocks ");
         page.number(self.blocks);
@@ -103,7 +101,6 @@ impl DeviceRow {
         page.number(self.pointers);
     }
 
-    /// Puts whose block it is, or how many blocks there are.
     fn put_name(&self, page: &mut Page, alloc: Global, names: &Names, area: Area) {
         open_text(page, "name", text_in(area, NAME));
         if self.count > 1 {
@@ -117,14 +114,12 @@ impl DeviceRow {
         close_text(page);
     }
 
-    /// Puts whether the block is lent, or its mapping has ended.
     fn put_state(&self, page: &mut Page, area: Area) {
         if self.count == 1 && matches!(self.first.kind, Kind::Lent | Kind::Ended(_)) {
             put_text(page, "number", text_in(area, STATE), self.class());
         }
     }
 
-    /// Puts the first attached pointer with its counter, and how many more there are.
     fn put_attached(&self, page: &mut Page, names: &Names, area: Area) {
         let Some(attached) = self.attached else {
             return;
@@ -150,7 +145,7 @@ fn put_counter(page: &mut Page, names: &Names, attached: Attachment) {
     page.number(attached.count);
 }
 
-/// The number of the row that has a device address.
+/// The number of the row that has a device address, from 0 on, where rows lie by rising address.
 pub fn row_at(rows: &[DeviceRow], address: u64) -> Option<usize> {
     let mut found = None;
     for (nth, row) in rows.iter().enumerate() {

@@ -41,7 +41,7 @@ pub enum Kind {
 }
 
 impl Kind {
-    /// What they look like.
+    /// The class of style of its shapes.
     pub fn class(self) -> &'static str {
         match self {
             Kind::Mapped => "mapped",
@@ -66,6 +66,10 @@ pub struct Entry {
 }
 
 /// Adds the mapped ranges of a device, and the bytes of arrays between them and behind them, by rising host address.
+///
+/// # Errors
+///
+/// Where memory is wanting.
 pub fn add_parts(
     table: &Table,
     names: &Names,
@@ -83,7 +87,7 @@ pub fn add_parts(
     Ok(())
 }
 
-/// The address behind a section.
+/// The host address behind a section.
 pub fn end_of(section: Section) -> u64 {
     section.start.saturating_add(section.len)
 }
@@ -119,6 +123,10 @@ fn unmapped_at(names: &Names, from: u64, limit: u64) -> Option<Section> {
 }
 
 /// Adds the blocks and holes of a device, by rising device address.
+///
+/// # Errors
+///
+/// Where memory is wanting.
 pub fn add_entries(
     alloc: Global,
     table: &Table,
@@ -136,7 +144,7 @@ pub fn add_entries(
     Ok(())
 }
 
-/// Places the births, and then over them all that is there now.
+/// Births come first: what is there now goes over those at the same places.
 fn place_all(
     table: &Table,
     device: u64,
@@ -151,7 +159,6 @@ fn place_all(
     add_holes(table, device, by_place)
 }
 
-/// Adds the block of a mapped range.
 fn add_block(part: Part, by_place: &mut BTreeMap<u64, Entry>) -> Result<(), AllocError> {
     let Some(mapped) = part.mapped else {
         return Ok(());
@@ -188,7 +195,6 @@ fn add_ended(
     Ok(())
 }
 
-/// The host bytes of what was placed at a place.
 fn section_at(by_place: &BTreeMap<u64, Entry>, place: u64) -> Option<Section> {
     by_place.get(&place)?.section
 }
@@ -215,7 +221,11 @@ fn add_holes(
     Ok(())
 }
 
-/// Adds the attached pointers of a device, by rising host address.
+/// Adds the attached pointers of the parts, by rising host address (OpenACC 3.3, section 2.6.8).
+///
+/// # Errors
+///
+/// Where memory is wanting.
 pub fn add_attached(
     table: &Table,
     device: u64,
@@ -228,7 +238,6 @@ pub fn add_attached(
     Ok(())
 }
 
-/// Adds the attached pointers of a section.
 fn attached_in(
     table: &Table,
     device: u64,

@@ -61,7 +61,7 @@ impl HostRow {
         }
     }
 
-    /// Puts the row of a number.
+    /// Puts the row as the one of a number, counted from 0.
     pub fn put(&self, page: &mut Page, alloc: Global, names: &Names, nth: usize) {
         let area = host_area(nth);
         open_titled(page);
@@ -75,7 +75,6 @@ impl HostRow {
         close_group(page);
     }
 
-    /// What it looks like.
     fn class(&self) -> &'static str {
         if self.lent > 0 {
             "lent"
@@ -86,7 +85,6 @@ impl HostRow {
         }
     }
 
-    /// Puts what has no room in it.
     fn put_title(&self, page: &mut Page, names: &Names) {
         if self.count > 1 {
             page.text("up to ");
@@ -98,7 +96,6 @@ impl HostRow {
         }
     }
 
-    /// Puts the name of the range, or how many there are.
     fn put_name(&self, page: &mut Page, alloc: Global, names: &Names, area: Area) {
         open_text(page, "name", text_in(area, NAME));
         if self.count > 1 {
@@ -120,7 +117,6 @@ impl HostRow {
     }
 }
 
-/// Puts the whole name of a range, and its place.
 fn put_range_title(page: &mut Page, names: &Names, part: Part) {
     if let Some(spot) = names.within(part.section) {
         spot.put_part(page, part.section.len);

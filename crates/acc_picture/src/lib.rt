@@ -1,8 +1,8 @@
-//! A picture of host memory and of a device's memory, as a file of SVG that a browser opens; with several devices there is
-//! one of each, below one another.
+//! A picture of host memory and of each device's memory, as a file of SVG that a browser opens. Devices stand one below
+//! the other.
 //!
-//! It has two bars to scale, and below them the mapped ranges and the device's blocks and holes as rows, in the order of
-//! their addresses and not to scale, so that each has room for its text. Where there are many, neighbours share a row.
+//! Two bars show the memories to scale. Below them mapped ranges, blocks and holes are rows by rising address. Rows are
+//! not to scale, so that each has room for its text. Where there are many, neighbours share a row.
 #![tactic(auto)]
 
 mod arrows;

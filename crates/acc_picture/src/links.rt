@@ -7,8 +7,8 @@ use crate::scenes::Scene;
 use crate::shapes::{close_group, close_title, open_titled, put_curve};
 use acc_page::Page;
 
-/// Puts a line from the row of a number to each row that has a block of one of its parts. Parts of the same row whose
-/// blocks lie in the same row one behind the other share a line.
+/// Puts a line from the host's row of a number to each row that has a block of one of its parts. Neighbours of one row
+/// whose blocks lie side by side in one row share a line.
 pub fn put_links(page: &mut Page, scene: &Scene, parts: &[Part], nth: usize) {
     let mut last = None;
     let mut count = 0;
@@ -27,7 +27,6 @@ pub fn put_links(page: &mut Page, scene: &Scene, parts: &[Part], nth: usize) {
     put_link(page, nth, last, count);
 }
 
-/// Puts one line, of so many ranges.
 fn put_link(page: &mut Page, nth: usize, to: Option<usize>, count: u64) {
     let Some(to) = to else {
         return;
@@ -40,14 +39,13 @@ fn put_link(page: &mut Page, nth: usize, to: Option<usize>, count: u64) {
     close_group(page);
 }
 
-/// Puts a line between rows of the host and of the device.
 fn put_between(page: &mut Page, class: &str, nth: usize, to: usize) {
     let from = middle_of(nth, HOST_END);
     let end = middle_of(to, DEVICE_X);
     put_curve(page, class, from, end, HOST_END.midpoint(DEVICE_X));
 }
 
-/// Puts a line to each block whose mapping has ended, from the bytes that were mapped to it.
+/// Puts a line to each block whose mapping has ended, from the host bytes that were mapped to it.
 pub fn put_kept(page: &mut Page, scene: &Scene) {
     for entry in &scene.entries {
         if matches!(entry.kind, Kind::Ended(_)) {
@@ -65,7 +63,6 @@ fn put_kept_line(page: &mut Page, scene: &Scene, entry: Entry) {
     }
 }
 
-/// The number of the part that has a host address.
 fn part_at(parts: &[Part], address: u64) -> Option<usize> {
     let mut found = None;
     for (nth, part) in parts.iter().enumerate() {

@@ -89,7 +89,6 @@ fn put_scenes(
     page.text("</svg>\n");
 }
 
-/// Puts the picture of one device.
 fn put_scene(
     page: &mut Page,
     alloc: Global,
@@ -115,7 +114,7 @@ fn put_device_rows(page: &mut Page, alloc: Global, names: &Names, scene: &Scene)
     }
 }
 
-/// Moves what follows so far down.
+/// All that follows stands so far lower.
 fn open_scene(page: &mut Page, y: u64) {
     if y > 0 {
         page.text("<g transform=\"translate(0 ");
@@ -124,14 +123,12 @@ fn open_scene(page: &mut Page, y: u64) {
     }
 }
 
-/// Ends what was moved down.
 fn close_scene(page: &mut Page, y: u64) {
     if y > 0 {
         close_group(page);
     }
 }
 
-/// Puts what stands before all shapes.
 fn open_picture(page: &mut Page, height: u64, caption: Caption<'_>) {
     page.text("<svg xmlns=\"http://www.w3.org/2000/svg\" role=\"img\" width=\"");
     page.number(WIDTH);
@@ -158,7 +155,6 @@ fn open_picture(page: &mut Page, height: u64, caption: Caption<'_>) {
     );
 }
 
-/// Puts when it was made, and the sums.
 fn put_head(page: &mut Page, table: &Table, device: u64, caption: Caption<'_>) {
     open_text(page, "title", Point { x: MARGIN, y: 22 });
     put_device(page, table, device);
@@ -169,7 +165,6 @@ fn put_head(page: &mut Page, table: &Table, device: u64, caption: Caption<'_>) {
     close_text(page);
 }
 
-/// Puts which device it is, where there are several.
 fn put_device(page: &mut Page, table: &Table, device: u64) {
     if table.config().devices() > 1 {
         page.text("Device ");
@@ -202,7 +197,6 @@ fn put_sums(page: &mut Page, table: &Table, device: u64) {
     page.number(table.events());
 }
 
-/// Puts host memory and the device's to scale.
 fn put_bars(page: &mut Page, table: &Table, scene: &Scene) {
     let config = table.config();
     put_host_bar(page, 50, config.host(), &scene.parts);
@@ -218,7 +212,7 @@ const HOST_HEADS: [(&str, u64); 5] = [
     ("dynamic", DYNAMIC),
 ];
 
-/// The same of the device.
+/// The heads of the columns of the device, and how far they stand from the left edge of its rows.
 const DEVICE_HEADS: [(&str, u64); 4] = [
     ("device memory", NAME),
     ("address", DEVICE_ADDRESS),
@@ -226,7 +220,6 @@ const DEVICE_HEADS: [(&str, u64); 4] = [
     ("attached", ATTACHED),
 ];
 
-/// Puts the heads of columns, behind a left edge.
 fn put_heads(page: &mut Page, x: u64, heads: &[(&str, u64)]) {
     let y = ROWS_Y.saturating_sub(8);
     for (head, column) in heads {
@@ -235,7 +228,6 @@ fn put_heads(page: &mut Page, x: u64, heads: &[(&str, u64)]) {
     }
 }
 
-/// Puts the rows of host memory with their lines to the device.
 fn put_host_rows(page: &mut Page, alloc: Global, names: &Names, scene: &Scene) {
     let parts = &scene.parts;
     for (nth, group) in parts.chunks(group_size(parts.len())).enumerate() {

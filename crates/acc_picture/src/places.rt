@@ -4,7 +4,7 @@ ghost use Rattle.std.specs.Prelude.{◌≤◌};
 
 use crate::shapes::{Area, Point};
 
-/// How far the picture's content stands from its edges.
+/// How far the picture's content stands from its edges. All lengths here are pixels.
 pub const MARGIN: u64 = 10;
 
 /// The width of the picture: that of a page of text.
@@ -43,31 +43,31 @@ pub const DEVICE_X: u64 = 420;
 /// The right edge of the rows of the device.
 pub const DEVICE_END: u64 = 784;
 
-/// Where the name of a row begins, as all columns so far from the row's left edge.
+/// Where the name of a row begins, from the row's left edge; so are the columns below.
 pub const NAME: u64 = 6;
 
 /// Where the address of a row of host memory begins.
 pub const HOST_ADDRESS: u64 = 98;
 
-/// Where its bytes begin.
+/// Where the bytes of a row of host memory begin.
 pub const HOST_BYTES: u64 = 170;
 
-/// Where its structured counter begins.
+/// Where the structured counter of a row of host memory begins.
 pub const STRUCTURED: u64 = 234;
 
-/// Where its dynamic counter begins.
+/// Where the dynamic counter of a row of host memory begins.
 pub const DYNAMIC: u64 = 313;
 
-/// Where it begins whether a block of the device is lent, or its mapping has ended.
+/// Where a row of the device tells that its block is lent, or its mapping has ended.
 pub const STATE: u64 = 97;
 
 /// Where the address of a row of the device begins.
 pub const DEVICE_ADDRESS: u64 = 142;
 
-/// Where its bytes begin.
+/// Where the bytes of a row of the device begin.
 pub const DEVICE_BYTES: u64 = 231;
 
-/// Where its attached pointers begin.
+/// Where the attached pointers of a row of the device begin.
 pub const ATTACHED: u64 = 294;
 
 /// How many letters of a name are shown at most.
@@ -79,7 +79,7 @@ pub const ROW_LIMIT: usize = 130;
 /// How many rows there are at most where neighbours share one.
 pub const GROUP_LIMIT: usize = 64;
 
-/// The upper edge of the row of a number.
+/// The upper edge of the row of a number, counted from 0.
 pub fn row_y(nth: usize) -> u64 {
     ROWS_Y.saturating_add(ROW_PITCH.saturating_mul(nth as u64))
 }
@@ -104,7 +104,7 @@ pub fn device_area(nth: usize) -> Area {
     }
 }
 
-/// Where a text of a row begins, so far from its left edge.
+/// Where a text begins that stands `x` from the left edge of a row.
 pub fn text_in(area: Area, x: u64) -> Point {
     Point {
         x: area.x.saturating_add(x),
@@ -112,7 +112,7 @@ pub fn text_in(area: Area, x: u64) -> Point {
     }
 }
 
-/// The middle of the edge of a row at `x`.
+/// The point at `x` half way down the row of a number.
 pub fn middle_of(nth: usize, x: u64) -> Point {
     Point {
         x,
@@ -120,7 +120,7 @@ pub fn middle_of(nth: usize, x: u64) -> Point {
     }
 }
 
-/// How many neighbours share a row.
+/// How many neighbours share a row, where there are so many entries; 1 up to `ROW_LIMIT`.
 pub fn group_size(count: usize) -> usize
     ensures { 1 ≤ result }
 {

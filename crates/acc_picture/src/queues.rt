@@ -31,7 +31,11 @@ pub struct Queue {
 /// How many copies of a queue are named at most.
 const COPY_LIMIT: usize = 3;
 
-/// Adds the queues of a device that are not empty.
+/// Adds the queues of a device that are not empty, by rising number (OpenACC 3.3, section 2.16).
+///
+/// # Errors
+///
+/// Where memory is wanting.
 pub fn add_queues(
     alloc: Global,
     table: &Table,
@@ -58,7 +62,6 @@ fn add_all(table: &Table, device: u64, queues: &mut [Queue]) -> Result<(), Alloc
     Ok(())
 }
 
-/// Adds the copies that were put into a queue.
 fn add_copies(
     table: &Table,
     device: u64,
@@ -73,7 +76,6 @@ fn add_copies(
     Ok(())
 }
 
-/// Adds the copies that an event put into a queue.
 fn add_event(event: &Event, number: u64, copies: &mut Vec<Queued>) -> Result<(), AllocError> {
     for nth in 0..count_in(event, number) {
         if let Some(copy) = copy_in(event, nth) {
@@ -94,7 +96,6 @@ fn count_in(event: &Event, number: u64) -> usize {
     }
 }
 
-/// The copy of an item of an event, if it makes one.
 fn copy_in(event: &Event, nth: usize) -> Option<Queued> {
     match event {
         Event::EnteredData { items, did, .. } => {
@@ -154,7 +155,7 @@ fn updated(item: Option<&Item<UpdateClause>>, did: Option<&Did>) -> Option<Queue
     }
 }
 
-/// Puts a line for each of some queues, below a height.
+/// Puts a line for each of some queues, the first one line below a height.
 pub fn put_queues(page: &mut Page, alloc: Global, names: &Names, queues: &[Queue], y: u64) {
     let mut y = y;
     for queue in queues {
@@ -164,7 +165,7 @@ pub fn put_queues(page: &mut Page, alloc: Global, names: &Names, queues: &[Queue
 }
 
 impl Queue {
-    /// Puts what it copies, the next one first.
+    /// The next copy stands first.
     fn put(&self, page: &mut Page, alloc: Global, names: &Names, y: u64) {
         open_text(page, "name", Point { x: MARGIN, y });
         page.text("queue ");
@@ -177,7 +178,6 @@ impl Queue {
         close_text(page);
     }
 
-    /// Puts how many more wait than these.
     fn put_rest(&self, page: &mut Page, shown: u64) {
         let rest = self.len.saturating_sub(shown);
         if rest > 0 {

@@ -28,6 +28,10 @@ pub struct Scene {
 
 impl Scene {
     /// What a device of a table has.
+    ///
+    /// # Errors
+    ///
+    /// Where memory is wanting.
     pub fn new(
         alloc: Global,
         table: &Table,
@@ -57,21 +61,20 @@ impl Scene {
         Ok(())
     }
 
-    /// The lower edge of its rows.
+    /// The lower edge of its rows, in pixels.
     pub fn foot(&self) -> u64 {
         let count = self.parts.len();
         let host = count.div_ceil(group_size(count));
         row_y(host.max(self.rows.len()))
     }
 
-    /// The height of its picture.
+    /// The height of its picture, in pixels.
     pub fn height(&self) -> u64 {
         let lines = LINE_PITCH.saturating_mul(self.queues.len() as u64);
         self.foot().saturating_add(lines).saturating_add(MARGIN)
     }
 }
 
-/// Adds the rows of a device.
 fn add_rows(entries: &[Entry], rows: &mut Vec<DeviceRow>) -> Result<(), AllocError> {
     for group in entries.chunks(group_size(entries.len())) {
         if let Some(row) = device_row(group) {
@@ -81,7 +84,6 @@ fn add_rows(entries: &[Entry], rows: &mut Vec<DeviceRow>) -> Result<(), AllocErr
     Ok(())
 }
 
-/// Adds attached pointers to the rows of the blocks that have them.
 fn attach_all(rows: &mut [DeviceRow], table: &Table, device: u64, all: &[Attachment]) {
     for attached in all {
         attach(

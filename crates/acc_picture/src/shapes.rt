@@ -15,7 +15,7 @@ pub struct Area {
     pub height: u64,
 }
 
-/// A place in the picture.
+/// A place in the picture, in pixels.
 #[derive(Clone, Copy)]
 pub struct Point {
     /// How far from the left.
@@ -24,7 +24,6 @@ pub struct Point {
     pub y: u64,
 }
 
-/// Puts an attribute with a number.
 fn put_attribute(page: &mut Page, name: &str, value: u64) {
     page.text(" ");
     page.text(name);
@@ -33,7 +32,6 @@ fn put_attribute(page: &mut Page, name: &str, value: u64) {
     page.text("\"");
 }
 
-/// Begins the element of a name with a class.
 fn put_element(page: &mut Page, name: &str, class: &str) {
     page.text("<");
     page.text(name);
@@ -42,7 +40,7 @@ fn put_element(page: &mut Page, name: &str, class: &str) {
     page.text("\"");
 }
 
-/// Puts a box.
+/// Puts a box of a class of style.
 pub fn put_box(page: &mut Page, class: &str, area: Area) {
     put_element(page, "rect", class);
     put_attribute(page, "x", area.x);
@@ -52,7 +50,7 @@ pub fn put_box(page: &mut Page, class: &str, area: Area) {
     page.text("/>\n");
 }
 
-/// Begins a text, whose first letter stands on a line from a point on.
+/// Begins a text of a class of style, whose first letter stands at a point; [`close_text`] ends it.
 pub fn open_text(page: &mut Page, class: &str, point: Point) {
     put_element(page, "text", class);
     put_attribute(page, "x", point.x);
@@ -60,33 +58,33 @@ pub fn open_text(page: &mut Page, class: &str, point: Point) {
     page.text(">");
 }
 
-/// Ends a text.
+/// Ends the text that was begun.
 pub fn close_text(page: &mut Page) {
     page.text("</text>\n");
 }
 
-/// Puts a text.
+/// Puts a whole text of a class of style.
 pub fn put_text(page: &mut Page, class: &str, point: Point, text: &str) {
     open_text(page, class, point);
     page.text(text);
     close_text(page);
 }
 
-/// Puts a number.
+/// Puts a number as a text.
 pub fn put_number(page: &mut Page, point: Point, number: u64) {
     open_text(page, "number", point);
     page.number(number);
     close_text(page);
 }
 
-/// Puts an address.
+/// Puts an address as a text: `0x` and hexadecimal digits.
 pub fn put_address(page: &mut Page, point: Point, address: u64) {
     open_text(page, "number", point);
     page.address(address);
     close_text(page);
 }
 
-/// Puts a curve between two points, which leaves and comes in as level as a line to a height `x` would.
+/// Puts a curve between two points, with its middle drawn out to `x`.
 pub fn put_curve(page: &mut Page, class: &str, from: Point, to: Point, x: u64) {
     put_element(page, "path", class);
     page.text(" d=\"M");
@@ -105,17 +103,17 @@ fn put_point(page: &mut Page, point: Point) {
     page.number(point.y);
 }
 
-/// Begins what is shown together, and the title that a browser shows over it.
+/// Begins a group of shapes, and the title that a browser shows over it.
 pub fn open_titled(page: &mut Page) {
     page.text("<g><title>");
 }
 
-/// Ends the title.
+/// Ends the title; the shapes of the group follow.
 pub fn close_title(page: &mut Page) {
     page.text("</title>\n");
 }
 
-/// Ends what is shown together.
+/// Ends the group.
 pub fn close_group(page: &mut Page) {
     page.text("</g>\n");
 }

@@ -5,7 +5,7 @@ use acc_base::Section;
 use acc_page::{Names, Page};
 use std::alloc::Global;
 
-/// Puts the name of a section, cut where it is long.
+/// Puts the name of a section, cut to `NAME_LIMIT` letters; nothing where no one array has the section.
 pub fn put_short_name(page: &mut Page, alloc: Global, names: &Names, section: Section) {
     let Some(spot) = names.within(section) else {
         return;

@@ -12,8 +12,7 @@ use Rattle.acc_base.specs.declared.items.UpdateClause.TheVariants.{ToSelf, ToDev
 use Rattle.acc_read.specs.declared.items.Kind.{Kind}
 use Rattle.acc_read.specs.declared.items.Kind.TheVariants.{Sections, Items, Pointers}
 
--- the clause of a word, a clause with the modifier of a word, what a clause lists, and the words of the option and of
--- the queue, where the directive has such
+-- what the words of a directive say: a clause, a clause with a modifier, what a clause lists, the option, and `async`
 pub record Grammar (C : Type 0) : Type 0 where
   pub clause_of : List ℕ → Option C
   pub modified : C → List ℕ → Option C

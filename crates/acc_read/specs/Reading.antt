@@ -25,20 +25,18 @@ abbrev pub wants : {Y : Type 0} → (Y → Bool) → Result Y ScriptFault → Bo
 wants needs (Ok y) = needs y
 wants needs (Err kind) = false
 
--- what a function that takes memory met is the fault that reading meets, or want of memory where reading meets none and
--- gives what needs memory
+-- a function that takes memory met the fault that reading meets, or want of memory where reading gives what needs
+-- memory
 abbrev pub Meets : {Y : Type 0} → (Y → Bool) → Trouble → Result Y ScriptFault → Type 0
 Meets needs trouble.Memory read = wants needs read ≡ true
 Meets needs (trouble.Line kind) read = read ≡ Err kind
 
--- what a function that takes memory returned, seen by a view, is what reading gives, or want of memory where reading
--- meets no fault and gives what needs memory
+-- a function that takes memory returned, seen by a view, what reading gives, or want of memory where that needs memory
 abbrev pub Gives : {X Y : Type 0} → (Y → Bool) → (X → Y) → Result X Trouble → Result Y ScriptFault → Type 0
 Gives needs view (Ok x) read = read ≡ Ok (view x)
 Gives needs view (Err trouble) read = Meets needs trouble read
 
--- what a function returned that keeps what it reads, seen by a view, is what reading gives, and that was kept; it is never
--- want of memory
+-- a function that keeps what it reads returned, seen by a view, what reading gives, and kept it; it never wants memory
 abbrev pub Keeps : {X Y Z : Type 0} → (Y → Type 0) → (X → Z) → Result X ScriptFault → Result (Y × Z) ScriptFault → Type 0
 Keeps {X} {Y} kept view (Ok x) read = (y : Y) × (read ≡ Ok (y, view x)) × kept y
 Keeps kept view (Err kind) read = read ≡ Err kind

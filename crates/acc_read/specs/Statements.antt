@@ -132,8 +132,8 @@ select_at text = do
 
 -- ---- kernels
 
--- `kernel`, a kernel and its section, in the innermost open region; each other fault of the line is told before there
--- is none (OpenACC 3.3, section 2.5, compute constructs)
+-- `kernel`, a kernel and its section, in the innermost open region (OpenACC 3.3, section 2.5, compute constructs). All
+-- other faults are told before that none is open
 unfoldable pub kernel_at : ArrayLayout → Option ℕ → List ℕ → Result Meaning ScriptFault
 kernel_at layout innermost text = do
   read ← last_kernel_at layout text
@@ -217,7 +217,7 @@ before_comment line = before_first (λ b. b == hash) line
 abbrev pub line_limit : ℕ
 line_limit = 4096
 
--- what a line asks for, where the current device has a number, and the innermost open region one, if one is open; a line
+-- what a line asks for, by the numbers of the current device and of the innermost open region, if one is open. A line
 -- that is too long is told first, then a byte that is no text
 unfoldable pub line_at : ArrayLayout → ℕ → Option ℕ → List ℕ → Result Meaning ScriptFault
 line_at layout device innermost line = if nat_lt line_limit (length line) then Err TooLong

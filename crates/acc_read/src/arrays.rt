@@ -29,14 +29,14 @@ impl Array {
         }
     }
 
-    /// The address of the byte at an offset. It may lie past the array.
+    /// The host address of the byte at an offset. It may lie past the array.
     pub fn byte(self, from: u32) -> u64
         ensures { result ≡ byte_of self from }
     {
         u64::from(self.start) + u64::from(from)
     }
 
-    /// So many bytes from an offset on. They may lie past the array.
+    /// The section of `len` bytes from an offset on. It may lie past the array.
     pub fn part(self, from: u32, len: u32) -> Section
         ensures { result ≡ part_of self from len }
     {
@@ -106,7 +106,7 @@ impl Arrays {
         }
     }
 
-    /// The array of a name.
+    /// The array of a name, if it is declared.
     pub fn get(&self, name: &[u8]) -> Option<Array>
         ensures { result ≡ array_of name.now self.now }
     {
@@ -134,7 +134,11 @@ impl Arrays {
         })
     }
 
-    /// Adds an array behind the last one. After an error nothing is changed.
+    /// Adds an array behind the last one.
+    ///
+    /// # Errors
+    ///
+    /// Where memory is wanting; then nothing is changed.
     pub fn insert(&mut self, alloc: Global, name: &[u8], array: Array) -> Result<(), AllocError>
         ensures ok { OnOk result (self.new ≡ with_array name.now array self.old) }
         ensures err { OnErr result (self.new ≡ self.old) }

@@ -21,9 +21,9 @@ use std::alloc::Global;
 pub struct Clauses<C> {
     /// The items, in written order.
     pub items: Vec<Item<C>>,
-    /// The option stands among them.
+    /// Whether the directive's option stands among them: `finalize` or `if_present`.
     pub has_option: bool,
-    /// The queue of `async`, if it stands among them.
+    /// The queue of `async`, if it stands among them (OpenACC 3.3, section 2.16).
     pub queue: Option<u64>,
 }
 
@@ -74,7 +74,6 @@ fn items_at<'a, C: Copy>(
     Err(ScriptFault::Syntax)
 }
 
-/// A clause with the modifier that stands next, before a colon; the text after the colon.
 #[tactic(auto, unfolding(crate::specs::Clauses::modifier_at))]
 fn modifier_at<C: Clause>(clause: C, text: &[u8]) -> Result<(C, &[u8]), ScriptFault>
     ensures { Reads (λ x. (x.0, x.1.now)) result (modifier_at C.grammar clause text.now) }
@@ -98,7 +97,6 @@ fn modified_at<C: Clause>(clause: C, text: &[u8]) -> Result<(C, &[u8]), ScriptFa
     }
 }
 
-/// The items of a clause, in parentheses, behind the items before; the text after them.
 #[tactic(auto, unfolding(crate::specs::Clauses::group_at))]
 fn group_at<'a, C: Clause>(
     clause: C,
@@ -188,8 +186,11 @@ fn with_clause<C: Copy>(unfinished: Unfinished<C>) -> Result<Clauses<C>, Trouble
     })
 }
 
-/// The clauses and options up to the end of the line, at least one clause. Want of memory is told once all of them were
-/// read, so that a fault comes first.
+/// The clauses and options up to the end of the line, at least one clause.
+///
+/// # Errors
+///
+/// The first fault of the text. Want of memory is told once all was read, so that a fault comes first.
 #[tactic(auto, unfolding(crate::specs::Clauses::clauses_at))]
 pub fn clauses_at<C: Clause>(
     alloc: Global,

@@ -13,7 +13,7 @@ use crate::troubles::Trouble;
 use acc_base::{Directive, List, ScriptFault};
 use std::alloc::Global;
 
-/// The start of a `data` construct on a device.
+/// The start of a `data` construct on a device (OpenACC 3.3, section 2.6.5).
 #[tactic(auto, unfolding(crate::specs::Statements::data_at), using(crate::proofs::Wanting::data_wants))]
 pub fn data_at(
     alloc: Global,
@@ -28,6 +28,10 @@ pub fn data_at(
 }
 
 /// The end of the `data` construct whose region is the innermost open one.
+///
+/// # Errors
+///
+/// `NoOpenRegion` where none is open, behind all other faults.
 #[tactic(auto, unfolding(crate::specs::Statements::end_at))]
 pub fn end_at(innermost: Option<u64>, text: &[u8]) -> Result<Statement<'static>, ScriptFault>
     ensures { Reads meaning_of result (end_at innermost text.now) }
@@ -40,7 +44,7 @@ pub fn end_at(innermost: Option<u64>, text: &[u8]) -> Result<Statement<'static>,
     Ok(Statement::Direct(Directive::Exit { number }))
 }
 
-/// The `enter data` directive, on a device.
+/// The `enter data` directive, on a device (OpenACC 3.3, section 2.6.6).
 #[tactic(auto, unfolding(crate::specs::Statements::enter_at), using(crate::proofs::Wanting::enter_wants))]
 pub fn enter_at(
     alloc: Global,
@@ -59,7 +63,7 @@ pub fn enter_at(
     }))
 }
 
-/// The `exit data` directive, on a device.
+/// The `exit data` directive, on a device (OpenACC 3.3, section 2.6.6).
 #[tactic(auto, unfolding(crate::specs::Statements::exit_at), using(crate::proofs::Wanting::exit_wants))]
 pub fn exit_at(
     alloc: Global,
@@ -79,7 +83,7 @@ pub fn exit_at(
     }))
 }
 
-/// The `update` directive, on a device.
+/// The `update` directive, on a device (OpenACC 3.3, the update directive).
 #[tactic(auto, unfolding(crate::specs::Statements::update_at), using(crate::proofs::Wanting::update_wants))]
 pub fn update_at(
     alloc: Global,
@@ -98,7 +102,6 @@ pub fn update_at(
     }))
 }
 
-/// The `wait` directive, of one queue of a device.
 #[tactic(auto, unfolding(crate::specs::Statements::wait_one_at))]
 fn wait_one_at(device: u64, text: &[u8]) -> Result<Statement<'static>, ScriptFault>
     ensures { Reads meaning_of result (wait_one_at device text.now) }
@@ -107,7 +110,7 @@ fn wait_one_at(device: u64, text: &[u8]) -> Result<Statement<'static>, ScriptFau
     Ok(Statement::Direct(Directive::Wait { device, queue }))
 }
 
-/// The `wait` directive, of one queue of a device or of all.
+/// The `wait` directive, of one queue of a device or of all (OpenACC 3.3, the wait directive).
 #[tactic(auto, unfolding(crate::specs::Statements::wait_at))]
 pub fn wait_at(device: u64, text: &[u8]) -> Result<Statement<'static>, ScriptFault>
     ensures { Reads meaning_of result (wait_at device text.now) }
@@ -121,7 +124,7 @@ pub fn wait_at(device: u64, text: &[u8]) -> Result<Statement<'static>, ScriptFau
     wait_one_at(device, text)
 }
 
-/// The step of a queue of a device.
+/// The step of a queue of a device, which is no directive of OpenACC (section 2.16).
 #[tactic(auto, unfolding(crate::specs::Statements::step_at))]
 pub fn step_at(device: u64, text: &[u8]) -> Result<Statement<'static>, ScriptFault>
     ensures { Reads meaning_of result (step_at device text.now) }
@@ -130,7 +133,7 @@ pub fn step_at(device: u64, text: &[u8]) -> Result<Statement<'static>, ScriptFau
     Ok(Statement::Direct(Directive::Step { device, queue }))
 }
 
-/// The `set` directive, which chooses the device that later lines are for.
+/// The `set` directive, which chooses the device that later lines are for (OpenACC 3.3, the set directive).
 #[tactic(auto, unfolding(crate::specs::Statements::select_at))]
 pub fn select_at(text: &[u8]) -> Result<Statement<'static>, ScriptFault>
     ensures { Reads meaning_of result (select_at text.now) }

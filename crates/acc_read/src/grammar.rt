@@ -7,7 +7,7 @@ use crate::items::Kind;
 use crate::tokens::is_text;
 use acc_base::{EnterClause, ExitClause, RegionClause, UpdateClause};
 
-/// The clauses of a directive.
+/// The clauses of a directive, by their words.
 pub trait Clause: Copy {
     /// The words of the clauses, their modifiers, what each lists, the option, and `async`.
     ghost grammar: { Grammar Self };

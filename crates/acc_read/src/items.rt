@@ -25,11 +25,10 @@ pub enum Kind {
 pub struct Named {
     /// The section, or the eight bytes of a pointer that stands alone.
     pub section: Section,
-    /// The host address of the pointer to the section.
+    /// The host address of the pointer to the section, if one is named.
     pub pointer: Option<u64>,
 }
 
-/// The pointer behind the word `via`, and the text after it.
 #[tactic(auto, unfolding(crate::specs::Items::via_at))]
 fn via_at<'a>(arrays: &Arrays, text: &'a [u8]) -> Result<(Option<u64>, &'a [u8]), ScriptFault>
     ensures { Reads (λ x. (x.0, x.1.now)) result (via_at arrays.now text.now) }

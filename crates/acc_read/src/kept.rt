@@ -14,7 +14,7 @@ pub struct Kept<T> {
 }
 
 impl<T: Copy> Kept<T> {
-    /// No item.
+    /// No item is kept yet.
     pub fn new(alloc: Global) -> Kept<T>
         ensures { IsKept result [] }
     {
@@ -24,7 +24,7 @@ impl<T: Copy> Kept<T> {
         }
     }
 
-    /// One more item.
+    /// Keeps one more item, if there is memory for it and was for all before.
     pub fn push(&mut self, item: T)
         ensures { (items : List T) → IsKept self.old items → IsKept self.new (items ++ item ∷ []) }
     {
@@ -33,7 +33,11 @@ impl<T: Copy> Kept<T> {
         }
     }
 
-    /// All items, or want of memory for one of them. The list gives back the places that no item needs.
+    /// All items. The list gives back the places that no item needs.
+    ///
+    /// # Errors
+    ///
+    /// Where memory was wanting for one of them.
     pub fn finish(self) -> Result<Vec<T>, AllocError>
         ensures { (items : List T) → IsKept self items
             → MatchResult result (λ all. all.items ≡ items) (λ _. (length items == 0) ≡ false) }

@@ -79,7 +79,11 @@ fn last_kernel_at(arrays: &Arrays, text: &[u8]) -> Result<(ScriptKernel, Section
     named_kernel_at(word, arrays, rest)
 }
 
-/// A kernel in the innermost open region.
+/// A kernel in the innermost open region (OpenACC 3.3, section 2.5, compute constructs).
+///
+/// # Errors
+///
+/// `NoOpenRegion` where none is open, behind all other faults.
 #[tactic(auto, unfolding(crate::specs::Statements::kernel_at))]
 pub fn kernel_at(
     arrays: &Arrays,

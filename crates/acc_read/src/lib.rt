@@ -1,5 +1,5 @@
-//! What a line of a script says: the lines of an input, tokens, arrays and where they lie, clauses, directives,
-//! statements. Nothing is run here.
+//! What a line of a script says: lines, tokens, arrays and where they lie, clauses, directives, statements. Nothing is
+//! run here.
 //!
 //! `specs/` says what a line means, apart from any code. A new statement is one case more in `statements`, and a new
 //! clause one more in `grammar`.

@@ -28,7 +28,7 @@ fn offset_at(array: Array, text: &[u8]) -> Result<(u64, &[u8]), ScriptFault>
     Ok((array.byte(from), rest))
 }
 
-/// The address of a byte of an array, and the text after it.
+/// The host address of a byte of an array, and the text after it.
 #[tactic(auto, unfolding(crate::specs::Places::address_at))]
 pub fn address_at<'a>(arrays: &Arrays, text: &'a [u8]) -> Result<(u64, &'a [u8]), ScriptFault>
     ensures { Reads (λ x. (x.0, x.1.now)) result (address_at arrays.now text.now) }
@@ -37,7 +37,7 @@ pub fn address_at<'a>(arrays: &Arrays, text: &'a [u8]) -> Result<(u64, &'a [u8])
     offset_at(array, rest)
 }
 
-/// An address, up to the end of the line.
+/// A host address, up to the end of the line.
 #[tactic(auto, unfolding(crate::specs::Places::last_address_at))]
 pub fn last_address_at(arrays: &Arrays, text: &[u8]) -> Result<u64, ScriptFault>
     ensures { Reads (λ x. x) result (last_address_at arrays.now text.now) }
@@ -62,7 +62,7 @@ fn part_at(array: Array, text: &[u8]) -> Result<(Section, &[u8]), ScriptFault>
     Ok((array.part(from, len), rest))
 }
 
-/// A section, which is an array or a part of one, and the text after it.
+/// A section of host memory, which is an array or a part of one, and the text after it.
 #[tactic(auto, unfolding(crate::specs::Places::section_at))]
 pub fn section_at<'a>(arrays: &Arrays, text: &'a [u8]) -> Result<(Section, &'a [u8]), ScriptFault>
     ensures { Reads (λ x. (x.0, x.1.now)) result (section_at arrays.now text.now) }
@@ -75,7 +75,7 @@ pub fn section_at<'a>(arrays: &Arrays, text: &'a [u8]) -> Result<(Section, &'a [
     }
 }
 
-/// A section, up to the end of the line.
+/// A section of host memory, up to the end of the line.
 #[tactic(auto, unfolding(crate::specs::Places::last_section_at))]
 pub fn last_section_at(arrays: &Arrays, text: &[u8]) -> Result<Section, ScriptFault>
     ensures { Reads (λ x. x) result (last_section_at arrays.now text.now) }

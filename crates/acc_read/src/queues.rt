@@ -6,7 +6,6 @@ ghost use Rattle.acc_read.specs.Queues.{enclosed_number_at, async_queue_at, last
 use crate::tokens::{is_at_end, is_mark_next, mark_at, number_at};
 use acc_base::ScriptFault;
 
-/// A number in parentheses, and the text after it.
 #[tactic(auto, unfolding(crate::specs::Queues::enclosed_number_at))]
 fn enclosed_number_at(text: &[u8]) -> Result<(u64, &[u8]), ScriptFault>
     ensures { Reads (λ x. (x.0, x.1.now)) result (enclosed_number_at text.now) }
@@ -17,8 +16,8 @@ fn enclosed_number_at(text: &[u8]) -> Result<(u64, &[u8]), ScriptFault>
     Ok((u64::from(number), rest))
 }
 
-/// The queue of `async`, and the text after it: the number in parentheses where they stand next, and else the first
-/// queue.
+/// The queue of `async`, and the text after it (OpenACC 3.3, section 2.16): the number in parentheses where they stand
+/// next, and else queue 0.
 #[tactic(auto, unfolding(crate::specs::Queues::async_queue_at))]
 pub fn async_queue_at(text: &[u8]) -> Result<(u64, &[u8]), ScriptFault>
     ensures { Reads (λ x. (x.0, x.1.now)) result (async_queue_at text.now) }

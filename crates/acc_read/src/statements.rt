@@ -18,7 +18,7 @@ use crate::writes::{point_at, write_at};
 use acc_base::{Directive, List, ScriptFault, Section};
 use std::alloc::Global;
 
-/// How many bytes a line may have.
+/// How many bytes a line may have, with its comment.
 const LINE_LIMIT: usize = 4096;
 
 /// What a line asks for.
@@ -28,9 +28,9 @@ pub enum Statement<'a> {
     Blank,
     /// A new array.
     Declare {
-        /// Its name.
+        /// The name.
         name: &'a [u8],
-        /// Where it lies.
+        /// Where the array lies.
         array: Array,
     },
     /// A directive.
@@ -41,7 +41,7 @@ pub enum Statement<'a> {
     Kernel {
         /// The number of the innermost open region.
         region: u64,
-        /// What it does.
+        /// What the kernel does.
         kernel: ScriptKernel,
         /// The section of host memory whose bytes on the device it changes.
         section: Section,
@@ -61,12 +61,16 @@ pub enum Statement<'a> {
     Present(Section),
     /// The device address of a host address.
     Address(u64),
-    /// The report.
+    /// Whether a section is present on the current device.
     Report,
 }
 
-/// What a line asks for, or its first fault. `device` is the number of the current device, which its directive is for, and
-/// `innermost` that of the innermost open region, if one is open.
+/// What a line asks for. `device` is the number of the current device, and `innermost` that of the innermost open
+/// region, if one is open.
+///
+/// # Errors
+///
+/// The first fault of the line; want of memory where it has none, and its items or bytes found no memory.
 #[tactic(auto, unfolding(crate::specs::Statements::line_at))]
 pub fn line_at<'a>(
     alloc: Global,
@@ -98,7 +102,6 @@ fn before_comment(line: &[u8]) -> &[u8]
     text
 }
 
-/// How many bytes stand before a comment.
 fn comment_place(line: &[u8]) -> usize
     ensures count { result ≡ prefix_len (λ b. not (b == hash)) line.now }
     ensures bound { result ≤ length line.now }
@@ -106,14 +109,12 @@ fn comment_place(line: &[u8]) -> usize
     line.iter().take_while(|b| **b != b'#').count()
 }
 
-/// The byte may stand before a comment.
 fn is_text_byte(b: u8) -> bool
     ensures { result ≡ is_text_byte b }
 {
     b == b'\t' || (b' ' <= b && b <= b'~')
 }
 
-/// Each of the bytes may stand before a comment.
 fn has_text_bytes(bytes: &[u8]) -> bool
     ensures { result ≡ list_all is_text_byte bytes.now }
 {

@@ -18,7 +18,6 @@ fn is_blank(b: u8) -> bool
     b == b' ' || b == b'\t'
 }
 
-/// The byte may stand in a word.
 fn is_word_byte(b: u8) -> bool
     ensures { result ≡ is_word_byte b }
 {
@@ -63,7 +62,7 @@ pub fn is_text(word: &[u8], text: &str) -> bool
     word == text.as_bytes()
 }
 
-/// The next word, and the text after it.
+/// The next word, which has letters, digits and `_`, and the text after it.
 #[tactic(auto, unfolding(crate::specs::Tokens::word_at))]
 pub fn word_at(text: &[u8]) -> Result<(&[u8], &[u8]), ScriptFault>
     ensures { Reads (λ x. (x.0.now, x.1.now)) result (word_at text.now) }
@@ -76,7 +75,7 @@ pub fn word_at(text: &[u8]) -> Result<(&[u8], &[u8]), ScriptFault>
     Ok(token.split_at(len))
 }
 
-/// This keyword; the text after it.
+/// The text after this keyword, which has to stand next.
 #[tactic(auto, unfolding(crate::specs::Tokens::keyword_at))]
 pub fn keyword_at<'a>(keyword: &str, text: &'a [u8]) -> Result<&'a [u8], ScriptFault>
     ensures { Reads (λ x. x.now) result (keyword_at keyword.now text.now) }
@@ -108,7 +107,7 @@ pub fn is_mark_next(mark: u8, text: &[u8]) -> bool
     }
 }
 
-/// This mark; the text after it.
+/// The text after this mark, which has to stand next.
 #[tactic(auto, unfolding(crate::specs::Tokens::mark_at))]
 pub fn mark_at(mark: u8, text: &[u8]) -> Result<&[u8], ScriptFault>
     ensures { Reads (λ x. x.now) result (mark_at mark text.now) }
@@ -129,7 +128,7 @@ pub fn skip_comma(text: &[u8]) -> &[u8]
     }
 }
 
-/// The next token is a word, or nothing, and this mark follows it.
+/// The next token is a word and this mark follows it, or it is this mark.
 pub fn is_word_before(mark: u8, text: &[u8]) -> bool
     ensures { result ≡ is_word_before mark text.now }
 {
@@ -145,7 +144,7 @@ fn has_digits(word: &[u8]) -> bool
     word.iter().all(|b| b.is_ascii_digit())
 }
 
-/// The number that digits say, or one past the limit where it is more.
+/// The number that digits say, or `limit + 1` where it is more.
 fn capped_value(limit: u32, digits: &[u8]) -> u64
     ensures { result ≡ min (value_of digits.now) (limit + 1) }
 {
@@ -182,7 +181,6 @@ pub fn number_at(limit: u32, text: &[u8]) -> Result<(u32, &[u8]), ScriptFault>
     Ok((number_said(limit, word)?, rest))
 }
 
-/// The byte may stand in a name.
 fn is_name_byte(b: u8) -> bool
     ensures { result ≡ is_name_byte b }
 {
@@ -199,7 +197,6 @@ fn begins_lower(word: &[u8]) -> bool
     }
 }
 
-/// The word has bytes of names alone.
 fn has_name_bytes(word: &[u8]) -> bool
     ensures { result ≡ list_all is_name_byte word.now }
 {
@@ -235,7 +232,11 @@ fn has_hex_digits(word: &[u8]) -> bool
     word.iter().all(|b| b.is_ascii_hexdigit())
 }
 
-/// Whether a word says bytes, and else its fault.
+/// Checks that a word says bytes: pairs of hexadecimal digits, of either case.
+///
+/// # Errors
+///
+/// The fault of a word that does not.
 #[tactic(auto, using(crate::proofs::ByteWords::word_laws))]
 pub fn check_bytes(word: &[u8]) -> Result<(), ScriptFault>
     ensures { Checks result (bytes_said word.now) }
@@ -252,7 +253,11 @@ pub fn check_bytes(word: &[u8]) -> Result<(), ScriptFault>
     Ok(())
 }
 
-/// The bytes that a word says, two digits each.
+/// The bytes that a word says, two digits each. It has to be checked by [`check_bytes`].
+///
+/// # Errors
+///
+/// Where memory is wanting.
 #[tactic(auto, using(crate::proofs::ByteWords::word_decoded))]
 pub fn bytes_said(alloc: Global, word: &[u8]) -> Result<List<u8>, AllocError>
     requires { IsOk (bytes_said word.now) }

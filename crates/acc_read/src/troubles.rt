@@ -6,7 +6,7 @@ ghost use Rattle.acc_read.specs.declared.troubles.Trouble.TheVariants.{Memory, L
 use acc_base::ScriptFault;
 use std::alloc::{AllocError, AllocFailed};
 
-/// Why a line gave no statement.
+/// Why a line gives no statement.
 #[derive(Clone, Copy)]
 pub enum Trouble {
     /// No memory could be had for it.

@@ -13,7 +13,7 @@ use crate::troubles::Trouble;
 use acc_base::{List, ScriptFault};
 use std::alloc::Global;
 
-/// The address and the bytes of a `write`.
+/// The host address and the bytes of a `write`.
 #[tactic(auto, unfolding(crate::specs::Statements::write_at))]
 pub fn write_at(alloc: Global, arrays: &Arrays, text: &[u8]) -> Result<Statement<'static>, Trouble>
     ensures { Gives takes_memory meaning_of result (write_at arrays.now text.now) }
@@ -28,7 +28,7 @@ pub fn write_at(alloc: Global, arrays: &Arrays, text: &[u8]) -> Result<Statement
     Ok(Statement::Write { addr, bytes })
 }
 
-/// The pointer of a `point` and the address that is written into it.
+/// The pointer of a `point`, and the host address that is written into it as eight bytes, the lowest first.
 #[tactic(auto, unfolding(crate::specs::Statements::point_at))]
 pub fn point_at(alloc: Global, arrays: &Arrays, text: &[u8]) -> Result<Statement<'static>, Trouble>
     ensures { Gives takes_memory meaning_of result (point_at arrays.now text.now) }

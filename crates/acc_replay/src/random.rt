@@ -42,10 +42,8 @@ const LIMITS: Limits = Limits {
 /// The first array.
 const A: u64 = HOST_BASE;
 
-/// A second array, behind the first one.
 const B: u64 = A + 16;
 
-/// A third.
 const C: u64 = A + 32;
 
 /// The address of the first array, as a pointer in the second one holds it.
@@ -236,7 +234,6 @@ fn take_one(
     Ok(())
 }
 
-/// Takes all turns.
 fn take_all(
     rt: &(impl Abort + AllocGlobal),
     table: &mut Table,

@@ -1,5 +1,5 @@
-//! A replay of stored events, written apart from the definitions: it has bytes of its own, and reads of the table no more
-//! than its base and its events.
+//! A replay of stored events, written apart from the definitions. It has bytes of its own, and reads only the base and
+//! the events of the table.
 
 use acc_base::{
     Aim, Did, EnterClause, Event, ExitClause, HOST_BASE, Item, QUEUE_COUNT, RegionClause, Section,
@@ -73,7 +73,6 @@ fn place(first: u64, address: u64) -> usize {
     address.saturating_sub(first) as usize
 }
 
-/// Writes bytes over those from a place on.
 fn overwrite(bytes: &mut [u8], at: usize, new: &[u8]) {
     for (byte, written) in bytes.iter_mut().skip(at).zip(new) {
         *byte = *written;
@@ -124,7 +123,6 @@ struct Copies {
     out: bool,
 }
 
-/// What the clause of a data region does with bytes.
 fn copies_of_region(clause: RegionClause) -> Copies {
     let (into, zero, out) = match clause {
         RegionClause::Copy => (true, false, true),
@@ -136,7 +134,6 @@ fn copies_of_region(clause: RegionClause) -> Copies {
     Copies { into, zero, out }
 }
 
-/// What the clause of an `enter data` does with bytes.
 fn copies_of_enter(clause: EnterClause) -> Copies {
     let (into, zero) = match clause {
         EnterClause::Copyin => (true, false),
@@ -147,7 +144,6 @@ fn copies_of_enter(clause: EnterClause) -> Copies {
     Copies { into, zero, out }
 }
 
-/// What the clause of an `exit data` does with bytes.
 fn copies_of_exit(clause: ExitClause) -> Copies {
     let (into, zero, out) = (false, false, matches!(clause, ExitClause::Copyout));
     Copies { into, zero, out }
@@ -386,7 +382,6 @@ impl Replay {
         }
     }
 
-    /// Entry to a region.
     fn enter_region(
         &mut self,
         alloc: Global,
@@ -417,7 +412,6 @@ impl Replay {
         Ok(())
     }
 
-    /// An `enter data`.
     fn enter_data(
         &mut self,
         alloc: Global,
@@ -432,7 +426,6 @@ impl Replay {
         Ok(())
     }
 
-    /// An `exit data`.
     fn exit_data(
         &mut self,
         items: &[Item<ExitClause>],
@@ -445,7 +438,6 @@ impl Replay {
         Ok(())
     }
 
-    /// An `update`.
     fn update(
         &mut self,
         items: &[Item<UpdateClause>],
@@ -480,7 +472,6 @@ impl Replay {
         }
     }
 
-    /// A block is lent.
     fn lend(&mut self, section: Section, block: u64) -> Result<(), AllocError> {
         let block = self.name(block);
         for kept in &self.blocks {

@@ -14,7 +14,8 @@ use Rattle.acc_table.specs.Queries.{host_read_of}
 use Rattle.acc_runtime.specs.Shares.{Shares}
 use Rattle.acc_runtime.specs.Acts.{IsActed, IsDenied}
 
--- a table accepted the call of a caller with this reply, and the caller's shares are those after it; it kept the laws before and after
+-- a table that keeps the laws, before and after, accepted the call with this reply, and the caller's shares are those
+-- after it
 pub record WasAccepted (p : Shares) (call : Call Leased) (reply : Reply) (q : Shares) : Type 0 where
   pub before : World
   pub next : World

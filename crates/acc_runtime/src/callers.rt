@@ -10,13 +10,13 @@ use acc_table::Call;
 use std::marker::Model;
 use std::sync::ledger::{Ledger, Share};
 
-/// A caller of a [`Runtime`](crate::Runtime), with its shares: how many more data regions it may have open, its
-/// allowance; how many more events it may make, its tickets; and how many it made.
+/// A caller of a [`Runtime`](crate::Runtime), with its shares. Its allowance is how many more data regions it may have
+/// open, and its tickets are how many more events it may make. It counts the events that it made.
 ///
 /// [`Runtime::new`](crate::Runtime::new) answers the first caller, which has all regions and all tickets. A caller is
-/// split for another thread, and merged when that is done. No share is ever made or lost on the way, so a caller that
-/// has the whole allowance again knows that no region is open: [`Runtime::look`](crate::Runtime::look) tells it. A
-/// caller that is dropped takes its shares with it.
+/// split for another thread, and merged when that is done. No share is ever made or lost on the way. So a caller that
+/// has the whole allowance again knows that no region is open, which [`Runtime::look`](crate::Runtime::look) tells it.
+/// A caller that is dropped takes its shares with it.
 ///
 /// Contracts see a caller as its `Shares`.
 #[derive(Drop)]
@@ -45,7 +45,7 @@ impl<Regions: Ledger, Tickets: Ledger, Events: Ledger> Model for Caller<Regions,
 }
 
 impl<Regions: Ledger, Tickets: Ledger, Events: Ledger> Caller<Regions, Tickets, Events> {
-    /// How many more regions it may have open.
+    /// Its allowance: how many more regions it may have open.
     pub fn allowance(&self) -> u64
         ensures { result ≡ self.now.allowance }
     {
@@ -126,7 +126,6 @@ impl<Regions: Ledger, Tickets: Ledger, Events: Ledger> Caller<Regions, Tickets, 
         self.made += made;
     }
 
-    /// Whether its shares allow a call.
     pub(crate) fn check(&self, call: &Call) -> Result<(), Fault>
         ensures told { result ≡ enough_for call.now self.now }
         ensures enough { OnOk result (IsEnough call.now self.now) }

@@ -100,7 +100,6 @@ fn make_rounds<Regions: Ledger, Tickets: Ledger, Events: Ledger, R: Wait + Alloc
     Ok(())
 }
 
-/// What one thread does.
 fn work<Regions: Ledger, Tickets: Ledger, Events: Ledger, R: Wait + AllocGlobal, G: Gate<R>>(
     rt: &R,
     runtime: &Runtime<Regions, Tickets, Events>,
@@ -254,7 +253,6 @@ fn tell(table: &Table, allowance: u64) -> Drilled
     }
 }
 
-/// Looks at what is left.
 fn look<Regions: Ledger, Tickets: Ledger, Events: Ledger, R: Wait>(
     rt: &R,
     runtime: &Runtime<Regions, Tickets, Events>,
@@ -270,19 +268,18 @@ fn look<Regions: Ledger, Tickets: Ledger, Events: Ledger, R: Wait>(
     runtime.look(rt, caller, |table| tell(table, allowance))
 }
 
-/// Maps an array on the first device by `enter data copyin`, and lets threads enter and exit regions over it there
-/// (OpenACC 3.3, section 2.6.5, data construct): each thread has a caller of its own, with one region and as many
-/// tickets as it needs, which is split off before any begins and merged when all are done. It calls the gate's `before`
-/// with its number, counted from 0, makes so many rounds, and calls `after`. There are 1 to 64 threads, and 1 to 1,000
-/// rounds.
+/// Maps an array on the first device by `enter data copyin`, and lets threads enter and exit regions over it (OpenACC 3.3, section 2.6.5, data construct). Each thread has a caller of its own, with one region and as many
+/// tickets as it needs. All are split off before any thread begins, and merged when all are done. A thread calls the
+/// gate's `before` with its number, counted from 0, makes its rounds, and calls `after`. There are 1 to 64 threads, and
+/// 1 to 1,000 rounds.
 ///
 /// What it answers is read from the table: with the whole allowance back, no region of any thread is open.
 ///
 /// # Errors
 ///
-/// [`Fault::Memory`]; those of [`Runtime::enter_data`], of [`Caller::split`], and of [`Runtime::enter`] and
-/// [`Runtime::exit`] in a thread, which stops there, and leaves a region open that it cannot exit. The fault of the first
-/// thread is told, by its number. What was done before stays done.
+/// [`Fault::Memory`], and those of [`Runtime::enter_data`] and [`Caller::split`]. Of the threads the fault of the first
+/// by number is told: it is of [`Runtime::enter`] or [`Runtime::exit`], and the thread stops there. A region that it
+/// cannot exit stays open. What was done before stays done.
 pub fn drill<
     Regions: Ledger + Send + Sync,
     Tickets: Ledger + Send + Sync,

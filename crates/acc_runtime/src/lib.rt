@@ -1,13 +1,13 @@
 //! One table of an OpenACC 3.3 data runtime under one lock, for any number of threads.
 //!
 //! A [`Runtime`] is shared by reference. Each of its calls takes the lock once, for one call on the table. Whenever the
-//! lock is free, the laws of [`laws::Locked`] hold: on each device mapped ranges and blocks are disjoint and account for
-//! every used byte, no range has both counters zero, and every counter is what the history of all calls gives.
+//! lock is free, the laws of [`laws::Locked`] hold. On each device mapped ranges and blocks are disjoint and account
+//! for every used byte. No range has both counters zero, and every counter is what the history of all calls gives.
 //!
-//! Who makes calls is a [`Caller`]. It has shares of what all callers together may do: of the regions that may be open,
-//! its allowance, and of the events that may be made, its tickets. They are split and merged, and never made or lost. So
-//! a caller that has the whole allowance again knows that no region is open and every structured counter of each device
-//! is zero: [`Runtime::look`] tells it to the closure that it calls.
+//! Who makes calls is a [`Caller`]. It has shares of the regions that may be open, its allowance, and of the events
+//! that may be made, its tickets. They are split and merged, and never made or lost. So a caller that has the whole
+//! allowance again knows that no region is open and every structured counter is zero. [`Runtime::look`] tells it to the
+//! closure that it calls.
 //!
 //! Here two threads map the same bytes. Whichever comes first makes the mapping, and the other one counts it, so
 //! `used_by_two` answers 16:

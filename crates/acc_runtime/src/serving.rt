@@ -36,8 +36,8 @@ fn step_of<Regions: Ledger, Tickets: Ledger, Events: Ledger, R: Wait>(
     runtime.step(rt, caller, word / QUEUE_COUNT, word % QUEUE_COUNT)
 }
 
-/// Steps the queue that a word means until it is empty, or a step is refused, or as many are made as a queue may have.
-/// Answers whether one was refused.
+/// Steps until the queue is empty, a step is refused, or as many are made as a queue may have. So a queue that is
+/// filled meanwhile keeps no word waiting. Answers whether a step was refused.
 fn drain<Regions: Ledger, Tickets: Ledger, Events: Ledger, R: Wait>(
     rt: &R,
     runtime: &Runtime<Regions, Tickets, Events>,
@@ -62,10 +62,9 @@ fn drain<Regions: Ledger, Tickets: Ledger, Events: Ledger, R: Wait>(
 }
 
 /// Makes the transfers of each queue whose word is received, until the channel is closed (OpenACC 3.3, section 2.16,
-/// asynchronous behavior): the word `w` means queue `w % 16` of device `w / 16`, so the words below 16 are the queues of
-/// the first device. For the n-th word, counted from 0, the gate's `before(n)` is called, and `after(n)` when the
-/// queue is empty, or a step was refused, or as many steps were made as a queue may have. The lock is free between two
-/// steps, and while the gate is called.
+/// asynchronous behavior). The word `w` means queue `w % 16` of device `w / 16`. A queue is stepped until it is empty,
+/// a step is refused, or as many are made as a queue may have. For the n-th word, counted from 0, the gate's
+/// `before(n)` and `after(n)` are called around that. The lock is free between two steps, and while the gate is called.
 ///
 /// A word of a device that is not there is a refusal, as every step is that the table or the caller's shares refuse. The
 /// words behind it are served too. The numbers for the gate end at `usize::MAX`, which all later words get.

@@ -16,9 +16,9 @@ use std::sync::ledger::Ledger;
 use std::test::Fail;
 use std::thread::Threads;
 
-/// A drill, and what it leaves: the regions and tickets of the runtime, the threads and the rounds of each, what goes on
-/// around them, the numbers that the drill answers, in the order of [`Drilled`], and what the caller has left of regions
-/// and made.
+/// A drill, and what it leaves. The numbers are regions, tickets, threads, and rounds of each, and then what goes on
+/// around them. Behind it stand the numbers that the drill answers, in the order of [`Drilled`], and what the caller
+/// has left of regions and made.
 pub type Drilling = (
     (u64, u64),
     (usize, u64),
@@ -255,7 +255,7 @@ impl<
         Fault::Memory
     }
 
-    /// Makes the drill.
+    /// Makes a drill with what goes on around it, and compares what it answers and leaves.
     pub fn run_drill(&mut self, drilling: Drilling) -> Result<(), Fault> {
         let (_, work, around, wanted, kept) = drilling;
         let found = numbers(self.drill_as(work, around));

@@ -1,6 +1,6 @@
-//! Tests of `acc_runtime`: what no clause of it says. They stand in a crate of their own, so that it is proved once and not
-//! twice; threads that meet have one more, `acc_thread_tests`, so that none takes long. A test with `growth` in its name passes where any one
-//! growth of memory, or any one start of a thread, is refused to its program, too.
+//! Tests of `acc_runtime`: what no clause of it says. They stand in a crate of their own, so that it is proved once and
+//! not twice. Threads that meet have one more, `acc_thread_tests`, so that none takes long. A test with `growth` in its
+//! name passes also where one growth of memory, or one start of a thread, is refused.
 #![tactic(auto)]
 
 #[cfg(test)]

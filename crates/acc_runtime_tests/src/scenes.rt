@@ -69,7 +69,6 @@ impl<
         same(self.rt, (table, self.runtime.config()), (config, config));
     }
 
-    /// Plays a scene.
     fn play(&mut self, scene: Scene, config: Config) -> Result<(), Fault> {
         self.has_limits(config);
         match scene {

@@ -48,9 +48,7 @@ abbrev pub WantedMemory : Transcript → Option Taken → Option Taken → Type 
 WantedMemory t old new =
     (lines : ℕ) × (slice_index_or t.wanting lines false ≡ true) × Took old new (concat (take lines t.texts))
 
--- what was written is what the transcript says: all of it; the lines before one at fault, which are all where the end
--- of the input is at fault; the lines before one that takes memory, where there was none for it; or a front of it where
--- the sink failed
+-- what was written is all of the transcript, or what stands before a line at fault or without memory, or a front
 abbrev pub LinesPlayed : Transcript → Option Taken → Option Taken → Result Status Fault → Type 0
 LinesPlayed t old new (Ok status) =
     (refused : Bool) × (t.ending ≡ Ended refused) × (status ≡ status_of refused) × Took old new (concat t.texts)
@@ -72,8 +70,7 @@ abbrev pub RanAll : Limits → Option Given → Option Given → Option Taken �
 RanAll limits given gave taken took result =
     (input : List ℕ) × GaveAll given gave input × Played (transcript limits input) taken took result
 
--- a run read its whole input and played it; or there was no memory to read more of it, or it could not be read, and
--- nothing was written
+-- a run read its whole input and played it; or it could not read the input, or had no memory for it, and wrote nothing
 abbrev pub Ran : Limits → Option Given → Option Given → Option Taken → Option Taken → Result Status Fault → Type 0
 Ran limits given gave taken took (Ok status) = RanAll limits given gave taken took (Ok status)
 Ran limits given gave taken took (Err (Script number kind)) =

@@ -58,8 +58,7 @@ answered s effect = record { state = s; effect = effect }
 abbrev pub session_after : Call Leased → Event → SessionState → SessionState
 session_after call event s = record { world = world_after call event s.world; layout = s.layout; device = s.device }
 
--- a call changes the world where the table accepts it and makes an event; what is accepted and makes none is the step
--- of an empty queue
+-- a call changes the world where the table makes an event of it; the step of an empty queue is accepted and makes none
 abbrev pub called : SessionState → Call Leased → Result Verdict Fault → Turned
 called s call (Ok (Makes event)) = record { state = session_after call event s; effect = Nothing }
 called s call (Ok Idle) = answered s EmptyQueue
@@ -69,8 +68,8 @@ called s call (Err fault) = answered s (Refused fault)
 abbrev pub back_from : ScriptKernel → List ℕ → Leased → Call Leased
 back_from kernel src lease = Gather (with_section lease (image_of kernel (section lease) src))
 
--- a kernel with what the call for its loan replied, which is never but a lease: it is brought back, and its block stays
--- lent where that is refused
+-- a kernel, with the lease that the call for its loan replied, brings it back; its block stays lent where that is
+-- refused
 abbrev pub gathered : SessionState → ScriptKernel → List ℕ → Reply → Turned
 gathered s kernel src (replies.Lease lease) =
     called s (back_from kernel src lease) (judge s.world (back_from kernel src lease))
@@ -128,8 +127,8 @@ makes_event (Ok (Makes event)) = true
 makes_event (Ok Idle) = false
 makes_event (Err fault) = false
 
--- a statement takes memory to run: it declares, or the table accepts the call that it makes and an event comes of that;
--- of a kernel this is the call for its loan, where host memory has the bytes of its source
+-- a statement takes memory to run where it declares, or makes a call that makes an event. A kernel's call is for its
+-- loan, once host memory has the bytes of its source
 abbrev pub run_takes_memory : SessionState → Meaning → Bool
 run_takes_memory s (Declare name array) = true
 run_takes_memory s (Direct directive) = makes_event (judge s.world (Do directive))
@@ -180,8 +179,8 @@ line_text number turn = effect_text number turn.state.world turn.effect
 
 -- ---- all lines
 
--- the last line was run, and some line was refused or none; or the line of a number is at fault, or the end of the
--- input, which has the number behind that of the last line
+-- the last line was run, and some line was refused or none. Or a line is at fault, or the end of the input, with the
+-- number behind that of the last line
 pub data Ending : Type 0 where
   Ended : (refused : Bool) → Ending
   Faulty : (number : ℕ) (kind : ScriptFault) → Ending

@@ -33,8 +33,7 @@ after_read g (Some n) piece = record {
   failures = g.failures;
 }
 
--- a sink after a write of a piece: a failure, or how many bytes it took; none of a piece that is not empty is a
--- failure too
+-- a sink after a write of a piece: it failed, or took so many bytes. None of a piece with bytes is a failure too
 abbrev pub after_write : Taken → Option ℕ → List ℕ → Taken
 after_write t None piece = record t { failures = one_more t.failures }
 after_write t (Some n) piece = record {

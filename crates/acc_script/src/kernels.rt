@@ -23,7 +23,7 @@ pub fn source_of(kernel: ScriptKernel) -> Section
 }
 
 /// Runs a kernel over all the bytes of a loan, with the bytes of its source (OpenACC 3.3, section 2.5, compute
-/// constructs), in so many parts at most.
+/// constructs). It is cut into at most `parts` parts, which are worked on at the same time.
 pub fn run_kernel<R: Threads + Wait + Sync + AllocGlobal>(
     rt: &R,
     parts: usize,
@@ -41,8 +41,8 @@ pub fn run_kernel<R: Threads + Wait + Sync + AllocGlobal>(
     }
 }
 
-/// Runs a kernel over all the bytes of a loan, in so many parts of one length at most, which are worked on at the same
-/// time. Where there is no memory for the list of the parts, it runs as one, so memory is never wanting for it.
+/// Parts of one length are worked on at the same time. Where there is no memory for their list the kernel runs in one,
+/// so it never fails.
 fn run_evenly<R: Threads + Wait + Sync + AllocGlobal, K: Pointwise + Sync>(
     rt: &R,
     parts: usize,

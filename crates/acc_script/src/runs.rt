@@ -26,9 +26,9 @@ pub enum Status {
 
 /// Reads a whole script, and then runs it line by line on a new table of these limits.
 ///
-/// `parts`, from 1 to 64, is into how many parts the work of a kernel is cut at most, each of which runs in a thread of
-/// its own. What is printed does not depend on it. Where a thread cannot be had, or memory for the list of the parts, a
-/// kernel goes on with fewer.
+/// The work of a kernel is cut into at most `parts` parts, from 1 to 64, which are worked on at the same time. What is
+/// printed does not depend on it. Where a thread cannot be had, or memory for the list of the parts, a kernel
+/// goes on with fewer.
 ///
 /// What is said here of bytes read and written is proved where the source and the sink tell theirs ([`Source`],
 /// [`Sink`]).
@@ -39,9 +39,9 @@ pub enum Status {
 /// - [`Fault::Script`] at the first line that is at fault, or behind the last line where a data region is then open.
 ///   What the lines before print was written.
 /// - [`Fault::Write`] where the writer fails. It has then taken a front of what the script prints.
-/// - [`Fault::Memory`]. What some first lines print was written; the line after them is not at fault, and lists items
-///   or bytes, declares, or makes a call that makes an event. Nothing was written where memory was wanting for the
-///   input or for the table.
+/// - [`Fault::Memory`]. Nothing was written where there was none for the input or for the table. Else what the lines
+///   before one print was written; that line is not at fault. It lists items or bytes, declares, or makes a call that
+///   makes an event.
 pub fn run<R: Threads + Wait + Sync + AllocGlobal, S: Source, W: Sink>(
     rt: &R,
     reader: &mut S,
@@ -57,7 +57,6 @@ pub fn run<R: Threads + Wait + Sync + AllocGlobal, S: Source, W: Sink>(
     play(rt, config, parts, &input, writer)
 }
 
-/// Runs all lines of an input on a new table, and each kernel in so many parts at most.
 #[tactic(auto, unfolding(crate::specs::Scripts::transcript))]
 fn play<R: Threads + Wait + Sync + AllocGlobal, W: Sink>(
     rt: &R,
@@ -72,7 +71,6 @@ fn play<R: Threads + Wait + Sync + AllocGlobal, W: Sink>(
     play_lines(rt, &mut session, input, writer)
 }
 
-/// Runs all lines of an input.
 fn play_lines<R: Threads + Wait + Sync + AllocGlobal, W: Sink>(
     rt: &R,
     session: &mut Session,
@@ -100,7 +98,6 @@ fn play_lines<R: Threads + Wait + Sync + AllocGlobal, W: Sink>(
     Ok(status_of(refused))
 }
 
-/// Runs the line of a number and writes what it prints; answers whether it was refused.
 #[tactic(auto, unfolding(crate::specs::Scripts::line_turned))]
 fn run_line<R: Threads + Wait + Sync + AllocGlobal, W: Sink>(
     rt: &R,
@@ -125,7 +122,6 @@ fn run_line<R: Threads + Wait + Sync + AllocGlobal, W: Sink>(
     Ok(effect.is_refused())
 }
 
-/// The status of a script of which some line was refused, or none.
 fn status_of(refused: bool) -> Status
     ensures { result ≡ status_of refused }
 {

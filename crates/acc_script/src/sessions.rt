@@ -33,8 +33,8 @@ pub struct Session {
 }
 
 impl Session {
-    /// A new table of these limits, and no array; the first device is the current one. Each kernel is to run in so many
-    /// parts at most.
+    /// A new table of these limits, and no array; the first device is the current one. A kernel is cut into at most
+    /// `parts` parts, from 1 to 64.
     ///
     /// # Errors
     ///
@@ -54,8 +54,8 @@ impl Session {
     ///
     /// # Errors
     ///
-    /// [`Fault::Memory`] alone, for a statement that declares, or makes a call that the table accepts and makes an
-    /// event of. Nothing changed, but a kernel's block is lent where memory is wanting to bring it back.
+    /// [`Fault::Memory`] alone, for a statement that declares, or that makes a call of which the table makes an event.
+    /// Nothing changed then, but a kernel's block stays lent where memory is wanting to bring it back.
     pub fn perform<R: Threads + Wait + Sync + AllocGlobal>(
         &mut self,
         rt: &R,
@@ -99,7 +99,7 @@ impl Session {
         self.table.innermost()
     }
 
-    /// Makes a device the current one, where it is there. It is no call on the table.
+    /// It is no call on the table: a device that is not there is refused here.
     fn select(&mut self, device: u64) -> Effect
         ensures { selected (session_state self.old) device (device_there (session_state self.old).world device) ≡ record { state = session_state self.new; effect = result } }
     {
@@ -146,8 +146,7 @@ impl Session {
         }
     }
 
-    /// Runs a kernel over a loan and brings it back. The lease is let go, so that its block stays lent, where that is
-    /// refused or wants memory.
+    /// The lease is let go, so that its block stays lent, where bringing it back is refused or wants memory.
     fn work<R: Threads + Wait + Sync + AllocGlobal>(
         &mut self,
         rt: &R,

@@ -12,7 +12,7 @@ use Rattle.acc_base.specs.Judge.{Verdict, Makes, Idle, leased}
 use Rattle.acc_table.specs.declared.calls.Reply.{Reply}
 use Rattle.acc_table.specs.declared.calls.Reply.TheVariants as replies
 
--- what a call that made this event answers, of its device's view before it: an entry to a region its number, a wait how many transfers it made, and a loan its lease, with the bytes that the block had
+-- the answer to an event, by its device's view before: a region's number, a wait's count, or a lease with the block's bytes
 abbrev pub reply_of : Event → State → Reply
 reply_of (events.Entered device number items did) s = replies.Entered number
 reply_of (events.Waited device queue count) s = replies.Drained count

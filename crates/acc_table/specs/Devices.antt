@@ -1,4 +1,5 @@
--- What the devices of a table have: that of one stands in a store, with host memory and the numbers of all, and the others stand apart.
+-- What the devices of a table have. That of one stands in a store, with host memory and the numbers of all; the others
+-- stand apart.
 use Rattle.std.specs.Prelude.{ℕ, zero, suc, ◌≡◌, ◌≤◌, List, [], ◌∷◌, length, map, replicate, Option, None, Some, IsSome, slice_index_or}
 use Rattle.std.specs.List.{AllByRecursion}
 use Rattle.acc_base.specs.Limits.{Limits, limits_on}

@@ -10,7 +10,8 @@ use Rattle.acc_base.specs.Calls.{Base, World, event_count}
 abbrev pub world_of : Limits → Base → Whole → List Event → World
 world_of l base state trace = record { limits = l; history = record { base = base; trace = trace }; state = state }
 
--- the limits are within their bounds, the world is accounted for, and there were at most 64 births on each device, one region and one loan to an event
+-- the limits are within their bounds, the world is accounted for, and an event made one region, one loan and 64 births
+-- at most
 pub record IsKept (w : World) : Type 0 where
   pub bounds : IsWithinBounds w.limits
   pub accounted : IsAccounted w

@@ -22,7 +22,7 @@ abbrev pub HasLease : Reply → Type 0
 HasLease (replies.Lease lease) = ⊤
 HasLease _ = ⊥
 
--- a directive is answered so: an entry to a region its number, a wait how many transfers it made, and a step whether there was one
+-- a directive is answered by a region's number, a wait's count, whether there was a step, or nothing more
 abbrev pub IsReplyToDirective : Directive → Reply → Type 0
 IsReplyToDirective (Enter device items) reply = HasNumber reply
 IsReplyToDirective (Wait device queue) reply = HasCount reply

@@ -37,7 +37,7 @@ asked_by (turns.Back serial bytes) leases = brought_back serial bytes (find (is_
 
 -- ---- what comes of it
 
--- the answer to a turn whose call was replied to so: the number of the region that it entered or of the loan that it made, and how many transfers it made
+-- the answer to a turn by the reply to its call: the number of a region or a loan, and how many transfers were made
 abbrev pub answer_to : Reply → Answer
 answer_to replies.Done = answers.Replied 0 0
 answer_to (replies.Entered number) = answers.Replied number 0

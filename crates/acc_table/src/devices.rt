@@ -13,7 +13,7 @@ use acc_clauses::{Base, Spare, Store, View};
 use std::alloc::Global;
 
 /// What the devices of a table have. That of one device stands in the store, with host memory and the numbers that all
-/// share: so a directive on it finds all that it needs in one place, and with one device nothing ever changes places.
+/// share. So a directive on it finds all in one place, and with one device nothing ever changes places.
 #[derive(Drop)]
 pub(crate) struct Devices {
     /// Host memory, the numbers, and what the device in use has.

@@ -1,9 +1,9 @@
-//! The table of an OpenACC 3.3 data runtime on one to four devices with memories of their own: one call is one event or no
-//! change.
+//! The table of an OpenACC 3.3 data runtime on one to four devices with memories of their own. One call is one event or
+//! no change.
 //!
-//! A [`Table`] holds all memories, the mapped ranges with their reference counters (OpenACC 3.3, section 2.6.7), the
-//! open data regions, the device blocks with those that are lent to kernels, the queues of transfers, and the trace of
-//! all events since its [`Base`]. Its contracts say what `acc_base` defines.
+//! A [`Table`] holds all memories, the mapped ranges with their reference counters (OpenACC 3.3, section 2.6.7), and
+//! the open data regions. It holds device blocks, loans to kernels, queues of transfers, and the trace of all events
+//! since its [`Base`]. Its contracts say what `acc_base` defines.
 #![tactic(auto)]
 
 mod calls;

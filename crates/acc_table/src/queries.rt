@@ -20,7 +20,6 @@ use crate::tables::Table;
 use acc_base::{Attachment, Config, Counters, Directive, Ended, Event, Found, Hole, Section};
 use acc_clauses::{Base, View};
 
-/// The section is inside one range.
 fn is_inside(found: Found) -> bool
     ensures { result ≡ is_inside found }
 {
@@ -51,8 +50,8 @@ impl Table {
         self.kept.devices.view(device)
     }
 
-    /// Where the section lies among the mapped ranges of a device, by its addresses: it has none, one range has them all, no
-    /// range has any, or some are mapped and no one range has them all. A device that is not there maps nothing.
+    /// Where the section lies among the mapped ranges of a device: it is empty, inside one range, absent, or partly
+    /// present. A device that is not there maps nothing.
     pub fn find(&self, device: u64, section: Section) -> Found
         ensures value { result ≡ where_is section (view device self.now.state).records.ranges }
         ensures addresses { IsPlacedAt section (view device self.now.state).records.ranges result }
@@ -90,8 +89,8 @@ impl Table {
         }
     }
 
-    /// How often the pointer at a host address is attached on a device, in the block that its eight bytes are mapped to
-    /// (OpenACC 3.3, section 2.6.8); 0 where they are not inside one mapped range.
+    /// How often the pointer at a host address is attached on a device, in the block to which its eight bytes are
+    /// mapped. It is 0 where they are not inside one mapped range (OpenACC 3.3, section 2.6.8).
     pub fn attachment(&self, device: u64, pointer: u64) -> u64
         ensures { result ≡ attachment_of pointer (view device self.now.state).records }
     {
@@ -101,8 +100,8 @@ impl Table {
         }
     }
 
-    /// The attached pointer that has the least host address in a section, with its counter on a device, where the section is
-    /// inside one mapped range; else `None` (OpenACC 3.3, section 2.6.8). So a caller finds all of a range, one after the
+    /// The attached pointer of least host address in a section, with its counter on a device (OpenACC 3.3, section
+    /// 2.6.8). `None` where the section is not inside one mapped range. So a caller finds all of a range, one after the
     /// other.
     pub fn next_attached(&self, device: u64, section: Section) -> Option<Attachment>
         ensures { result ≡ first_attached section (view device self.now.state).records }
@@ -152,9 +151,8 @@ impl Table {
         self.kept.devices.store.host_read(section)
     }
 
-    /// The bytes that a device has of a section, as many as it is long. `None` where the section is not inside one
-    /// mapped range, as an empty one never is, and while its block is lent (OpenACC 3.3, section 2.5, compute
-    /// constructs).
+    /// The bytes that a device has of a section, as many as it is long. `None` where it is not inside one mapped range,
+    /// or its block is lent (OpenACC 3.3, section 2.5, compute constructs). An empty one is inside none.
     pub fn device_read(&self, device: u64, section: Section) -> Option<&[u8]>
         ensures { option_map (λ bytes. bytes.now) result ≡ device_read_of section (view device self.now.state) }
     {
@@ -170,16 +168,16 @@ impl Table {
         }
     }
 
-    /// Of the blocks of a device whose mapping has ended, the one of least place at or above a device address: such a block
-    /// stays while a queued transfer names it (OpenACC 3.3, section 2.16, asynchronous behavior).
+    /// Of the blocks of a device whose mapping has ended, the one of least place at or above a device address. Such a
+    /// block stays while a queued transfer names it (OpenACC 3.3, section 2.16, asynchronous behavior).
     pub fn ended(&self, device: u64, from: u64) -> Option<Ended>
         ensures { result ≡ ended_from from (view device self.now.state).records }
     {
         self.on(device)?.ended(from)
     }
 
-    /// The hole of a device of least place at or above a device address: free addresses of the device that lie side by side,
-    /// as many as there are. `None` also where there is no such device.
+    /// The hole of a device of least place at or above a device address: as many free device addresses side by side as
+    /// there are. `None` also where there is no such device.
     pub fn hole(&self, device: u64, from: u64) -> Option<Hole>
         ensures there { device < self.now.limits.devices → IsNextHole from (device_memory (limits_on device self.now.limits)) (view device self.now.state).records.blocks result }
         ensures none { self.now.limits.devices ≤ device → result ≡ None }
@@ -222,8 +220,8 @@ impl Table {
         self.kept.devices.device_of_region(number)
     }
 
-    /// The device for which a directive is: the one that it names, or that of the region that it leaves; 0 where no such
-    /// region is open. It need not be there.
+    /// The device for which a directive is: the one that it names, or that of the region that it exits. It is 0 where
+    /// no such region is open. It need not be there.
     pub fn device_for(&self, directive: &Directive) -> u64
         ensures { result ≡ device_for directive.now self.now.state }
     {

@@ -67,15 +67,15 @@ impl Table {
     /// a turn for which memory cannot be had is answered `Refused(Memory)`.
     ///
     /// The lease that a [`Turn::Lend`] is answered goes to the end of the list, and the answer has its serial number. A
-    /// [`Turn::Back`] brings back the first lease of the list that has its serial number and lends as many bytes as it
-    /// brings: they are written over those, and the lease leaves the list. Where there is none, the turn is refused:
+    /// [`Turn::Back`] takes the first lease of its serial number that lends as many bytes as it brings. They are
+    /// written over those, and the lease leaves the list. Where there is none, the turn is refused:
     /// [`Fault::NoTickets`], [`Fault::TraceFull`], or else [`Fault::NoLease`]. A lease of a refused turn keeps its
     /// bytes and its place.
     ///
     /// # Errors
     ///
-    /// [`Fault::Memory`] alone, where there is no memory for the answers, or none in the list for a lease of each
-    /// [`Turn::Lend`]: nothing was run, the list is as it was, and the turns are dropped.
+    /// [`Fault::Memory`] alone, where there is none for the answers, or for a place in the list for each
+    /// [`Turn::Lend`]. Nothing was run, the list is as it was, and the turns are dropped.
     pub fn run(&mut self, turns: Vec<Turn>, leases: &mut Vec<Lease>) -> Result<Vec<Answer>, Fault>
         ensures ran { IfOk result (λ answers. IsRun self.old leases.old.items turns.items answers.items self.new leases.new.items) }
         ensures err { IfErr result (λ fault. (fault ≡ Memory) × (self.new ≡ self.old) × (leases.new.items ≡ leases.old.items)) }

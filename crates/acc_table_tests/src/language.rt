@@ -110,11 +110,10 @@ pub enum Check {
     Bytes(usize, Option<&'static [u8]>),
     /// How many events are stored.
     Stored(usize),
-    /// How much of each kind the base has of the device: ranges, blocks, attached pointers, loans, queued transfers, open
-    /// regions, and blocks whose bytes are saved.
+    /// What the base has of the device: ranges, blocks, attached pointers, loans, queued transfers, open regions, and
+    /// saved blocks.
     Based([usize; 7]),
-    /// The number of births in the base on the device, the next numbers there of a region and of a loan, and how many bytes
-    /// of host memory are saved.
+    /// The base's births on the device, its next numbers of a region and of a loan, and its bytes of host memory.
     BasedNumbers(u64, u64, u64, usize),
     /// How often the pointer at this address is attached.
     Attached(u64, u64),

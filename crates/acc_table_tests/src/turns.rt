@@ -8,6 +8,7 @@ use acc_base::{
 use acc_table::{Call, Table, Turn};
 use std::alloc::{AllocError, Global};
 
+/// The section of a first host address and a length in bytes.
 pub fn section(at: At) -> Section {
     let (start, len) = at;
     Section { start, len }

@@ -1,6 +1,6 @@
-//! Tests of threads that share a runtime, or work on parts of a block, at the same time. A test with `growth` in its name
-//! passes where any one growth of memory, or any one start of a thread, is refused to its program, too. What
-//! `acc_runtime_tests` uses too stands outside of the tests.
+//! Tests of threads that share a runtime, or work on parts of a block, at the same time. A test with `growth` in its
+//! name passes also where one growth of memory, or one start of a thread, is refused. What `acc_runtime_tests` uses too
+//! stands outside of the tests.
 #![tactic(auto)]
 
 #[cfg(test)]

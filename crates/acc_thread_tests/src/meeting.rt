@@ -23,9 +23,9 @@ fn one_of_each(count: usize) -> u64 {
     all
 }
 
-/// Holds all work but that of one number before it begins, until that one is done; and that one behind its work, until all
-/// others are done. So they all are at work at the same time, and that one first. It keeps how often it was called for
-/// each number.
+/// Holds all work but that of one number before it begins, until that one is done. It holds that one behind its work
+/// until all others are done. So they all are at work at the same time, and that one first. It keeps how often it was
+/// called for each number.
 #[derive(Drop)]
 pub struct Meeting {
     first: usize,

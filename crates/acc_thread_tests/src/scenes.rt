@@ -91,7 +91,6 @@ pub fn state<Regions: Ledger, Tickets: Ledger, Events: Ledger, R: Wait>(
     )
 }
 
-/// Plays a scene.
 fn play<
     Regions: Ledger + Send + Sync,
     Tickets: Ledger + Send + Sync,

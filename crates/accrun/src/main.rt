@@ -1,4 +1,4 @@
-//! Runs a script of OpenACC data directives, a file or read on standard input, and writes what it prints on standard
+//! Runs a script of OpenACC data directives, from a file or standard input, and writes what it prints on standard
 //! output.
 #![tactic(auto)]
 
@@ -40,7 +40,6 @@ fn main(rt: HostRuntime) -> ExitCode {
     })
 }
 
-/// A run of the program with its streams.
 #[derive(Drop)]
 struct Run<'a, R, S, O, E> {
     rt: &'a R,
@@ -56,7 +55,6 @@ impl<
     O: Output + Drop,
     E: Sink + Drop,
 > Run<'_, R, S, O, E> {
-    /// Runs the program, and answers its status.
     fn status(self) -> u8 {
         let Run {
             rt,

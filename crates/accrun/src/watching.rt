@@ -6,7 +6,7 @@ use std::sync::atomic::{AtomicBool, Ordering};
 use std::thread::{Threads, join, sleep};
 use std::time::Duration;
 
-/// How often it is looked whether the work is done, each time after ten milliseconds: for two seconds.
+/// Ten milliseconds lie between two looks, so all of them take two seconds.
 const LOOKS: u32 = 200;
 
 /// Does some work, and answers its status. Where it takes more than two seconds, one line on standard error says so.
@@ -26,7 +26,6 @@ pub fn watched<R: Eprint + Clock + Threads + Wait + Sync, F: FnOnce() -> u8>(rt:
     status
 }
 
-/// Waits for two seconds, and tells where the work is not done then.
 fn watch<R: Eprint + Clock>(rt: &R, is_done: &AtomicBool) {
     for _ in 0..LOOKS {
         if is_done.load(Ordering::SeqCst) {

@@ -1,4 +1,5 @@
--- What a call comes to. Each definition is given how what came of it is told: the result of a function is that, or a status and the fields of a refusal tell it.
+-- What a call comes to. Each definition is given how that is told: by the result of a function, or by a status and the
+-- fields of a refusal.
 use Rattle.std.specs.Prelude.{ℕ, ◌≡◌, ◌⊎◌, ◌==◌, Bool, List, [], ◌++◌, length, find, Option, Some, None, Result, Ok, Err, MatchOption}
 use Rattle.std.specs.List.{remove, position_or_len}
 use Rattle.acc_base.specs.declared.items.Section.{Section}
@@ -26,7 +27,7 @@ section_at start len = record { start = start; len = len }
 abbrev pub Told : Type 1
 Told = Result ℕ Refusal → Type 0
 
--- the number that a reply gives: that of a region or a lease, how many transfers a wait made, and for a step whether it made one
+-- the number that a reply gives: of a region, of a lease, of the transfers of a wait, and 1 or 0 for a step
 abbrev pub number_in : Reply → ℕ
 number_in replies.Done = 1
 number_in (replies.Entered number) = number

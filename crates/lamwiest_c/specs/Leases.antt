@@ -8,7 +8,7 @@ use Rattle.lamwiest_c.specs.declared.statuses.Refusal.TheVariants.{BadLength, Of
 use Rattle.lamwiest_c.specs.Environments.{DataEnvironment}
 use Rattle.lamwiest_c.specs.Answers.{Told, is_serial, lease_of}
 
--- the bytes of the lease stand in a buffer that is as long; another stays as it was, and the length is told that is wanted
+-- a buffer as long as the lease has its bytes; another stays as it was, and the length that is wanted is told
 abbrev pub IsLeaseRead : DataEnvironment → ℕ → List ℕ → List ℕ → Told → Type 0
 IsLeaseRead e serial old new T =
     MatchOption (lease_of serial e)

@@ -7,7 +7,8 @@ use Rattle.lamwiest_c.specs.declared.statuses.Refusal.{Refusal}
 use Rattle.lamwiest_c.specs.declared.statuses.Refusal.TheVariants.{Ended, BadClause, BadLength, Absent, OfTable}
 use Rattle.lamwiest_c.specs.Answers.{Told}
 
--- the text is at the front of a buffer that has room for it, the other bytes stay, and its length is told; a shorter buffer stays as it is, and the length is told that is wanted
+-- the text is at the front of a buffer that has room for it, and the other bytes stay. A shorter one stays whole. The
+-- length of the text is told
 abbrev pub IsPut : List ℕ → List ℕ → List ℕ → Told → Type 0
 IsPut text old new T =
     MatchBool (nat_le (length text) (length old))

@@ -31,14 +31,12 @@ pub struct RawDid {
     pub target: u64,
 }
 
-/// A step as C sees it.
 struct StepFields {
     step: u32,
     block: u64,
     place: u64,
 }
 
-/// What was done to a pointer, as C sees it.
 struct AimFields {
     aim: u32,
     pointer: u64,
@@ -46,7 +44,6 @@ struct AimFields {
     target: u64,
 }
 
-/// A step as C sees it.
 fn step_fields(step: Step) -> StepFields
     ensures { result ≡ step_fields step }
 {
@@ -64,7 +61,6 @@ fn step_fields(step: Step) -> StepFields
     StepFields { step, block, place }
 }
 
-/// What was done to a pointer, as C sees it.
 fn aim_fields(aim: Aim) -> AimFields
     ensures { result ≡ aim_fields aim }
 {
@@ -87,7 +83,6 @@ fn aim_fields(aim: Aim) -> AimFields
     }
 }
 
-/// What an item did, as C sees it.
 fn raw_did(did: Did) -> RawDid
     ensures { result ≡ raw_did did }
 {
@@ -134,8 +129,9 @@ fn did_at(trace: &[Event], place: usize) -> Option<Did>
     did_in(trace.last()?, place)
 }
 
-/// What the item of a place did in the last event, which is no longer stored behind a rebase. The items of an exit from a
-/// region are those of its entry, in the same order.
+/// What the item of a place, from 0 on, did in the last event. It is `ABSENT` where there is no such
+/// item, as behind a rebase, which leaves no event
+/// stored. The items of an exit from a region are those of its entry, in the same order.
 #[unsafe(no_mangle)]
 pub extern "C" fn lw_did(alloc: Global, table: &mut Handle, item: u64, did: &mut RawDid) -> u32
     ensures { IsAskedOf table.old.value table.new.value (λ e. option_map raw_did (did_at item e.world.history.trace)) result did.old did.new }

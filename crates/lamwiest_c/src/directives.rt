@@ -53,8 +53,8 @@ pub extern "C" fn lw_exit(
     tell(made, fault)
 }
 
-/// The `enter data` directive (OpenACC 3.3, section 2.6.6), with its copies put into a queue, or made at once where the
-/// queue is `NO_QUEUE_GIVEN` (section 2.16).
+/// The `enter data` directive (OpenACC 3.3, section 2.6.6). Its copies are put into a queue (section 2.16), or made at
+/// once where the queue is `NO_QUEUE_GIVEN`.
 #[unsafe(no_mangle)]
 pub extern "C" fn lw_enter_data(
     alloc: Global,

@@ -88,14 +88,22 @@ impl Environment {
         }
     }
 
-    /// Carries out a directive.
+    /// Carries out a directive, and answers the number of its reply.
+    ///
+    /// # Errors
+    ///
+    /// That of the table.
     pub fn direct(&mut self, directive: Directive) -> Result<u64, Refusal>
         ensures { IsMadeIn self.old (Do directive) (λ r. result ≡ r) self.new }
     {
         self.make(Call::Do(directive))
     }
 
-    /// Enters a data region with the items of an array, and answers its number.
+    /// Enters a data region with the items of an array (OpenACC 3.3, section 2.6.5), and answers its number.
+    ///
+    /// # Errors
+    ///
+    /// Those of `items_of` and of the table.
     pub fn enter(&mut self, alloc: Global, items: &[RawItem]) -> Result<u64, Refusal>
         ensures { IsDirected self.old (enter_of items.now) (λ r. result ≡ r) self.new }
     {
@@ -103,7 +111,8 @@ impl Environment {
         self.direct(Directive::Enter { device: 0, items })
     }
 
-    /// Carries out `enter data` with the items of an array.
+    /// Carries out `enter data` with the items of an array (OpenACC 3.3, section 2.6.6). Errors are those of
+    /// [`Environment::enter`].
     pub fn enter_data(
         &mut self,
         alloc: Global,
@@ -121,7 +130,8 @@ impl Environment {
         })
     }
 
-    /// Carries out `exit data` with the items of an array.
+    /// Carries out `exit data` with the items of an array (OpenACC 3.3, section 2.6.6). Errors are those of
+    /// [`Environment::enter`].
     pub fn exit_data(
         &mut self,
         alloc: Global,
@@ -141,7 +151,8 @@ impl Environment {
         })
     }
 
-    /// Carries out `update` with the items of an array.
+    /// Carries out `update` with the items of an array (OpenACC 3.3, the update directive). Errors are those of
+    /// [`Environment::enter`].
     pub fn update(
         &mut self,
         alloc: Global,
@@ -161,7 +172,7 @@ impl Environment {
         })
     }
 
-    /// Writes bytes into host memory from a host address on.
+    /// Writes bytes into host memory from a host address on. Errors are those of the table, or `Memory`.
     pub fn host_write(&mut self, alloc: Global, addr: u64, bytes: &[u8]) -> Result<u64, Refusal>
         ensures { IsAsked self.old (Ok (HostWrite addr bytes.now)) (λ r. result ≡ r) self.new }
     {
@@ -171,7 +182,7 @@ impl Environment {
         self.make(Call::HostWrite { addr, bytes })
     }
 
-    /// Makes what the table has its base, and answers how many events that folded.
+    /// Makes what the table has its base, and answers how many events that folded; `Memory` is the only error.
     pub fn rebase(&mut self) -> Result<u64, Refusal>
         ensures { IsRebased self.old (λ r. result ≡ r) self.new }
     {

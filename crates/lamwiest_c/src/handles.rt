@@ -86,7 +86,7 @@ pub fn take_out(alloc: Global, handle: &mut Handle) -> Option<Box<Environment>>
     }
 }
 
-/// Puts it back, in place of what the handle has.
+/// Puts an environment into a handle, in place of what that has.
 pub fn put_back(handle: &mut Handle, environment: Box<Environment>)
     ensures { handle.new.value ≡ Some environment.value }
 {

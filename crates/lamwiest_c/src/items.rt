@@ -149,7 +149,6 @@ impl Clause for UpdateClause {
     }
 }
 
-/// An item of C under its clause.
 fn item_of<C: Clause>(clause: C, item: RawItem) -> Item<C>
     ensures { result ≡ item_of clause item }
 {
@@ -163,8 +162,7 @@ fn item_of<C: Clause>(clause: C, item: RawItem) -> Item<C>
     }
 }
 
-/// Why a directive is refused where there is no memory for the list of its items: the first clause number that is none of
-/// the directive's is told before that.
+/// A clause number that is none of the directive's is told before want of memory for the list of items.
 fn refusal_without_memory<C: Clause>(items: &[RawItem]) -> Refusal
     ensures { IsRead (items_from C.numbered 0 items.now) (Err result) }
 {

@@ -1,9 +1,9 @@
 //! The data environment for C, C++ and Rust: a table behind a handle, and each of its calls under a name of its own.
 //! `include/lamwiest.h` declares them, and `docs/C.md` tells how the library is built, linked and used.
 //!
-//! Each export takes the table out of its handle, makes one call of it, puts it back, and tells what came of it: a status,
-//! and the fields of a refusal. Its contract says what the call says. It takes a [`Global`](std::alloc::Global) first,
-//! for which C passes nothing.
+//! Each export takes the table out of its handle, makes one call of it, and puts it back. It tells what came of it: a
+//! status, and the fields of a refusal. Its contract says what the call says. It takes a [`Global`](std::alloc::Global)
+//! first, for which C passes nothing.
 //!
 //! Nothing here takes a lock: a handle is for one thread at a time.
 #![tactic(auto)]

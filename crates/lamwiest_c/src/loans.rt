@@ -16,7 +16,6 @@ use acc_table::{Call, Reply, abandon};
 use std::alloc::Global;
 use std::mem;
 
-/// The place of the first lease of a serial number.
 fn place_of(leases: &[Lease], serial: u64) -> Option<usize>
     ensures { result ≡ position (is_serial serial) leases.now }
 {

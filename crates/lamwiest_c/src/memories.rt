@@ -89,8 +89,8 @@ pub extern "C" fn lw_host_read(
     tell(made, fault)
 }
 
-/// Copies the bytes that the device has from a host address on, as many as the buffer has. It is `ABSENT` where they are
-/// not inside one mapped range, as no byte at all is, and while their block is lent (OpenACC 3.3, section 2.6).
+/// Copies the bytes that the device has from a host address on, as many as the buffer has. It is `ABSENT` where they
+/// are not inside one mapped range, as no byte is, or their block is lent (OpenACC 3.3, section 2.6).
 #[unsafe(no_mangle)]
 pub extern "C" fn lw_device_read(
     alloc: Global,

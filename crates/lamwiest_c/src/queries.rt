@@ -53,7 +53,6 @@ fn number_of_bool(truth: bool) -> u64
     if truth { 1 } else { 0 }
 }
 
-/// Counters as C sees them.
 fn raw_counters(counters: Counters) -> RawCounters
     ensures { result ≡ raw_counters counters }
 {
@@ -63,7 +62,6 @@ fn raw_counters(counters: Counters) -> RawCounters
     }
 }
 
-/// A mapped range as C sees it.
 fn raw_mapped(mapped: Mapped) -> RawMapped
     ensures { result ≡ raw_mapped mapped }
 {
@@ -109,7 +107,7 @@ pub extern "C" fn lw_is_present(
     found(Some(answer), present)
 }
 
-/// The device address that a host address is mapped to.
+/// The device address that a host address is mapped to; `ABSENT` where it is in no mapped range.
 #[unsafe(no_mangle)]
 pub extern "C" fn lw_device_address(
     alloc: Global,

@@ -51,12 +51,12 @@ pub struct FaultFields {
     pub status: u32,
     /// The place of the item that is refused, counted from 0; 0 where the refusal names none.
     pub item: u64,
-    /// The other number of the refusal: how many tickets or regions are left, how many items or events there are, which
-    /// queue, block, region, lease or device is meant, or how many bytes are wanted; 0 where the refusal has none.
+    /// The other number of the refusal; 0 where it has none. It is how many tickets or regions are left, or how many
+    /// items or events there are. Or it is the queue, block, region, lease or device that is meant, or how many bytes
+    /// are wanted.
     pub value: u64,
 }
 
-/// The item that a fault names, or 0.
 fn item_of(fault: Fault) -> u64
     ensures { result ≡ item_of fault }
 {
@@ -71,7 +71,6 @@ fn item_of(fault: Fault) -> u64
     }
 }
 
-/// The other number of a fault, or 0.
 fn value_of(fault: Fault) -> u64
     ensures { result ≡ value_of fault }
 {
@@ -89,7 +88,6 @@ fn value_of(fault: Fault) -> u64
     }
 }
 
-/// The number of a fault, as a status.
 fn number_of(fault: Fault) -> u32
     ensures { result ≡ number_of fault }
 {
@@ -110,7 +108,7 @@ impl Refusal {
         }
     }
 
-    /// The refusal as C sees it.
+    /// The refusal as C sees it: its status and its fields.
     pub fn fields(self) -> FaultFields
         ensures { result ≡ fields_of self }
     {
@@ -221,8 +219,8 @@ impl<T: Drop> From<AllocFailed<T>> for Refusal {
     }
 }
 
-/// Tells C what came of a call: its status, the fields of its refusal, and the number that it answered, which stays as
-/// it was where the call was refused.
+/// Tells C what came of a call: its status, the fields of its refusal, and the number that it answered. Of a refused
+/// call the number stays as it was.
 pub fn tell_number(made: Result<u64, Refusal>, number: &mut u64, fault: &mut FaultFields) -> u32
     ensures status { result ≡ status_in made }
     ensures fields { fault.new ≡ fields_in made }

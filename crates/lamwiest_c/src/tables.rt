@@ -58,7 +58,6 @@ fn config_of(limits: &RawLimits) -> Result<Config, Refusal>
     }
 }
 
-/// A new environment of these limits, in a box.
 fn begin(alloc: Global, limits: &RawLimits) -> Result<Box<Environment>, Refusal>
     ensures { MatchResult result (λ e. IsBegunAs limits.now (Ok e.value)) (IsNotBegun limits.now) }
 {

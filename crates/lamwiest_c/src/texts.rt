@@ -47,7 +47,6 @@ fn put(text: &[u8], buffer: &mut [u8]) -> Result<u64, Refusal>
     Ok(len as u64)
 }
 
-/// Puts the report of a table at the front of a buffer.
 fn show_report(alloc: Global, environment: &Environment, buffer: &mut [u8]) -> Result<u64, Refusal>
     ensures { IsShown (report_text environment.now.world) buffer.old buffer.new (λ r. result ≡ r) }
 {
@@ -58,7 +57,6 @@ fn show_report(alloc: Global, environment: &Environment, buffer: &mut [u8]) -> R
     }
 }
 
-/// Puts what a refusal says at the front of a buffer.
 fn show_refusal(alloc: Global, refusal: Refusal, buffer: &mut [u8]) -> Result<u64, Refusal>
     ensures { IsShown (text_of refusal) buffer.old buffer.new (λ r. result ≡ r) }
 {
@@ -67,7 +65,8 @@ fn show_refusal(alloc: Global, refusal: Refusal, buffer: &mut [u8]) -> Result<u6
 }
 
 /// Puts the report of a table at the front of a buffer, the text that `accrun` prints. Where it is done, `len` is the
-/// length of the text, and the buffer's other bytes stay; where the buffer is too short, the fault's value is that length.
+/// length of the text in bytes, and the buffer's other bytes stay. Where the buffer is too short, the fault's value is
+/// that length.
 #[unsafe(no_mangle)]
 pub extern "C" fn lw_report(
     alloc: Global,
@@ -87,8 +86,8 @@ pub extern "C" fn lw_report(
     tell_number(made, len, fault)
 }
 
-/// Puts what a refusal says at the front of a buffer: its status, its name, and each number that it has with the name of
-/// that. Where it is done, `len` is the length of the text. It is `ABSENT` where no refusal has the status.
+/// Puts what a refusal says at the front of a buffer: its status, its name, and its numbers with their names. Where it
+/// is done, `len` is the length of the text in bytes. It is `ABSENT` where no refusal has the status.
 #[unsafe(no_mangle)]
 pub extern "C" fn lw_fault_text(
     alloc: Global,

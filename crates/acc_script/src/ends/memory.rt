@@ -32,7 +32,7 @@ impl<'a> Model for MemorySource<'a> {
 }
 
 impl<'a> MemorySource<'a> {
-    /// A source that gives these bytes.
+    /// A source that gives these bytes from the first on.
     pub fn new(bytes: &'a [u8]) -> MemorySource<'a>
         ensures { result ≡ record { given = nothing_given; left = bytes.now } }
     {
@@ -63,7 +63,6 @@ impl<'a> Source for MemorySource<'a> {
     }
 }
 
-/// Copies as many bytes as fit, from a place on, to the front of the piece.
 fn give(bytes: &[u8], at: usize, piece: &mut [u8]) -> usize
     requires { at ≤ length bytes.now }
     ensures count { result ≡ min (length bytes.now - at) (length piece.old) }
@@ -94,7 +93,7 @@ impl Model for MemorySink {
 }
 
 impl MemorySink {
-    /// A sink that holds nothing.
+    /// A sink that took nothing yet.
     pub fn new(alloc: Global) -> MemorySink
         ensures { result ≡ nothing_taken }
     {
@@ -104,7 +103,7 @@ impl MemorySink {
         }
     }
 
-    /// The bytes that it took.
+    /// The bytes that it took so far.
     pub fn as_slice(&self) -> &[u8]
         ensures { result.now ≡ self.now.bytes }
     {

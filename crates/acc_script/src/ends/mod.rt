@@ -9,8 +9,8 @@ pub mod whole;
 
 /// Gives bytes.
 ///
-/// Contracts see, where it tells, what it has given so far, whether its last read into a piece that was not empty told
-/// the end, and how often it failed, modulo 2^64.
+/// Contracts see, where a source tells it, what it has given so far. They see whether its last read into a piece that
+/// was not empty told the end. They see how often it failed, modulo 2^64.
 pub trait Source {
     /// What it has given so far, where it tells.
     ghost told: { Self → Option Given } = { λ _. None };
@@ -29,8 +29,8 @@ pub trait Sink {
     /// What it has taken so far, where it tells.
     ghost told: { Self → Option Taken } = { λ _. None };
 
-    /// Takes bytes from the front of the piece, and answers how many. `None` is a failure, and so is no byte of a
-    /// piece that is not empty.
+    /// Takes bytes from the front of the piece, and answers how many. `None` is a failure, and so is no byte of a piece
+    /// that is not empty.
     fn write(&mut self, piece: &[u8]) -> Option<usize>
         ensures bound { IfSome result (λ n. n ≤ length piece.now) }
         ensures tells { Becomes (told self.old) (told self.new) (λ t. after_write t result piece.now) };

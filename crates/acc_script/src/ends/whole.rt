@@ -47,7 +47,7 @@ pub fn read_all<R: Source>(alloc: Global, reader: &mut R) -> Result<Vec<u8>, Fau
     }
 }
 
-/// Hands all of the bytes to a sink; false where it failed.
+/// Hands all of the bytes to a sink; false where it failed, which has then taken a front of them.
 #[tactic(auto, using(crate::proofs::Takes::taking_laws))]
 pub fn write_all<W: Sink>(writer: &mut W, bytes: &[u8]) -> bool
     ensures { Wrote (W.told writer.old) (W.told writer.new) bytes.now result }

@@ -10,7 +10,7 @@ pub struct AddressBuffer {
 }
 
 impl AddressBuffer {
-    /// An empty buffer.
+    /// A buffer for one address at a time.
     pub fn new() -> AddressBuffer {
         AddressBuffer { bytes: [0; 64] }
     }
@@ -25,7 +25,6 @@ impl AddressBuffer {
     }
 }
 
-/// Puts the hexadecimal digits of a number at the end of a buffer, and answers where they start.
 #[tactic(auto, using(crate::proofs::Digits::none_yet, crate::proofs::Digits::no_more))]
 fn put_digits(n: u64, buffer: &mut [u8]) -> usize
     requires { length buffer.old ≡ 64 }
@@ -44,7 +43,6 @@ fn put_digits(n: u64, buffer: &mut [u8]) -> usize
     0
 }
 
-/// A hexadecimal digit.
 fn digit(value: u8) -> u8
     requires { value < 16 }
     ensures { result ≡ digit_glyph false value }

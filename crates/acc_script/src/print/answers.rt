@@ -22,7 +22,7 @@ pub fn write_read<W: Sink>(writer: &mut W, bytes: Option<&[u8]>) -> bool
     }
 }
 
-/// Writes bytes as a line of digits, and a dash for no byte; false where the sink failed.
+/// Writes bytes as a line of digits, and a dash for no byte.
 fn write_bytes<W: Sink>(writer: &mut W, bytes: &[u8]) -> bool
     ensures { Wrote (W.told writer.old) (W.told writer.new) (bytes_text bytes.now) result }
 {
@@ -35,7 +35,6 @@ fn write_bytes<W: Sink>(writer: &mut W, bytes: &[u8]) -> bool
     write_all(writer, b"\n")
 }
 
-/// Writes the digits of bytes, piece by piece; false where the sink failed.
 fn write_digits<W: Sink>(writer: &mut W, bytes: &[u8]) -> bool
     ensures { Wrote (W.told writer.old) (W.told writer.new) (encode_lower bytes.now) result }
 {
@@ -51,7 +50,6 @@ fn write_digits<W: Sink>(writer: &mut W, bytes: &[u8]) -> bool
     true
 }
 
-/// Writes the digits of a few bytes; false where the sink failed.
 fn write_piece<W: Sink>(writer: &mut W, piece: &[u8]) -> bool
     requires { length piece.now ≤ 64 }
     ensures { Wrote (W.told writer.old) (W.told writer.new) (encode_lower piece.now) result }
@@ -62,7 +60,6 @@ fn write_piece<W: Sink>(writer: &mut W, piece: &[u8]) -> bool
     write_all(writer, digits)
 }
 
-/// Puts two digits for each byte into a place of twice its length.
 fn put_digits(piece: &[u8], digits: &mut [u8])
     requires { length digits.old ≡ 2 * length piece.now }
     ensures { digits.new ≡ encode_lower piece.now }
@@ -88,7 +85,7 @@ pub fn write_presence<W: Sink>(writer: &mut W, present: bool) -> bool
     }
 }
 
-/// Writes a device address, if there is one; false where the sink failed.
+/// Writes a device address, or that there is none; false where the sink failed.
 pub fn write_place<W: Sink>(writer: &mut W, place: Option<u64>) -> bool
     ensures { Wrote (W.told writer.old) (W.told writer.new) (place_text place) result }
 {

@@ -12,7 +12,7 @@ use acc_base::Ended;
 use acc_table::Table;
 use itoa::Buffer;
 
-/// A line for each block of a device whose mapping has ended, by rising place; false where the sink failed.
+/// Writes a line for each block of a device whose mapping has ended, by rising place; false where the sink failed.
 pub fn write_ended<W: Sink>(table: &Table, writer: &mut W, device: u64) -> bool
     requires there { device < table.now.limits.devices }
     ensures { Wrote (W.told writer.old) (W.told writer.new) (ended_texts 0 (view device table.now.state).records) result }
@@ -28,7 +28,6 @@ pub fn write_ended<W: Sink>(table: &Table, writer: &mut W, device: u64) -> bool
     true
 }
 
-/// The line of a block whose mapping has ended; false where the sink failed.
 fn write_block<W: Sink>(writer: &mut W, ended: Ended) -> bool
     ensures { Wrote (W.told writer.old) (W.told writer.new) (ended_text ended) result }
 {

@@ -22,7 +22,7 @@ pub enum Effect {
     Refused(Fault),
     /// The bytes of a section of host memory.
     HostBytes(Section),
-    /// The bytes that a device has of a section, if it is present there.
+    /// The bytes that a device has of a section of host memory, if it is present there.
     DeviceBytes {
         /// The number of the device.
         device: u64,

@@ -1,5 +1,5 @@
-//! Writes what a line has to print, without memory: each text goes to its sink in pieces, so that what a sink took that
-//! failed is known. A new kind of answer is one case more in `effects`.
+//! Writes what a line has to print, without memory. Each text goes to its sink in pieces, so it is known what a sink
+//! took before it failed. A new kind of answer is one case more in `effects`.
 
 mod addresses;
 mod answers;

@@ -12,8 +12,8 @@ use acc_base::{Attachment, Section};
 use acc_table::Table;
 use itoa::Buffer;
 
-/// A line for each attached pointer that begins in a section inside one mapped range of a device, by rising address;
-/// false where the sink failed.
+/// Writes a line for each attached pointer that begins in a section inside one mapped range, by rising address. False
+/// where the sink failed.
 pub fn write_pointers<W: Sink>(table: &Table, writer: &mut W, device: u64, section: Section) -> bool
     requires there { device < table.now.limits.devices }
     requires low { section.start + section.len < 2 ^ 32 }
@@ -35,7 +35,6 @@ pub fn write_pointers<W: Sink>(table: &Table, writer: &mut W, device: u64, secti
     true
 }
 
-/// The line of a pointer with its attachment counter; false where the sink failed.
 fn write_pointer<W: Sink>(writer: &mut W, attached: Attachment) -> bool
     ensures { Wrote (W.told writer.old) (W.told writer.new) (pointer_text attached) result }
 {

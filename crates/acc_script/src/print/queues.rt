@@ -11,7 +11,7 @@ use acc_base::QUEUE_COUNT;
 use acc_table::Table;
 use itoa::Buffer;
 
-/// A line for each queue of a device that is not empty, by rising number; false where the sink failed.
+/// Writes a line for each queue of a device that is not empty, by rising number; false where the sink failed.
 pub fn write_queues<W: Sink>(table: &Table, writer: &mut W, device: u64) -> bool
     requires there { device < table.now.limits.devices }
     ensures { Wrote (W.told writer.old) (W.told writer.new) (queues_text 0 (view device table.now.state).records.queues) result }
@@ -25,7 +25,6 @@ pub fn write_queues<W: Sink>(table: &Table, writer: &mut W, device: u64) -> bool
     true
 }
 
-/// The line of a queue, where it is not empty; false where the sink failed.
 #[tactic(auto, using(crate::proofs::Fronts::took_nothing))]
 fn write_waiting<W: Sink>(writer: &mut W, q: u64, len: u64) -> bool
     ensures { Wrote (W.told writer.old) (W.told writer.new) (waiting_text q len) result }
@@ -36,7 +35,6 @@ fn write_waiting<W: Sink>(writer: &mut W, q: u64, len: u64) -> bool
     write_queue(writer, q, len)
 }
 
-/// The line of a queue with its length; false where the sink failed.
 fn write_queue<W: Sink>(writer: &mut W, q: u64, len: u64) -> bool
     ensures { Wrote (W.told writer.old) (W.told writer.new) (queue_text q len) result }
 {

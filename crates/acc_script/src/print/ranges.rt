@@ -13,7 +13,7 @@ use acc_base::Section;
 use acc_table::{Mapped, Table};
 use itoa::Buffer;
 
-/// A line for each mapped range of a device and each attached pointer in it; false where the sink failed.
+/// Writes a line for each mapped range of a device and each attached pointer in it; false where the sink failed.
 pub fn write_ranges<W: Sink>(table: &Table, writer: &mut W, device: u64) -> bool
     requires there { device < table.now.limits.devices }
     ensures { Wrote (W.told writer.old) (W.told writer.new) (ranges_text (view device table.now.state).records) result }
@@ -29,7 +29,6 @@ pub fn write_ranges<W: Sink>(table: &Table, writer: &mut W, device: u64) -> bool
     true
 }
 
-/// The line of a mapped range, and those of the attached pointers in it; false where the sink failed.
 #[tactic(auto, using(crate::proofs::Fronts::writing_laws))]
 fn write_range<W: Sink>(table: &Table, writer: &mut W, device: u64, mapped: Mapped) -> bool
     requires there { device < table.now.limits.devices }
@@ -46,7 +45,6 @@ fn write_range<W: Sink>(table: &Table, writer: &mut W, device: u64, mapped: Mapp
     write_pointers(table, writer, device, section)
 }
 
-/// The line of a mapped range; false where the sink failed.
 fn write_mapped<W: Sink>(writer: &mut W, mapped: Mapped) -> bool
     ensures { Wrote (W.told writer.old) (W.told writer.new) (mapped_text mapped) result }
 {
@@ -56,7 +54,6 @@ fn write_mapped<W: Sink>(writer: &mut W, mapped: Mapped) -> bool
     write_counters(writer, mapped.structured, mapped.dynamic, mapped.lent)
 }
 
-/// Where a mapped range starts, its length, and where its block lies.
 fn write_mapping<W: Sink>(writer: &mut W, start: u64, len: u64, place: u64) -> bool
     ensures { Wrote (W.told writer.old) (W.told writer.new) (mapping_text start len place) result }
 {
@@ -79,7 +76,6 @@ fn write_mapping<W: Sink>(writer: &mut W, start: u64, len: u64, place: u64) -> b
     )
 }
 
-/// The two reference counters, and whether the block is lent, up to the end of the line.
 fn write_counters<W: Sink>(writer: &mut W, structured: u64, dynamic: u64, lent: bool) -> bool
     ensures { Wrote (W.told writer.old) (W.told writer.new) (counters_text structured dynamic lent) result }
 {

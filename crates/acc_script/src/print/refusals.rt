@@ -25,7 +25,6 @@ pub fn write_refusal<W: Sink>(writer: &mut W, line: u64, fault: Fault) -> bool
     write_all(writer, b"\n")
 }
 
-/// The line up to the fields of the fault.
 fn write_refusal_start<W: Sink>(writer: &mut W, line: u64, fault: Fault) -> bool
     ensures { Wrote (W.told writer.old) (W.told writer.new) (refusal_start line fault) result }
 {
@@ -73,7 +72,6 @@ fn write_fields<W: Sink>(writer: &mut W, fault: Fault) -> bool
     }
 }
 
-/// One field: its name with a space on either side, and its value.
 fn write_field<W: Sink>(writer: &mut W, name: &[u8], value: u64) -> bool
     ensures { Wrote (W.told writer.old) (W.told writer.new) (field_text name.now value) result }
 {
@@ -82,7 +80,6 @@ fn write_field<W: Sink>(writer: &mut W, name: &[u8], value: u64) -> bool
     write_pieces(writer, &[name, value.as_bytes()])
 }
 
-/// The fields of a device that is full.
 fn write_need<W: Sink>(writer: &mut W, item: u64, need: u64) -> bool
     ensures { Wrote (W.told writer.old) (W.told writer.new)
         (codes " item " ++ decimal item ++ codes " need " ++ decimal need) result }
@@ -102,7 +99,6 @@ fn write_need<W: Sink>(writer: &mut W, item: u64, need: u64) -> bool
     )
 }
 
-/// The fields of a line at fault.
 fn write_kind<W: Sink>(writer: &mut W, line: u64, kind: ScriptFault) -> bool
     ensures { Wrote (W.told writer.old) (W.told writer.new)
         (codes " line " ++ decimal line ++ codes " kind " ++ kind_name_of kind) result }

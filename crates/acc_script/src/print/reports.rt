@@ -15,11 +15,15 @@ use acc_base::Fault;
 use acc_table::Table;
 use itoa::Buffer;
 
-/// Writes the report of a table: the sizes of its memories; of each device what blocks take of it, its mapped ranges by
-/// rising start with their counters, whether their blocks are lent and the attached pointers in them, the blocks whose
-/// mapping has ended by rising place, and the queues that are not empty; and the numbers of open regions and of events.
-/// Devices stand by number where there are several. Takes no memory. What was written is proved where the sink tells its
-/// bytes.
+/// Writes the report of a table, which takes no memory. It says the sizes of the memories in bytes, what each device
+/// has, and how many regions are open and how many events there were. Devices stand by number where there are several.
+/// What was written is proved where the sink tells its bytes.
+///
+/// Of a device it says how many bytes its blocks take, and then three lists:
+///
+/// - its mapped ranges by rising start, with counters, attached pointers, and whether the block is lent;
+/// - the blocks whose mapping has ended, by rising place;
+/// - the queues that are not empty, by rising number.
 ///
 /// # Errors
 ///
@@ -34,7 +38,7 @@ pub fn report<W: Sink>(table: &Table, writer: &mut W) -> Result<(), Fault>
     }
 }
 
-/// Writes the report of a table; false where the sink failed.
+/// Writes the report as [`report`] does; false where the sink failed.
 pub fn write_report<W: Sink>(table: &Table, writer: &mut W) -> bool
     ensures { Wrote (W.told writer.old) (W.told writer.new) (report_text table.now) result }
 {
@@ -44,7 +48,7 @@ pub fn write_report<W: Sink>(table: &Table, writer: &mut W) -> bool
     write_totals(writer, table.regions(), table.events())
 }
 
-/// The lines of all devices; the number of one that is alone is not told. False where the sink failed.
+/// The number of a device that is alone is not told.
 fn write_memories<W: Sink>(table: &Table, writer: &mut W) -> bool
     ensures { Wrote (W.told writer.old) (W.told writer.new) (memories_text table.now) result }
 {
@@ -55,7 +59,6 @@ fn write_memories<W: Sink>(table: &Table, writer: &mut W) -> bool
     }
 }
 
-/// The sizes, and the lines of the one device there is; false where the sink failed.
 #[tactic(auto, using(crate::proofs::Fronts::writing_laws))]
 fn write_only<W: Sink>(table: &Table, writer: &mut W) -> bool
     ensures { Wrote (W.told writer.old) (W.told writer.new) (only_text table.now) result }
@@ -68,7 +71,6 @@ fn write_only<W: Sink>(table: &Table, writer: &mut W) -> bool
     write_device(table, writer, 0)
 }
 
-/// The sizes, and the lines of several devices; false where the sink failed.
 #[tactic(auto, using(crate::proofs::Fronts::writing_laws))]
 fn write_several<W: Sink>(table: &Table, writer: &mut W) -> bool
     ensures { Wrote (W.told writer.old) (W.told writer.new) (several_text table.now) result }
@@ -80,7 +82,6 @@ fn write_several<W: Sink>(table: &Table, writer: &mut W) -> bool
     write_each(table, writer)
 }
 
-/// The lines of each device, by rising number; false where the sink failed.
 fn write_each<W: Sink>(table: &Table, writer: &mut W) -> bool
     ensures { Wrote (W.told writer.old) (W.told writer.new) (each_text 0 table.now.state.devices) result }
 {
@@ -94,7 +95,6 @@ fn write_each<W: Sink>(table: &Table, writer: &mut W) -> bool
     true
 }
 
-/// The lines of one of several devices; false where the sink failed.
 #[tactic(auto, using(crate::proofs::Fronts::writing_laws))]
 fn write_one<W: Sink>(table: &Table, writer: &mut W, device: u64) -> bool
     requires there { device < table.now.limits.devices }
@@ -106,7 +106,6 @@ fn write_one<W: Sink>(table: &Table, writer: &mut W, device: u64) -> bool
     write_device(table, writer, device)
 }
 
-/// The lines of mapped ranges, of blocks whose mapping has ended, and of queues of a device; false where the sink failed.
 #[tactic(auto, using(crate::proofs::Fronts::writing_laws))]
 fn write_device<W: Sink>(table: &Table, writer: &mut W, device: u64) -> bool
     requires there { device < table.now.limits.devices }
@@ -121,7 +120,6 @@ fn write_device<W: Sink>(table: &Table, writer: &mut W, device: u64) -> bool
     write_queues(table, writer, device)
 }
 
-/// The sizes of host memory and of the memory of the one device there is, and how much of that is used, in bytes.
 fn write_sizes<W: Sink>(writer: &mut W, host: u64, device: u64, used: u64) -> bool
     ensures { Wrote (W.told writer.old) (W.told writer.new) (sizes_text host device used) result }
 {
@@ -145,7 +143,6 @@ fn write_sizes<W: Sink>(writer: &mut W, host: u64, device: u64, used: u64) -> bo
     )
 }
 
-/// The sizes of host memory and of the memory of each device in bytes, and how many devices there are.
 fn write_devices<W: Sink>(writer: &mut W, host: u64, device: u64, count: u64) -> bool
     ensures { Wrote (W.told writer.old) (W.told writer.new) (devices_text host device count) result }
 {
@@ -169,7 +166,6 @@ fn write_devices<W: Sink>(writer: &mut W, host: u64, device: u64, count: u64) ->
     )
 }
 
-/// The number of a device, and how much of it is used, in bytes.
 fn write_used<W: Sink>(writer: &mut W, device: u64, used: u64) -> bool
     ensures { Wrote (W.told writer.old) (W.told writer.new) (used_text device used) result }
 {
@@ -189,7 +185,6 @@ fn write_used<W: Sink>(writer: &mut W, device: u64, used: u64) -> bool
     )
 }
 
-/// The numbers of open regions and of events.
 fn write_totals<W: Sink>(writer: &mut W, regions: u64, events: u64) -> bool
     ensures { Wrote (W.told writer.old) (W.told writer.new) (totals_text regions events) result }
 {

@@ -11,8 +11,8 @@ use std::sync::Wait;
 use std::test::Fail;
 use std::thread::Threads;
 
-/// Command lines with an empty script, their status, and what has to stand in the text on standard output and on
-/// standard error; where it is empty there is no text.
+/// Command lines with an empty script, and their status. What has to stand in the text on standard output and on
+/// standard error follows; an empty one is no text.
 const COMMAND_LINES: [(&str, u8, &str, &str); 25] = [
     ("--help", 0, "Usage: accrun [OPTIONS] [FILE]", ""),
     (

@@ -9,8 +9,7 @@ use std::sync::Wait;
 use std::test::Fail;
 use std::thread::Threads;
 
-/// What a cut ends with that shows all of an array where the whole shows one byte of it, and the last line that is
-/// printed then.
+/// The end of a cut that shows all of an array where the whole shows one byte, and the last line that is printed then.
 const SHOWN: [(&str, &str); 2] = [
     ("report\nshow a", "09000000000000000000000000000000\n"),
     ("wait(1)\nshow a", "07000000000000000000000000000000\n"),

@@ -105,6 +105,7 @@ pub struct Narrow {
 }
 
 impl Narrow {
+    /// A sink with room for this many bytes, which fails or takes none behind them.
     pub fn new(room: usize, fails: bool) -> Narrow {
         Narrow {
             bytes: [0; 512],

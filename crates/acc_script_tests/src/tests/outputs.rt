@@ -80,8 +80,8 @@ fn a_failed_read_runs_nothing(rt: HostRuntime) -> Result<(), Fail> {
     Ok(())
 }
 
-/// How many bytes standard output takes, whether its flush succeeds, the options, a script, what is told, the status, and
-/// how many bytes of the output were taken at the end and before anything was told.
+/// How many bytes standard output takes, whether its flush succeeds, the options, a script, what is told, and the
+/// status. Then how many bytes of the output were taken at the end, and before anything was told.
 type OutputRow = (
     usize,
     bool,

@@ -73,8 +73,8 @@ impl Write for Counting<'_> {
     }
 }
 
-/// The reads before one that fails, the writes before one that fails, what either fails with, the answer of the run of
-/// a report, and how many bytes of its 44 were taken.
+/// The reads before one that fails, the writes before one that fails, and what either fails with. Then the answer of
+/// the run of a report, and how many bytes of its 44 were taken.
 type Row = (usize, usize, ErrorKind, Result<Status, Fault>, usize);
 
 /// So many turns are never taken.

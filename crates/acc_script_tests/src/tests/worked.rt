@@ -118,6 +118,7 @@ pub const FINALIZED: Row = (
 pub const NUMBERED: &[u8] =
     b"array a 127\ndata copy(a)\nkernel number 200 a\nend data\nshow a[54:4]\nshow a[125:2]\n";
 
+/// What that script prints.
 pub const NUMBERS: &str = "feff0001\n4546\n";
 
 /// Kernels, in different numbers of threads, and a drill, which reads no script.

@@ -1,6 +1,8 @@
 -- The most telling run of each subject, with values worked out by hand. Rows of tests have the others.
-use Rattle.std.proofs.Common.{ℕ, ◌≡◌, refl, List, [], ◌∷◌, ◌++◌, Option, Some, None, true, false, replicate}
-use Rattle.acc_base.specs.Words.{Section, Item, RegionClause, EnterClause, ExitClause, UpdateClause, Call, Loan, Aim, Did, Fault}
+use Rattle.std.proofs.Common.{ℕ, ◌≡◌, refl, ap, Bool, List, [], ◌∷◌, ◌++◌, Option, Some, None, Result, Ok, true, false, replicate, arith}
+use Rattle.std.specs.Prelude.{is_some}
+use Rattle.std.proofs.lemmas.Bool.{true≢false}
+use Rattle.acc_base.specs.Words.{Section, Item, RegionClause, EnterClause, ExitClause, UpdateClause, Call, Loan, Aim, Did, Event, Fault}
 use Rattle.acc_base.specs.Words as words
 use Rattle.acc_base.specs.declared.items.RegionClause.TheVariants.{Copyin, NoCreate, Present, Attach}
 use Rattle.acc_base.specs.declared.items.EnterClause.TheVariants as enter
@@ -12,16 +14,21 @@ use Rattle.acc_base.specs.declared.attachments.Aim.TheVariants as aims
 use Rattle.acc_base.specs.declared.events.Step.TheVariants.{Nothing, Counted, Born, Dropped}
 use Rattle.acc_base.specs.declared.events.Event.TheVariants as events
 use Rattle.acc_base.specs.declared.faults.Fault.TheVariants.{NoTickets, NoAllowance, TooManyItems, TraceFull, OutOfHost, Misaligned, PartlyPresent, NotPresent, CounterFull, Lent, DeviceFull, QueueFull, NoRegion, NoLease, NoQueue, NoDevice}
+use Rattle.acc_base.specs.Detaching.{block_aimed}
 use Rattle.acc_base.specs.Loans.{Leased}
 use Rattle.acc_base.specs.Limits.{Limits}
 use Rattle.acc_base.specs.Queues.{new_queues, queue_at}
 use Rattle.acc_base.specs.Records.{Memory}
 use Rattle.acc_base.specs.Judge.{leased}
-use Rattle.acc_base.specs.Steps.{did_of}
-use Rattle.acc_base.specs.Waits.{ended_from}
-use Rattle.acc_base.specs.Devices.{view, events_on}
-use Rattle.acc_base.specs.Accounts.{past_on}
-use Rattle.acc_base.specs.History.{entries_in, exits_in, dynamic_in, attached_in}
+use Rattle.acc_base.specs.Steps.{did_of, judge_step, judge_row, act, act_all, act_step, act_row, records_after_birth, records_after_end, released, with_range_changed}
+use Rattle.acc_base.specs.Walk.{walk, loaned}
+use Rattle.acc_base.specs.Bytes.{step_state}
+use Rattle.acc_base.specs.Pointers.{judge_attach, aimed}
+use Rattle.acc_base.specs.Acting.{judge_aim, judge_task, judge_all, act_state, act_all_state, after}
+use Rattle.acc_base.specs.Waits.{drained, records_drained, ended_from}
+use Rattle.acc_base.specs.Devices.{new_whole, new_whole_layout, view, events_on}
+use Rattle.acc_base.specs.Accounts.{AreMadeIn, past_on}
+use Rattle.acc_base.specs.History.{AreLegal, entries_in, exits_in, dynamic_in, attached_in}
 use Rattle.acc_base.proofs.Runs.{ran_with}
 
 -- ---- what the runs are written with
@@ -196,6 +203,28 @@ pointer_lives : (view 0 (ran_with limits attached_twice).world.state).records.at
     × (view 0 (ran_with limits detaching_calls).world.state).memories ≡ memory 1 (replicate 8 0 ++ as_host 0x20) ∷ memory 2 zeros ∷ memory 3 zeros ∷ []
 unfolding ran_with
 pointer_lives = (refl, refl, refl, refl)
+
+-- a full trace in which a pointer is not attached whose target is mapped: it is legal apart from bytes, and not with them
+abbrev left_unattached : List Event
+left_unattached = events.HostWritten 0x1008 8 (0x10 ∷ 0x10 ∷ replicate 6 0) ∷ events.EnteredData 0 (item enter.Copyin a ∷ item enter.Copyin b ∷ []) None (did_of (Born 1 0x1_0000_0000) ∷ did_of (Born 2 0x1_0000_0010) ∷ [])
+    ∷ events.EnteredData 0 (pointer_item enter.Attach ∷ []) None (did_of Nothing ∷ []) ∷ []
+
+legal_apart_from_bytes : AreLegal (record limits { full = true }) left_unattached (new_whole_layout 1)
+unfolding judge_step judge_row walk loaned records_drained act act_all act_step act_row records_after_birth
+legal_apart_from_bytes = (
+  record { there = omega arith; legal = record { names = (refl, refl); judged = tt } },
+  (record { there = omega arith; legal = record { names = refl; judged = (refl, tt, (refl, tt, tt)) } },
+  (record { there = omega arith; legal = record { names = refl; judged = (refl, tt, tt) } }, tt)),
+)
+
+-- the first item attached its pointer
+abbrev attaches : Result (List Did) Fault → Bool
+attaches (Ok (did ∷ dids)) = is_some (block_aimed did.aim)
+attaches _ = false
+
+not_with_bytes : AreMadeIn (record limits { full = true }) left_unattached (new_whole 1 64) → ⊥
+unfolding after loaned drained act_all_state act_state step_state aimed act_step act_row records_after_birth records_after_end released with_range_changed judge_all judge_task judge_step judge_row judge_aim judge_attach
+not_with_bytes h = true≢false (ap attaches h.1.1.0)
 
 -- an item that ends the mapping that holds its own pointer detaches it first
 exited_own : (ran_with limits (point_to 0x10 ∷ enter_data_of (via enter.Copyin (at 0x1000 32) ∷ []) ∷ exit_data_of (via exit.Delete (at 0x1000 32) ∷ []) ∷ [])).world.history.trace

@@ -18,6 +18,7 @@ lawful_on w d h device = record {
   counted = h.sound.layout.records.counted;
   traced = h.counters_traced;
   held = h.sound.layout.held;
+  entries_held = h.entries_held;
   regions = h.sound.layout.register;
   attached = h.sound.layout.records.attached;
   attachments_traced = h.attachments_traced;

@@ -14,7 +14,7 @@ use Rattle.acc_base.specs.Register.{newest_region}
 use Rattle.acc_base.specs.Holes.{IsDevice}
 use Rattle.acc_base.specs.Records.{layout_of}
 use Rattle.acc_base.specs.Devices.{view, device_at, device_of_region, device_layout_of, whole_layout_of, events_on, device_layout_alone}
-use Rattle.acc_base.specs.Accounts.{AreRangesApart, AreBlocksApart, HasOneBlockEach, IsCounted, IsTraced, AreHeld, IsRegisterSound, AreAttachmentsSound, AreAttachmentsTraced, AreQueuesSound, AreLoansSound, AreMemoriesSized, IsHistoryLegal, IsReplayed, AreBooksCounted, past_on}
+use Rattle.acc_base.specs.Accounts.{AreRangesApart, AreBlocksApart, HasOneBlockEach, IsCounted, IsTraced, AreHeld, AreEntriesHeld, IsRegisterSound, AreAttachmentsSound, AreAttachmentsTraced, AreQueuesSound, AreLoansSound, AreMemoriesSized, IsHistoryLegal, IsReplayed, AreBooksCounted, past_on}
 use Rattle.acc_base.specs.Calls.{World}
 use Rattle.acc_table.specs.Queries.{is_inside, first_attached, counters_of_section, mapped_from, device_read_of, IsOpenOn}
 
@@ -34,6 +34,8 @@ pub record IsLawfulOn (w : World) (d : ℕ) : Type 0 where
   pub traced : AllByRecursion (IsTraced (past_on d w.history)) (view d w.state).records.ranges
   -- the structured counter of each block is how often open regions hold it
   pub held : AreHeld (layout_of (view d w.state))
+  -- of each block, whether it is mapped or not, that is what entries counted and exits have not dropped
+  pub entries_held : AreEntriesHeld (past_on d w.history) (view d w.state).register
   -- open regions have rising numbers, below the next one, and at most 64 holdings each
   pub regions : IsRegisterSound (view d w.state).register
   -- attachment counters stand in order, each is from one to the limit, and its block is there
@@ -61,7 +63,7 @@ pub record IsLawful (w : World) : Type 0 where
   pub placed : (number d : ℕ) → IsOpenOn number d w.state → d ≡ device_of_region number w.state
   -- the history is legal, and leads to what the devices have
   pub history : IsHistoryLegal w.limits w.history (whole_layout_of w.state)
-  -- with full traces all memories, and all else, are what the stored events give from the base on; of a lent block that is the copy that is kept
+  -- with full traces the stored events are legal from the base on, bytes included, and give all memories and all else; of a lent block that is the kept copy
   pub replayed : IsReplayed w
   -- there are no more events than tickets and places in the trace, and no more open regions than the limit says
   pub books : AreBooksCounted w

@@ -160,9 +160,9 @@ impl Table {
     ///   the section is not empty and not in host memory, [`Fault::PartlyPresent`] with item 0 where some of its
     ///   addresses are mapped but no one range has them all, [`Fault::NotPresent`] with item 0 where it is absent or
     ///   empty, and [`Fault::Lent`] where its block is lent;
-    /// - for a lease that comes back, [`Fault::NoLease`] where its block is not lent under its serial number, place and
-    ///   length, or is not as long as the lease has bytes, or, with full traces, one of the lease's bytes outside of the
-    ///   section is not what it was when the block was lent;
+    /// - for a lease that comes back, [`Fault::NoLease`] where its block is not lent on its device under its serial number,
+    ///   place and length, or is not as long as the lease has bytes, or, with full traces, one of the lease's bytes outside
+    ///   of the section is not what it was when the block was lent;
     /// - last [`Fault::Memory`], where there is no other refusal, something to do, and memory cannot be had.
     pub fn apply(&mut self, call: Call) -> Result<Reply, (Call, Fault)>
         ensures done { IfOk result (λ reply. IsDone self.old call reply self.new) }

@@ -5,9 +5,10 @@ use Rattle.acc_base.specs.declared.attachments.Aim.{Aim}
 use Rattle.acc_base.specs.declared.attachments.Aim.TheVariants as aims
 use Rattle.acc_base.specs.declared.events.Did.{Did}
 use Rattle.acc_base.specs.declared.events.Event.{Event}
-use Rattle.acc_base.specs.declared.events.Event.TheVariants.{Entered, Left, EnteredData, ExitedData, Updated, Stepped}
+use Rattle.acc_base.specs.declared.events.Event.TheVariants.{Stepped}
 use Rattle.acc_base.specs.declared.events.Step.{Step}
 use Rattle.acc_base.specs.declared.events.Step.TheVariants.{Nothing, Counted, Born, Dropped, Moved}
+use Rattle.acc_base.specs.Walk.{did_in}
 use Rattle.lamwiest_c.specs.declared.dids.AimFields.{AimFields}
 use Rattle.lamwiest_c.specs.declared.dids.RawDid.{RawDid}
 use Rattle.lamwiest_c.specs.declared.dids.StepFields.{StepFields}
@@ -34,13 +35,8 @@ raw_did did =
 
 -- what each item of an event did, in written order; the step of a queue is one item, which moved bytes
 abbrev pub dids_in : Event → List Did
-dids_in (Entered device number items did) = did
-dids_in (Left device number did) = did
-dids_in (EnteredData device items queue did) = did
-dids_in (ExitedData device items finalize queue did) = did
-dids_in (Updated device items if_present queue did) = did
 dids_in (Stepped device queue block) = record { step = Moved block; aim = aims.None } ∷ []
-dids_in _ = []
+dids_in e = did_in e
 
 -- what the item of a place did in the last event
 abbrev pub did_at : ℕ → List Event → Option Did

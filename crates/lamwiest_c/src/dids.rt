@@ -109,16 +109,11 @@ fn did_in(event: &Event, place: usize) -> Option<Did>
     ensures { result ≡ slice_get (dids_in event.now) place }
 {
     match event {
-        Event::Entered { did, .. } => did.as_slice().get(place).copied(),
-        Event::Left { did, .. } => did.as_slice().get(place).copied(),
-        Event::EnteredData { did, .. } => did.as_slice().get(place).copied(),
-        Event::ExitedData { did, .. } => did.as_slice().get(place).copied(),
-        Event::Updated { did, .. } => did.as_slice().get(place).copied(),
         Event::Stepped { block, .. } if place == 0 => Some(Did {
             step: Step::Moved { block: *block },
             aim: Aim::None,
         }),
-        _ => None,
+        _ => event.did().get(place).copied(),
     }
 }
 
@@ -129,9 +124,8 @@ fn did_at(trace: &[Event], place: usize) -> Option<Did>
     did_in(trace.last()?, place)
 }
 
-/// What the item of a place, from 0 on, did in the last event. It is `ABSENT` where there is no such
-/// item, as behind a rebase, which leaves no event
-/// stored. The items of an exit from a region are those of its entry, in the same order.
+/// What the item of a place, from 0 on, did in the last event. It is `ABSENT` where there is no such item, as behind a
+/// rebase, which leaves no event stored. The items of an exit from a region are those of its entry, in the same order.
 #[unsafe(no_mangle)]
 pub extern "C" fn lw_did(alloc: Global, table: &mut Handle, item: u64, did: &mut RawDid) -> u32
     ensures { IsAskedOf table.old.value table.new.value (λ e. option_map raw_did (did_at item e.world.history.trace)) result did.old did.new }

@@ -7,22 +7,9 @@ use acc_base::{Aim, Counters, Did, Event, Step};
 use acc_table::{DeviceBase, Table};
 use std::process::Abort;
 
-/// What each item of an event did.
-fn did(event: &Event) -> &[Did] {
-    match event {
-        Event::Entered { did, .. } => did.as_slice(),
-        Event::Left { did, .. } => did.as_slice(),
-        Event::EnteredData { did, .. } => did.as_slice(),
-        Event::ExitedData { did, .. } => did.as_slice(),
-        Event::Updated { did, .. } => did.as_slice(),
-        Event::Waited { .. } | Event::Stepped { .. } | Event::HostWritten { .. } => &[],
-        Event::Lent { .. } | Event::Gathered { .. } => &[],
-    }
-}
-
 fn did_at(table: &Table, number: usize) -> &[Did] {
     match table.trace().get(number) {
-        Some(event) => did(event),
+        Some(event) => event.did(),
         None => &[],
     }
 }

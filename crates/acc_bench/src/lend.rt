@@ -4,7 +4,7 @@ ghost use Rattle.acc_base.specs.declared.addresses.TheConstants.{MEMORY_MAX};
 ghost use Rattle.acc_base.specs.Limits.{IsFromOne};
 
 use crate::measuring::tell_since;
-use acc_base::{DEVICE_BASE, Fault, MEMORY_MAX};
+use acc_base::{Fault, MEMORY_MAX};
 use acc_dev::Device;
 use acc_lend::{Add, Cuts, Lease, Open, run_parts};
 use anyhow::Result;
@@ -62,7 +62,7 @@ impl Loans {
         requires { IsFromOne MEMORY_MAX len }
     {
         let plain = vec![in alloc; 1; len as usize]?;
-        let mut device = Device::new(alloc, DEVICE_BASE, MEMORY_MAX)?;
+        let mut device = Device::new(alloc, 0, MEMORY_MAX)?;
         device.born(len, false)?;
         Ok(Loans { device, plain })
     }
@@ -77,7 +77,7 @@ impl Loans {
             Some(bytes) if bytes.len() as u64 == len => {}
             Some(_) | None => return Err(Fault::NoLease { serial }),
         }
-        self.device.take_out(0, 1, serial, 0, len, false)
+        self.device.take_out(1, serial, 0, len, false)
     }
 
     fn put_back(&mut self, lease: Lease) -> Result<u64, Fault> {

@@ -6,7 +6,7 @@ ghost use Rattle.acc_base.specs.Limits.{IsFromOne};
 ghost use Rattle.acc_dev.specs.Device.{birth_place};
 
 use crate::calls::{Subject, is_as_wanted};
-use acc_base::{DEVICE_BASE, Fault, MEMORY_MAX};
+use acc_base::{Fault, MEMORY_MAX};
 use acc_dev::Device;
 use acc_lend::Lease;
 use std::alloc::Global;
@@ -84,7 +84,7 @@ fn take_out(device: &mut Device, block: u64, len: u64) -> Option<Result<Lease, F
     }
     let whole = device.bytes(block)?.len() as u64;
     if len <= whole {
-        Some(device.take_out(0, block, 7, 0, len, true))
+        Some(device.take_out(block, 7, 0, len, true))
     } else {
         None
     }
@@ -162,7 +162,7 @@ impl Subject for Device {
     const ROWS: &'static [Row] = ROWS;
 
     fn new(alloc: Global) -> Result<Device, Fault> {
-        Device::new(alloc, DEVICE_BASE, 65_536)
+        Device::new(alloc, 0, 65_536)
     }
 
     fn answers(&mut self, alloc: Global, row: &Row) -> Result<bool, Fault> {

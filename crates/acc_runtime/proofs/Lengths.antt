@@ -1,6 +1,10 @@
--- A lease is as long as the section that was asked for.
-use Rattle.std.proofs.Common.{ℕ, ◌≡◌, refl, sym, ◌∙◌, ap, subst, Some, Result, Ok, Err}
-use Rattle.std.specs.Prelude.{MatchResult, IfOk}
+-- A lease is as long as the section that was asked for, and so are the bytes of host memory that are read.
+use Rattle.std.proofs.Common.{ℕ, ◌≡◌, ◌-◌, ◌≤◌, refl, sym, ◌∙◌, ap, subst, Bool, true, false, cond, List, length, Some, None, Result, Ok, Err, arith, length-drop}
+use Rattle.std.proofs.lemmas.List.{length-take-le}
+use Rattle.std.specs.Prelude.{◌||◌, take, drop, MatchResult, IfOk}
+use Rattle.std.proofs.lemmas.Bool.Decides.{nat_tests}
+use Rattle.acc_base.specs.Section.{is_empty, is_within, host_base, host_memory}
+use Rattle.acc_table.specs.Queries.{host_read_of}
 use Rattle.acc_base.specs.Words.{Section, Event, Found, Fault}
 use Rattle.acc_base.specs.declared.calls.Call.TheVariants.{Lend}
 use Rattle.acc_base.specs.declared.mappings.Found.TheVariants.{Inside}
@@ -64,3 +68,18 @@ pub was_lent_long : {E : Type 0} (r : Result Leased E) (p q : Shares) (region : 
     → IfOk r (λ lease. WasAccepted p (Lend region section) (replies.Lease lease) q) → IfOk r (λ (lease : Leased). lease.len ≡ section.len)
 was_lent_long (Ok lease) p q region section accepted = lease_long accepted.before region section lease accepted.next accepted.acted.done
 was_lent_long (Err back) p q region section accepted = tt
+
+-- ---- bytes of host memory
+
+pub read_long : (s : Section) (host bytes : List ℕ) → host_read_of s host ≡ Some bytes → length bytes ≡ s.len
+read_long s host bytes h = go (is_empty s || is_within s (host_memory (length host))) refl h
+  where
+    all_of : List ℕ
+    all_of = take s.len (drop (s.start - host_base) host)
+
+    go : (b : Bool) → (is_empty s || is_within s (host_memory (length host))) ≡ b → cond b (Some all_of) None ≡ Some bytes → length bytes ≡ s.len
+    go true inside is =
+        let same : all_of ≡ bytes = cc in
+        let room : s.len ≤ length host - (s.start - host_base) = grind (arith, nat_tests) in
+        subst (λ (xs : List ℕ). length xs ≡ s.len) same (length-take-le s.len (drop (s.start - host_base) host) (omega (arith, room, length-drop (s.start - host_base) host)))
+    go false inside is = absurd cc

@@ -20,7 +20,7 @@ use crate::ledgers::Blanks;
 use crate::outcomes::{Outcome, answers_idle};
 use acc_base::{Config, Directive, Fault, Section};
 use acc_table::laws::hold;
-use acc_table::{Call, Reply, Table};
+use acc_table::{Call, Folded, Reply, Table};
 use std::alloc::Global;
 use std::marker::Model;
 use std::sync::ledger::{Book, Ledger, Share};
@@ -199,7 +199,7 @@ impl<Regions: Ledger, Tickets: Ledger, Events: Ledger> Locked<Regions, Tickets, 
         Ok(reply)
     }
 
-    /// Makes what the table has its base, as [`Table::rebase`] does, and answers how many events were stored. It is no
+    /// Makes what the table has its base, and answers how many events were stored, as [`Table::rebase`] does. It is no
     /// event: no caller's shares change, and no book.
     ///
     /// # Errors
@@ -211,7 +211,22 @@ impl<Regions: Ledger, Tickets: Ledger, Events: Ledger> Locked<Regions, Tickets, 
         ensures same { OnErr result (self.new ≡ self.old) }
         ensures err { IfErr result (λ fault. fault ≡ Memory) }
     {
-        let outcome = self.table.rebase();
+        Ok(self.fold()?.count())
+    }
+
+    /// As [`Locked::rebase`], but what the table no longer needs is answered, to be let go when the lock is free, as
+    /// [`Table::fold`] does.
+    ///
+    /// # Errors
+    ///
+    /// [`Fault::Memory`] alone, and nothing changed.
+    pub fn fold(&mut self) -> Result<Folded, Fault>
+        ensures folded { IfOk result (λ folded. folded ≡ self.old.history) }
+        ensures rebased { OnOk result (self.new ≡ rebased self.old) }
+        ensures same { OnErr result (self.new ≡ self.old) }
+        ensures err { IfErr result (λ fault. fault ≡ Memory) }
+    {
+        let outcome = self.table.fold();
         hold(&self.table);
         outcome
     }

@@ -12,9 +12,9 @@ use std::sync::{Mutex, MutexGuard, Wait};
 ///
 /// Each call takes the lock once, and may wait for it. The lock covers one [`Table::apply`](acc_table::Table::apply) with
 /// the moves of its caller's shares, one rebase, one look, or one copy. What is handed in is put together before it is
-/// taken, and what a refused call brought is let go after it is released. Under it are allocated and freed what the
-/// table keeps of an event, and bytes that it keeps no longer. Whenever it is free, the laws of [`Locked`] hold of the
-/// table.
+/// taken. What a refused call brought and what a rebase folded are let go after it is released. Under it is allocated what
+/// the table keeps of an event, and the bytes of a host write are freed that a counted trace does not keep. Whenever it is
+/// free, the laws of [`Locked`] hold of the table.
 ///
 /// Which table a call meets is up to the threads. So contracts say that it met one of which the laws hold, and what
 /// came of the call there. They see a runtime as its limits.

@@ -1,6 +1,6 @@
 //! The calls on a table under one lock, for any number of threads.
 
-ghost use Rattle.std.specs.Prelude.{◌≡◌, ◌≤◌, if◌then◌else◌, vec_len, vec_capacity, Ok, IfOk, IfErr, OnOk, OnErr, IfSome, MatchResult};
+ghost use Rattle.std.specs.Prelude.{◌≡◌, ◌≤◌, if◌then◌else◌, length, vec_len, vec_capacity, Ok, IfOk, IfErr, OnOk, OnErr, IfSome, MatchResult};
 ghost use Rattle.std.specs.Fn.{FnOnceReturnsAt, FnOnceTakesAt};
 ghost use Rattle.acc_base.specs.declared.calls.Call.TheVariants.{Do, HostWrite, Lend, Gather};
 ghost use Rattle.acc_base.specs.declared.directives.Directive.TheVariants.{Enter, Exit, EnterData, ExitData, Update, Wait as WaitFor, Step};
@@ -23,7 +23,7 @@ use acc_base::{
     Config, EnterClause, ExitClause, Fault, HOST_BASE, Item, RegionClause, Section, UpdateClause,
 };
 use acc_lend::Lease;
-use acc_table::{Call, Table};
+use acc_table::{Call, Folded, Table};
 use std::sync::Wait;
 use std::sync::ledger::{Blank, Ledger};
 
@@ -290,6 +290,7 @@ impl<Regions: Ledger, Tickets: Ledger, Events: Ledger> Runtime<Regions, Tickets,
     ) -> Result<Vec<u8>, Fault>
         ensures inside { OnOk result (in_host self.now 0 section ≡ Ok tt) }
         ensures bytes { IfOk result (λ bytes. WasRead section bytes.items) }
+        ensures len { IfOk result (λ bytes. vec_len bytes ≡ section.len) }
         ensures err { IfErr result (λ fault. MatchResult (in_host self.now 0 section) (λ _. fault ≡ Memory) (λ outside. fault ≡ outside)) }
     {
         check_host(self.config(), section)?;
@@ -302,10 +303,12 @@ impl<Regions: Ledger, Tickets: Ledger, Events: Ledger> Runtime<Regions, Tickets,
     }
 
     /// Copies the bytes of a section of host memory, with the lock held for no longer.
+    #[tactic(auto, using(crate::proofs::Lengths::read_long))]
     fn copied<R: Wait>(&self, rt: &R, section: Section, copy: Vec<u8>) -> Option<Vec<u8>>
         requires empty { vec_len copy ≡ 0 }
         requires room { section.len ≤ vec_capacity copy }
-        ensures { IfSome result (λ bytes. WasRead section bytes.items) }
+        ensures bytes { IfSome result (λ bytes. WasRead section bytes.items) }
+        ensures len { IfSome result (λ bytes. vec_len bytes ≡ section.len) }
     {
         let locked = self.lock(rt);
         locked.laws();
@@ -313,8 +316,8 @@ impl<Regions: Ledger, Tickets: Ledger, Events: Ledger> Runtime<Regions, Tickets,
     }
 
     /// Makes what the table has its base, and answers how many events were stored, as [`Table::rebase`] does. It is no
-    /// event and takes no caller. A program that runs for long calls it now and then, so that the trace never gets full
-    /// and its memory is used again. The old base and the events are freed while the lock is held.
+    /// event and takes no caller. A program that runs for long calls it now and then, so that the trace never gets full.
+    /// The old base and the events are freed when the lock is free again.
     ///
     /// # Errors
     ///
@@ -323,9 +326,17 @@ impl<Regions: Ledger, Tickets: Ledger, Events: Ledger> Runtime<Regions, Tickets,
         ensures folded { IfOk result WasRebased }
         ensures err { IfErr result (λ fault. fault ≡ Memory) }
     {
+        Ok(self.fold(rt)?.count())
+    }
+
+    /// Makes what the table has its base, with the lock held for no longer, and answers what the table no longer needs.
+    fn fold<R: Wait>(&self, rt: &R) -> Result<Folded, Fault>
+        ensures folded { IfOk result (λ folded. WasRebased (length folded.trace)) }
+        ensures err { IfErr result (λ fault. fault ≡ Memory) }
+    {
         let mut locked = self.lock(rt);
         locked.laws();
-        let outcome = locked.rebase();
+        let outcome = locked.fold();
         locked.laws();
         outcome
     }

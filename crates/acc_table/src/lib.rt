@@ -19,4 +19,5 @@ mod tables;
 pub use acc_clauses::{Base, DeviceBase};
 pub use acc_lend::Lease;
 pub use calls::{Answer, Call, Mapped, Reply, Turn, abandon, abandon_all};
+pub use rebasing::Folded;
 pub use tables::Table;

@@ -1,11 +1,39 @@
 //! How what a table has becomes its base.
 
-ghost use Rattle.std.specs.Prelude.{◌≡◌, length, IfOk, IfErr, OnOk, OnErr};
+ghost use Rattle.std.specs.Prelude.{◌≡◌, [], length, IfOk, IfErr, OnOk, OnErr};
 ghost use Rattle.acc_base.specs.declared.faults.Fault.TheVariants.{Memory};
 ghost use Rattle.acc_base.specs.Calls.{rebased};
 
 use crate::tables::Table;
-use acc_base::Fault;
+use acc_base::{Event, Fault};
+use acc_clauses::Base;
+use std::marker::Model;
+use std::mem;
+
+/// What a table had before a rebase and no longer needs: its base, and the events that it had stored since. Contracts see
+/// it as that history.
+#[derive(Drop)]
+pub struct Folded {
+    base: Base,
+    events: Vec<Event>,
+}
+
+impl Model for Folded {
+    ghost use Rattle.acc_base.specs.Calls.{History};
+
+    ghost Value = { History };
+
+    ghost view = { λ folded. record { base = folded.base; trace = folded.events.items } };
+}
+
+impl Folded {
+    /// How many events were stored.
+    pub fn count(&self) -> u64
+        ensures { result ≡ length self.now.trace }
+    {
+        self.events.len() as u64
+    }
+}
 
 impl Table {
     /// Makes what the table has its base, empties the stored trace, and answers how many events that had. So a program
@@ -24,13 +52,39 @@ impl Table {
         ensures same { OnErr result (self.new ≡ self.old) }
         ensures err { IfErr result (λ fault. fault ≡ Memory) }
     {
+        let folded = self.fold()?;
+        let count = folded.count();
+        self.keep_room(folded.events);
+        Ok(count)
+    }
+
+    /// As [`Table::rebase`], but what the table no longer needs is answered, to be let go where the caller likes, as when a
+    /// lock is free again. The memory of the trace goes with it.
+    ///
+    /// # Errors
+    ///
+    /// [`Fault::Memory`] alone, and nothing changed.
+    pub fn fold(&mut self) -> Result<Folded, Fault>
+        ensures folded { IfOk result (λ folded. folded ≡ self.old.history) }
+        ensures rebased { OnOk result (self.new ≡ rebased self.old) }
+        ensures same { OnErr result (self.new ≡ self.old) }
+        ensures err { IfErr result (λ fault. fault ≡ Memory) }
+    {
         let events = self.events();
         let kept = &mut *self.kept;
-        let folded = kept.trace.len() as u64;
         let alloc = *kept.trace.allocator();
         let base = kept.devices.base(alloc, &kept.config, events)?;
-        kept.base = base;
-        kept.trace.clear();
-        Ok(folded)
+        let base = mem::replace(&mut kept.base, base);
+        let events = mem::replace(&mut kept.trace, Vec::new(alloc));
+        Ok(Folded { base, events })
+    }
+
+    /// Keeps the memory of these events for those to come, where none is stored.
+    fn keep_room(&mut self, mut events: Vec<Event>)
+        requires { self.old.history.trace ≡ [] }
+        ensures { self.new ≡ self.old }
+    {
+        events.clear();
+        self.kept.trace = events;
     }
 }

@@ -3,7 +3,7 @@ use Rattle.acc_base.specs.Calls.{World, base_of, event_count}
 use Rattle.acc_table.specs.Devices.{whole_of}
 use Rattle.acc_table.proofs.Verdicts.{world_in}
 use Rattle.acc_table.proofs.Keeping.{opened, kept_rebased}
-use Rattle.acc_table.proofs.tables.Table.rebase.Goals as goal
+use Rattle.acc_table.proofs.tables.Table.fold.Goals as goal
 
 pub invariant_of-self : goal.invariant_of-self
 invariant_of-self c =

@@ -9,3 +9,4 @@ pub mod HoleTrees
 pub mod Merging
 pub mod Rest
 pub mod Fitting
+pub mod Crossing

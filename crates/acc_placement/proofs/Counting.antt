@@ -1,8 +1,8 @@
 -- There is at most one hole more than taken ranges, and no more ranges than bytes of them.
 use Rattle.std.proofs.Common.{◌≡◌, ℕ, suc, ◌+◌, ◌<◌, ◌≤◌, ◌⊎◌, List, [], ◌∷◌, inl, inr, arith, refl, length}
+use Rattle.std.specs.Prelude.{All}
 use Rattle.acc_base.specs.Holes.{IsIn, IsRising, total}
 use Rattle.acc_base.specs.Section.{Spans}
-use Rattle.std.specs.Prelude.{All}
 use Rattle.acc_placement.specs.Ranges.{HasAddress}
 
 -- each range has a byte at least

@@ -19,7 +19,9 @@ use std::marker::Model;
 /// leaves the counters as they were. Only `attach` and `reserve` take memory for them, and `copy_counters` for its
 /// answer.
 ///
-/// Counters are searched for by halves. One that becomes one or zero moves few of the others, however many there are.
+/// Counters are searched for by halves, and stand in rows of up to 64. One that becomes one or zero moves others of its
+/// row. Where a full row is split, or a row becomes empty or is joined with the next, the list of rows moves too: that
+/// grows with the number of counters.
 #[derive(Drop)]
 pub struct Attached {
     counter_max: u64,
@@ -191,7 +193,7 @@ impl Attached {
 
     // ---- transfers
 
-    /// A host address is that of one of the eight bytes of an attached pointer of a block, which no transfer
+    /// Whether a host address is that of one of the eight bytes of an attached pointer of a block, which no transfer
     /// touches. A pointer may reach past the last `u64`.
     pub fn is_skipped(&self, block: u64, address: u64) -> bool
         ensures { result ≡ is_skipped block self.now.attached address }
@@ -199,8 +201,8 @@ impl Attached {
         self.counters.skips(block, address)
     }
 
-    /// The least host address, from one on, at which an attached pointer of a block begins, so that a transfer goes from
-    /// pointer to pointer.
+    /// The least host address at or above `from` at which an attached pointer of a block begins, so that a transfer goes
+    /// from pointer to pointer. `None` where there is none.
     pub fn next_pointer(&self, block: u64, from: u64) -> Option<u64>
         ensures { result ≡ next_pointer block from self.now.attached }
     {
@@ -229,7 +231,7 @@ impl Attached {
     ///
     /// # Errors
     ///
-    /// [`Fault::Memory`] alone. The room has not shrunk then.
+    /// [`Fault::Memory`] alone, only where that room was missing. The room has not shrunk then.
     pub fn reserve(&mut self, count: u64) -> Result<(), Fault>
         ensures ok { OnOk result (count ≤ self.new.spare) }
         ensures only { IfErr result (λ fault. fault ≡ Fault.Memory) }

@@ -127,7 +127,7 @@ impl Counters {
         }
     }
 
-    /// The least address, from one on, at which an attached pointer of a block begins.
+    /// The least address at or above `from` at which an attached pointer of a block begins.
     pub fn next(&self, block: u64, from: u64) -> Option<u64>
         ensures { result ≡ next_pointer block from self.now.counters }
     {

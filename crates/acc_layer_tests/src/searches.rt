@@ -1,11 +1,11 @@
-//! How many visits the counted searches count. The numbers are worked out by hand from how the entries stand.
+//! How many steps the counted searches count. The numbers are worked out by hand from how the entries stand.
 
 use crate::mappings::map_all;
 use crate::room::{Order, filled};
-use acc_base::{Fault, MEMORY_MAX, Section};
+use acc_base::{Fault, MEMORY_MAX, Section, Steps};
 use acc_placement::Holes;
 use acc_present::Present;
-use acc_tree::{Entry, Tree, Visits};
+use acc_tree::{Entry, Tree};
 use std::alloc::Global;
 use std::test::Fail;
 
@@ -26,7 +26,7 @@ enum Search {
     Fit(u64),
 }
 
-/// Searches, and how many visits each counts.
+/// Searches, and how many steps each counts.
 ///
 /// The tree has 30 at its top. On the left it has 10 with 20 on its right, and on the right 50 with 40 on its left. The
 /// size of an entry is a tenth of its key. The rows have 1 to 63 in the first, and 64 and 65 in the second. A search by
@@ -82,52 +82,52 @@ fn put(tree: &mut Tree<()>, size: u64) -> Result<(), Fault> {
     Ok(())
 }
 
-/// How many visits a search of the tree counts.
+/// How many steps a search of the tree counts.
 fn in_tree(tree: &Tree<()>, search: Search) -> u64 {
-    let mut visits = Visits::new();
+    let mut steps = Steps::new();
     match search {
         Search::Get(key) => {
-            tree.get_counted(key, &mut visits);
+            tree.get_counted(key, &mut steps);
         }
         Search::Around(key) => {
-            tree.around_counted(key, &mut visits);
+            tree.around_counted(key, &mut steps);
         }
         Search::FirstFit(size) if size > 0 => {
-            tree.first_fit_counted(size, &mut visits);
+            tree.first_fit_counted(size, &mut steps);
         }
         _ => {}
     }
-    visits.count()
+    steps.count()
 }
 
-/// How many visits a search of the rows counts.
+/// How many steps a search of the rows counts.
 fn in_rows(alloc: Global, key: u128) -> Result<u64, Fault> {
     let rows = filled(alloc, Order::Rising, 65)?;
-    let mut visits = Visits::new();
-    rows.around_counted(key, &mut visits);
-    Ok(visits.count())
+    let mut steps = Steps::new();
+    rows.around_counted(key, &mut steps);
+    Ok(steps.count())
 }
 
-/// How many visits a search of seven mapped ranges counts.
+/// How many steps a search of seven mapped ranges counts.
 fn in_ranges(alloc: Global, asked: Section) -> Result<u64, Fault> {
     let mut present = Present::new(alloc, 1);
     map_all(&mut present, 7)?;
-    let mut visits = Visits::new();
-    present.find_counted(asked, &mut visits);
-    Ok(visits.count())
+    let mut steps = Steps::new();
+    present.find_counted(asked, &mut steps);
+    Ok(steps.count())
 }
 
-/// How many visits a search for a place on 64 free bytes counts.
+/// How many steps a search for a place on 64 free bytes counts.
 fn in_holes(alloc: Global, need: u64) -> Result<u64, Fault> {
     let holes = Holes::new(alloc, 0, 64)?;
-    let mut visits = Visits::new();
+    let mut steps = Steps::new();
     if 0 < need && need <= MEMORY_MAX {
-        holes.fit_counted(need, &mut visits);
+        holes.fit_counted(need, &mut steps);
     }
-    Ok(visits.count())
+    Ok(steps.count())
 }
 
-/// How many visits a search counts.
+/// How many steps a search counts.
 fn counted(alloc: Global, search: Search) -> Result<u64, Fault> {
     match search {
         Search::InRows(key) => in_rows(alloc, key),
@@ -138,10 +138,10 @@ fn counted(alloc: Global, search: Search) -> Result<u64, Fault> {
 }
 
 #[test]
-fn each_search_counts_its_visits(rt: HostRuntime) -> Result<(), Fail> {
-    for (search, visits) in SEARCHES {
+fn each_search_counts_its_steps(rt: HostRuntime) -> Result<(), Fail> {
+    for (search, steps) in SEARCHES {
         let found = counted(rt.alloc(), *search)?;
-        assert_eq!(rt; found, *visits, "{search:?}");
+        assert_eq!(rt; found, *steps, "{search:?}");
     }
     Ok(())
 }

@@ -1,7 +1,17 @@
--- There is at most one hole more than taken ranges.
-use Rattle.std.proofs.Common.{◌≡◌, ℕ, suc, ◌+◌, ◌≤◌, ◌⊎◌, List, [], ◌∷◌, inl, inr, arith, refl, length}
-use Rattle.acc_base.specs.Holes.{IsIn, IsRising}
+-- There is at most one hole more than taken ranges, and no more ranges than bytes of them.
+use Rattle.std.proofs.Common.{◌≡◌, ℕ, suc, ◌+◌, ◌<◌, ◌≤◌, ◌⊎◌, List, [], ◌∷◌, inl, inr, arith, refl, length}
+use Rattle.std.specs.Prelude.{All}
+use Rattle.acc_base.specs.Holes.{IsIn, IsRising, total}
 use Rattle.acc_base.specs.Section.{Spans}
+use Rattle.acc_placement.specs.Ranges.{HasAddress}
+
+-- each range has a byte at least
+pub length_total : (ts : List (ℕ × ℕ)) → All HasAddress ts → length ts ≤ total ts
+length_total [] a = omega arith
+length_total (t ∷ ts) a =
+    let some : 0 < t.1 = a 0 t (omega arith) in
+    let rest = length_total ts (λ k d lt. a (suc k) d (omega arith)) in
+    omega arith
 
 -- the address after each hole but the last is in one of the ranges ts
 abbrev pub IsEdged : List (ℕ × ℕ) → List (ℕ × ℕ) → Type 0

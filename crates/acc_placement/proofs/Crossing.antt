@@ -1,4 +1,4 @@
--- A space may be handed to another thread: no part of it belongs to one thread.
+-- The holes of a space may be handed to another thread: no part of it belongs to one thread.
 use denote.Param.Send.{IsSend, sendable}
 use Rattle.std.proofs.Crossing.{crosses}
 use Rattle.acc_tree.proofs.nodes.Node.TheLaws.TheKnot as knot

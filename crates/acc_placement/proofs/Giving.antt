@@ -2,14 +2,14 @@
 use Rattle.std.proofs.Common.{◌≡◌, ◌%◌, ℕ, ◌+◌, ◌-◌, ◌<◌, ◌≤◌, ◌⊎◌, List, [], ◌∷◌, ◌++◌, inl, inr, arith, subst, sym, length, length-append}
 use Rattle.std.proofs.lemmas.Bool.{cases_lt}
 use Rattle.std.proofs.lemmas.List.Elements.{All-append, All-cons}
-use Rattle.acc_base.specs.Holes.{IsIn, IsRising, IsDisjoint}
+use Rattle.acc_base.specs.Holes.{IsIn, IsRising, IsDisjoint, total}
 use Rattle.acc_base.specs.Section.{Spans}
-use Rattle.acc_placement.specs.Ranges.{IsAligned}
+use Rattle.acc_placement.specs.Ranges.{HasAddress, IsAligned}
 use Rattle.acc_placement.specs.Changes.{IsFilled}
 use Rattle.acc_placement.specs.Space.{Space, IsCanonical, IsPartition, IsTaken, IsTakenFrom, IsGivenBack}
 use Rattle.acc_placement.proofs.Rising.{in_bounds, in_join_left, in_join_right, in_parts, total-append}
 use Rattle.acc_placement.proofs.Alignment.{All-left, All-middle, All-behind}
-use Rattle.acc_placement.proofs.Counting.{IsEdged, length_holes}
+use Rattle.acc_placement.proofs.Counting.{IsEdged, length_holes, length_total}
 
 -- a list without one of its ranges
 pub in_longer : (l r : List (ℕ × ℕ)) (x : ℕ × ℕ) (a : ℕ) → IsIn (l ++ r) a → IsIn (l ++ x ∷ r) a
@@ -81,6 +81,13 @@ taken_not_free r before after p n part a w i = part.not_free a (in_join_right be
 pub taken_count : (r : Space) (before after : List (ℕ × ℕ)) (p n : ℕ) → IsPartition r (before ++ (p, n) ∷ after) → 0 < r.taken
 taken_count r before after p n part = omega (arith, part.count, length-append before ((p, n) ∷ after))
 
+-- the other taken ranges have a byte each at least
+pub taken_bytes : (r : Space) (before after : List (ℕ × ℕ)) (p n : ℕ) → IsPartition r (before ++ (p, n) ∷ after) → r.taken + n + total r.holes ≤ r.size + 1
+taken_bytes r before after p n part =
+    let b = length_total before (All-left HasAddress before ((p, n) ∷ after) part.not_empty) in
+    let a = length_total after (All-behind HasAddress before (p, n) after part.not_empty) in
+    omega (arith, a, b, part.count, part.sizes, length-append before ((p, n) ∷ after), total-append before ((p, n) ∷ after))
+
 -- addresses that are all free lie in the space
 pub free_within : (r : Space) (p n : ℕ) → 0 < n → IsCanonical r → ((a : ℕ) → Spans p n a → IsIn r.holes a) → (r.base ≤ p) × (p + n ≤ r.base + r.size)
 free_within r p n pos s free =
@@ -89,12 +96,13 @@ free_within r p n pos s free =
     omega arith
 
 -- taking and giving back keep the partition
-pub taken_partition : (old new : Space) (ts : List (ℕ × ℕ)) (p n : ℕ) → n % 16 ≡ 0 → IsCanonical old → IsTakenFrom old new p n → IsPartition old ts → IsPartition new ((p, n) ∷ ts)
-taken_partition old new ts p n round s t part =
+pub taken_partition : (old new : Space) (ts : List (ℕ × ℕ)) (p n : ℕ) → 0 < n → n % 16 ≡ 0 → IsCanonical old → IsTakenFrom old new p n → IsPartition old ts → IsPartition new ((p, n) ∷ ts)
+taken_partition old new ts p n pos round s t part =
     record {
       count = omega (arith, part.count, t.taken);
       sizes = omega (arith, part.sizes, t.used, t.size);
       aligned = All-cons IsAligned (p, n) ts (t.aligned, round) part.aligned;
+      not_empty = All-cons HasAddress (p, n) ts pos part.not_empty;
       disjoint = (λ a w i. part.not_free a i (t.was_free a w), part.disjoint);
       within = λ a i. rw (t.base, t.size) (elim i [
         | inl w ↦ in_bounds old.base old.holes (old.base + old.size) a s.rising (t.was_free a w)
@@ -120,6 +128,7 @@ given_partition old new before after p n g part =
       count = omega (arith, part.count, g.taken, length-append before ((p, n) ∷ after), length-append before after);
       sizes = omega (arith, part.sizes, g.used, g.size, total-append before ((p, n) ∷ after), total-append before after);
       aligned = All-append IsAligned before after (All-left IsAligned before ((p, n) ∷ after) part.aligned) (All-behind IsAligned before (p, n) after part.aligned);
+      not_empty = All-append HasAddress before after (All-left HasAddress before ((p, n) ∷ after) part.not_empty) (All-behind HasAddress before (p, n) after part.not_empty);
       disjoint = disjoint_shorter before after (p, n) part.disjoint;
       within = λ a i. rw (g.base, g.size) (part.within a (in_longer before after (p, n) a i));
       not_free = λ a i h. elim (g.free a h) [
@@ -137,6 +146,7 @@ pub record TellsTaken (r : Space) (p n : ℕ) : Type 0 where
   pub limit : (r.base ≤ p) × (p + n ≤ r.base + r.size)
   pub not_free : (a : ℕ) → Spans p n a → IsIn r.holes a → ⊥
   pub count : 0 < r.taken
+  pub bytes : r.taken + n + total r.holes ≤ r.size + 1
   pub aligned : p % 16 ≡ 0
   pub room : (new : List (ℕ × ℕ)) (top : ℕ) → IsFilled 0 top r.holes new p n → length new ≤ r.taken
 
@@ -147,6 +157,7 @@ tells_taken r p n pos s t =
       limit = taken_limit r t.before t.after p n pos t.partition;
       not_free = taken_not_free r t.before t.after p n t.partition;
       count = taken_count r t.before t.after p n t.partition;
+      bytes = taken_bytes r t.before t.after p n t.partition;
       aligned = (All-middle IsAligned t.before (p, n) t.after t.partition.aligned).0;
       room = λ new top f. length_new r new t.before t.after p n top s t.partition f;
     }

@@ -5,7 +5,7 @@ use Rattle.std.proofs.lemmas.List.{append-nil}
 use Rattle.std.proofs.lemmas.List.Elements.{All-append, All-cons}
 use Rattle.acc_base.specs.Holes.{IsIn, IsDisjoint}
 use Rattle.acc_base.specs.Section.{Spans}
-use Rattle.acc_placement.specs.Ranges.{IsFit, IsAligned}
+use Rattle.acc_placement.specs.Ranges.{IsFit, HasAddress, IsAligned}
 use Rattle.acc_placement.specs.Space.{Space, IsCanonical, IsPartition, IsTaken, IsSameSpace}
 use Rattle.acc_placement.proofs.Rising.{in_bounds, rising_disjoint, disjoint_join, in_join_left, in_join_right, in_parts, total-append}
 use Rattle.acc_placement.proofs.Alignment.{All-left, All-right, All-middle, All-behind}
@@ -27,6 +27,7 @@ partition_unchanged old new ts u p =
       count = p.count ∙ sym u.taken;
       sizes = rw (u.holes, u.size) p.sizes;
       aligned = p.aligned;
+      not_empty = p.not_empty;
       disjoint = p.disjoint;
       within = λ a i. rw (u.base, u.size) (p.within a i);
       not_free = λ a i h. p.not_free a i (rw u.holes at h);
@@ -57,6 +58,7 @@ partition_moved r before after x p =
       count = omega (arith, p.count, length-append before (x ∷ after), length-append before after);
       sizes = omega (arith, p.sizes, total-append before (x ∷ after), total-append before after);
       aligned = All-append IsAligned before (x ∷ after) (All-left IsAligned before after (All-behind IsAligned [] x (before ++ after) p.aligned)) (All-cons IsAligned x after (All-middle IsAligned [] x (before ++ after) p.aligned) (All-right IsAligned before after (All-behind IsAligned [] x (before ++ after) p.aligned)));
+      not_empty = All-append HasAddress before (x ∷ after) (All-left HasAddress before after (All-behind HasAddress [] x (before ++ after) p.not_empty)) (All-cons HasAddress x after (All-middle HasAddress [] x (before ++ after) p.not_empty) (All-right HasAddress before after (All-behind HasAddress [] x (before ++ after) p.not_empty)));
       disjoint = disjoint_moved before after x p.disjoint;
       within = λ a i. p.within a (in_front before after x a i);
       not_free = λ a i h. p.not_free a (in_front before after x a i) h;

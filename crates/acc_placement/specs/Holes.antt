@@ -19,4 +19,6 @@ space_of h = record {
 pub record AreHolesSound (h : Inside) : Type 0 where
   pub canonical : IsCanonical (space_of h)
   pub used : h.used + total (holes_in h.holes.entries) ≡ h.size
+  -- no taken range is empty
+  pub few : h.taken ≤ h.used
   pub room : h.taken + 1 ≤ length h.holes.entries + h.holes.room

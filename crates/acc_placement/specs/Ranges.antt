@@ -1,5 +1,5 @@
 -- Ranges of addresses, each its place and its size in bytes, and lists of them.
-use Rattle.std.specs.Prelude.{ℕ, ◌≡◌, ◌+◌, ◌%◌, ◌≤◌, List, [], ◌∷◌}
+use Rattle.std.specs.Prelude.{ℕ, ◌≡◌, ◌+◌, ◌%◌, ◌<◌, ◌≤◌, List, [], ◌∷◌}
 use Rattle.acc_base.specs.declared.addresses.TheConstants.{MEMORY_MAX}
 use Rattle.acc_base.specs.Limits.{IsFromOne}
 use Rattle.acc_base.specs.Section.{Spans}
@@ -30,6 +30,10 @@ all_rounded (t ∷ ts) = (t.0, rounded t.1) ∷ all_rounded ts
 -- the place and the length are those of a take that ends at `top` at most
 abbrev pub IsTakeBelow : ℕ → ℕ × ℕ → Type 0
 IsTakeBelow top t = IsFromOne MEMORY_MAX t.1 × (t.0 + rounded t.1 ≤ top)
+
+-- the range is not empty
+abbrev pub HasAddress : ℕ × ℕ → Type 0
+HasAddress h = 0 < h.1
 
 -- the place and the size are multiples of 16
 abbrev pub IsAligned : ℕ × ℕ → Type 0

@@ -3,7 +3,7 @@ use Rattle.std.specs.Prelude.{ℕ, ◌≡◌, ◌+◌, ◌%◌, ◌^◌, ◌≤�
 use Rattle.acc_base.specs.Limits.{IsSize}
 use Rattle.acc_base.specs.Holes.{IsIn, IsRising, IsDisjoint, total}
 use Rattle.acc_base.specs.Section.{Spans}
-use Rattle.acc_placement.specs.Ranges.{IsAligned}
+use Rattle.acc_placement.specs.Ranges.{HasAddress, IsAligned}
 
 -- where the space begins, its bytes, and what is taken of it
 pub record Space : Type 0 where
@@ -24,11 +24,12 @@ pub record IsCanonical (s : Space) : Type 0 where
   pub rising : IsRising s.base s.holes (s.base + s.size)
   pub aligned : All IsAligned s.holes
 
--- these, in any order, are the taken ranges: with the holes they are the space, and no two share an address
+-- these, in any order, are the taken ranges: with the holes they are the space, none is empty, and no two share an address
 pub record IsPartition (s : Space) (ts : List (ℕ × ℕ)) : Type 0 where
   pub count : length ts ≡ s.taken
   pub sizes : total ts + total s.holes ≡ s.size
   pub aligned : All IsAligned ts
+  pub not_empty : All HasAddress ts
   pub disjoint : IsDisjoint ts
   pub within : (a : ℕ) → IsIn ts a → Spans s.base s.size a
   pub not_free : (a : ℕ) → IsIn ts a → IsIn s.holes a → ⊥

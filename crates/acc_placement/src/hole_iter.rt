@@ -14,7 +14,7 @@ impl<'a> HoleIter<'a> {
     ghost use Rattle.std.specs.Prelude.{◌≡◌};
     ghost use Rattle.acc_placement.specs.HoleIter.{holes_left};
 
-    /// All holes of the space.
+    /// All holes of the space, from the one of least place on.
     pub fn new(holes: &'a Holes) -> HoleIter<'a>
         ensures { holes_left result ≡ holes.now.holes }
     {

@@ -11,8 +11,8 @@ use crate::beside::past;
 use crate::changes::{cut, fill};
 use crate::hole_iter::HoleIter;
 use crate::rounding::rounded;
-use acc_base::{Fault, MEMORY_MAX};
-use acc_tree::{Entry, Tree, Visits};
+use acc_base::{Fault, MEMORY_MAX, Steps};
+use acc_tree::{Entry, Tree};
 use std::alloc::Global;
 use std::marker::Model;
 
@@ -119,21 +119,21 @@ impl Holes {
         ensures none { IfNone result ((q : ℕ) → IsFit self.now.holes (rounded_of need) q → ⊥) }
         ensures canonical { IsCanonical self.now }
     {
-        self.fit_counted(need, &mut Visits::new())
+        self.fit_counted(need, &mut Steps::new())
     }
 
-    /// The place that [`Holes::take`] would choose, by at most two visits for each binary digit of the number of holes;
-    /// `None` exactly where no hole is large enough. It needs no memory.
-    pub fn fit_counted(&self, need: u64, visits: &mut Visits) -> Option<u64>
+    /// The place that [`Holes::take`] would choose, by at most two steps for each binary digit of the number of holes;
+    /// `None` exactly where no hole is large enough. At most 2^32 steps were counted before. It needs no memory.
+    pub fn fit_counted(&self, need: u64, steps: &mut Steps) -> Option<u64>
         requires need { IsFromOne MEMORY_MAX need }
-        requires limit { visits.old ≤ 2 ^ 63 }
+        requires limit { steps.old ≤ 2 ^ 32 }
         ensures place { IfSome result (IsLeastFit self.now.holes (rounded_of need)) }
         ensures none { IfNone result ((q : ℕ) → IsFit self.now.holes (rounded_of need) q → ⊥) }
-        ensures not_fewer { visits.old ≤ visits.new }
-        ensures visits { (d : ℕ) → length self.now.holes < 2 ^ d → visits.new ≤ visits.old + 2 * d }
+        ensures not_fewer { steps.old ≤ steps.new }
+        ensures steps { (d : ℕ) → length self.now.holes < 2 ^ d → steps.new ≤ steps.old + 2 * d }
         ensures canonical { IsCanonical self.now }
     {
-        let hole = self.holes.first_fit_counted(rounded(need), visits)?;
+        let hole = self.holes.first_fit_counted(rounded(need), steps)?;
         Some(hole.key as u64)
     }
 
@@ -153,10 +153,7 @@ impl Holes {
         ensures only { IfErr result (λ fault. fault ≡ Fault.Memory) }
         ensures memory { OnErr result (self.old.spare < count) }
     {
-        self.holes.laws();
-        let Some(nodes) = (self.taken + 1).checked_add(count) else {
-            return Err(Fault::Memory)
-        };
+        let nodes = self.taken + 1 + count;
         self.holes.reserve(nodes.saturating_sub(self.holes.len()))
     }
 

@@ -3,3 +3,4 @@ pub mod Mapping
 pub mod Registering
 pub mod Limits
 pub mod Fresh
+pub mod Crossing

@@ -12,9 +12,9 @@ use crate::copying::copy_ranges_of;
 use crate::entries::{Mapping, to_entry, to_range};
 use crate::hints::{Hint, Located};
 use crate::ranges::{lowered, raised, told_by, value_of};
-use acc_base::{Counter, Fault, Found, Range, Section};
+use acc_base::{Counter, Fault, Found, Range, Section, Steps};
 use acc_rows::{Place, Rows};
-use acc_tree::{Entry, Visits};
+use acc_tree::Entry;
 use std::alloc::Global;
 use std::marker::Model;
 
@@ -43,18 +43,18 @@ fn next_from(ranges: &Rows<Mapping>, from: u128) -> Option<Range>
 /// One walk finds the last range that does not begin behind the section's start, and the first that does. Where no block
 /// is listed, these two tell it; else the walk goes on to the neighbours behind, as long as their blocks are listed.
 #[inline]
-fn locate(ranges: &Rows<Mapping>, section: Section, blocks: &[u64], visits: &mut Visits) -> Located
+fn locate(ranges: &Rows<Mapping>, section: Section, blocks: &[u64], steps: &mut Steps) -> Located
     requires mapped { AreMapped (ranges_in ranges.now.entries) }
     requires bounded { AreBounded ranges.now.entries }
-    requires limit { visits.old ≤ 2 ^ 63 }
+    requires limit { steps.old ≤ 2 ^ 32 }
     ensures found { result.found ≡ where_is_apart section blocks.now (ranges_in ranges.now.entries) }
-    ensures not_fewer { visits.old ≤ visits.new }
-    ensures visits { (d : ℕ) → length ranges.now.entries < 2 ^ d → visits.new ≤ visits.old + 2 * d }
+    ensures not_fewer { steps.old ≤ steps.new }
+    ensures steps { (d : ℕ) → length ranges.now.entries < 2 ^ d → steps.new ≤ steps.old + 2 * d }
 {
     if section.len == 0 {
         return without_hint(Found::Empty);
     }
-    let around = ranges.around_counted(u128::from(section.start) + 1, visits);
+    let around = ranges.around_counted(u128::from(section.start) + 1, steps);
     if let Some(range) = range_if(around.before) {
         if let Some(found) = told_by(range, section, blocks) {
             let hint = Hint {
@@ -243,8 +243,8 @@ fn clear(ranges: &mut Rows<Mapping>, starts: &Rows<u64>, block: u64, hint: Hint)
 
 /// The mapped ranges.
 ///
-/// They stand by rising start, and the start of each block's range by rising block number: both are found by halves, and
-/// a mapping that begins or ends moves few of them.
+/// They stand by rising start, and the start of each block's range by rising block number. Both are found by halves, and
+/// [`Rows`] says what moves where a mapping begins or ends.
 #[derive(Drop)]
 pub struct Mappings {
     ranges: Rows<Mapping>,
@@ -292,17 +292,17 @@ impl Mappings {
     pub fn find(&self, section: Section, blocks: &[u64]) -> Located
         ensures { result.found ≡ where_is_apart section blocks.now self.now.ranges }
     {
-        locate(&self.ranges, section, blocks, &mut Visits::new())
+        locate(&self.ranges, section, blocks, &mut Steps::new())
     }
 
-    /// As [`Mappings::find`] without listed blocks, with the visits of its walk counted.
-    pub fn find_counted(&self, section: Section, visits: &mut Visits) -> Located
-        requires limit { visits.old ≤ 2 ^ 63 }
+    /// As [`Mappings::find`] without listed blocks, with the steps of its search counted.
+    pub fn find_counted(&self, section: Section, steps: &mut Steps) -> Located
+        requires limit { steps.old ≤ 2 ^ 32 }
         ensures found { result.found ≡ where_is section self.now.ranges }
-        ensures not_fewer { visits.old ≤ visits.new }
-        ensures visits { (d : ℕ) → length self.now.ranges < 2 ^ d → visits.new ≤ visits.old + 2 * d }
+        ensures not_fewer { steps.old ≤ steps.new }
+        ensures steps { (d : ℕ) → length self.now.ranges < 2 ^ d → steps.new ≤ steps.old + 2 * d }
     {
-        locate(&self.ranges, section, &[], visits)
+        locate(&self.ranges, section, &[], steps)
     }
 
     /// The range that is mapped to a block, if one is.

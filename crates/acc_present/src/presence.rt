@@ -10,8 +10,7 @@ ghost use Rattle.acc_present.specs.Present.{new_table, with_ranges, with_regions
 use crate::hints::{Hint, Located};
 use crate::mappings::Mappings;
 use crate::register::{OpenRegion, Register};
-use acc_base::{Counter, Counters, Fault, Holding, Range, Section};
-use acc_tree::Visits;
+use acc_base::{Counter, Counters, Fault, Found, Holding, Range, Section, Steps};
 use std::alloc::Global;
 use std::marker::Model;
 
@@ -21,8 +20,9 @@ use std::marker::Model;
 /// Contracts see the table, and the room that was made for more beside it. A refused call leaves the table as it was.
 /// Only `new`, `add`, `enter` and `reserve` take memory for it, and `copy_ranges` and `copy_regions` for their answers.
 ///
-/// A section is searched for by halves, and so is a block number, unless the range stands where a [`Hint`] says. Adding
-/// and removing move few entries beside that, however many ranges are mapped.
+/// A section is searched for by halves, and so is a block number, unless the range stands where a [`Hint`] says. The
+/// ranges stand in rows of up to 64. A range that is added or removed moves others of its row. Where a full row is split,
+/// or a row becomes empty or is joined with the next, the list of rows moves too: that grows with the number of ranges.
 #[derive(Drop)]
 pub struct Present {
     counter_max: u64,
@@ -71,23 +71,23 @@ impl Present {
     // ---- mapped ranges
 
     /// Where a section lies among the mapped ranges: it is empty, inside one of them, absent, or partly present. Any
-    /// section may be asked for, one that reaches past the last `u64` too. And where the range stands that it is inside
-    /// of.
+    /// section may be asked for, one that reaches past the last `u64` too. The hint tells where the range stands that it
+    /// is inside of.
     pub fn find(&self, section: Section) -> Located
         ensures { result.found ≡ where_is section self.now.table.ranges }
     {
-        self.find_counted(section, &mut Visits::new())
+        self.mappings.find_counted(section, &mut Steps::new())
     }
 
-    /// As [`Present::find`], with the steps of its search counted: at most two for each binary digit of the number of
-    /// mapped ranges.
-    pub fn find_counted(&self, section: Section, visits: &mut Visits) -> Located
-        requires limit { visits.old ≤ 2 ^ 63 }
-        ensures found { result.found ≡ where_is section self.now.table.ranges }
-        ensures not_fewer { visits.old ≤ visits.new }
-        ensures visits { (d : ℕ) → length self.now.table.ranges < 2 ^ d → visits.new ≤ visits.old + 2 * d }
+    /// Where a section lies, as [`Present::find`] tells it, by at most two steps for each binary digit of the number of
+    /// mapped ranges. At most 2^32 were counted before.
+    pub fn find_counted(&self, section: Section, steps: &mut Steps) -> Found
+        requires limit { steps.old ≤ 2 ^ 32 }
+        ensures found { result ≡ where_is section self.now.table.ranges }
+        ensures not_fewer { steps.old ≤ steps.new }
+        ensures steps { (d : ℕ) → length self.now.table.ranges < 2 ^ d → steps.new ≤ steps.old + 2 * d }
     {
-        self.mappings.find_counted(section, visits)
+        self.mappings.find_counted(section, steps).found
     }
 
     /// Where a section would lie if the mappings to the listed blocks had ended, and where its range stands.

@@ -1,1 +1,2 @@
 mod Changed
+pub mod Crossing

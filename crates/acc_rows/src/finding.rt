@@ -7,28 +7,24 @@ ghost use Rattle.acc_rows.specs.Spots.{index_of, IsTaken, IsInRow, IsPlaceOf, Is
 
 use crate::places::Place;
 use crate::search::count_below;
-use acc_tree::{Entry, Visits};
+use acc_base::Steps;
+use acc_tree::Entry;
 
 /// Where an entry of a key would be put: behind all entries of lower keys, in the row of the last of them.
 #[inline]
-pub fn find<T: Copy>(
-    firsts: &[u128],
-    rows: &[Vec<Entry<T>>],
-    key: u128,
-    visits: &mut Visits,
-) -> Place
+pub fn find<T: Copy>(firsts: &[u128], rows: &[Vec<Entry<T>>], key: u128, steps: &mut Steps) -> Place
     requires in_rows { AreInRows firsts.now rows.now }
-    requires limit { visits.old ≤ 2 ^ 63 }
+    requires limit { steps.old ≤ 2 ^ 32 }
     ensures place { IsPlaceOf key rows.now result }
-    ensures not_fewer { visits.old ≤ visits.new }
-    ensures visits { (d : ℕ) → length (side_by_side rows.now) < 2 ^ d → visits.new ≤ visits.old + 2 * d }
+    ensures not_fewer { steps.old ≤ steps.new }
+    ensures steps { (d : ℕ) → length (side_by_side rows.now) < 2 ^ d → steps.new ≤ steps.old + 2 * d }
 {
-    let behind = count_below(firsts, key, visits);
+    let behind = count_below(firsts, key, steps);
     if behind == 0 {
         return Place { row: 0, at: 0 };
     }
     let row = behind - 1;
-    let at = count_below(&rows[row], key, visits);
+    let at = count_below(&rows[row], key, steps);
     Place { row, at }
 }
 
@@ -111,5 +107,5 @@ pub fn locate<T: Copy>(firsts: &[u128], rows: &[Vec<Entry<T>>], key: u128, near:
     if entry_of(rows, key, near).is_some() {
         return near;
     }
-    ahead(rows, find(firsts, rows, key, &mut Visits::new()))
+    ahead(rows, find(firsts, rows, key, &mut Steps::new()))
 }

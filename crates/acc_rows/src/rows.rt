@@ -7,8 +7,8 @@ use crate::changes::{make_place, make_rows, put, start, take_out, write};
 use crate::counting::count_in;
 use crate::finding::{entry_before, entry_from, entry_of, find, locate};
 use crate::places::Place;
-use acc_base::Fault;
-use acc_tree::{Entry, Visits};
+use acc_base::{Fault, Steps};
+use acc_tree::Entry;
 use std::alloc::Global;
 use std::marker::Model;
 
@@ -26,8 +26,9 @@ pub struct Around<'a, T> {
 /// Entries by rising key, and room for more of them.
 ///
 /// They stand in rows of up to 64, and the least key of each row in a list of its own. A look-up is a search by halves
-/// in that list and one in a row. A change moves entries of one row or two, and the rows behind where one comes or goes.
-/// Memory is asked for by [`Rows::reserve`] alone: an entry more uses up at most one row that waits.
+/// in that list and one in a row. A change moves entries of one row or two. Where a row comes or goes, it also moves the
+/// list of rows behind it, which grows with the number of entries. Memory is asked for by [`Rows::reserve`] alone: an
+/// entry more uses up at most one row that waits.
 #[derive(Drop)]
 pub struct Rows<T: Copy> {
     alloc: Global,
@@ -94,7 +95,7 @@ impl<T: Copy> Rows<T> {
         if let Some(entry) = entry_of(&self.rows, key, near) {
             return Some(entry);
         }
-        let place = find(&self.firsts, &self.rows, key, &mut Visits::new());
+        let place = find(&self.firsts, &self.rows, key, &mut Steps::new());
         let entry = entry_from(&self.rows, place)?;
         if entry.key == key { Some(entry) } else { None }
     }
@@ -105,19 +106,20 @@ impl<T: Copy> Rows<T> {
         ensures before { seen result.before ≡ last_before key self.now.entries }
         ensures from { seen result.from ≡ first_from key self.now.entries }
     {
-        self.around_counted(key, &mut Visits::new())
+        self.around_counted(key, &mut Steps::new())
     }
 
-    /// The entries on both sides of a key, by at most two visits for each binary digit of the number of entries.
+    /// The entries on both sides of a key, by at most two steps for each binary digit of the number of entries. At most
+    /// 2^32 were counted before.
     #[inline]
-    pub fn around_counted<'a>(&'a self, key: u128, visits: &mut Visits) -> Around<'a, T>
-        requires limit { visits.old ≤ 2 ^ 63 }
+    pub fn around_counted<'a>(&'a self, key: u128, steps: &mut Steps) -> Around<'a, T>
+        requires limit { steps.old ≤ 2 ^ 32 }
         ensures before { seen result.before ≡ last_before key self.now.entries }
         ensures from { seen result.from ≡ first_from key self.now.entries }
-        ensures not_fewer { visits.old ≤ visits.new }
-        ensures visits { (d : ℕ) → length self.now.entries < 2 ^ d → visits.new ≤ visits.old + 2 * d }
+        ensures not_fewer { steps.old ≤ steps.new }
+        ensures steps { (d : ℕ) → length self.now.entries < 2 ^ d → steps.new ≤ steps.old + 2 * d }
     {
-        let place = find(&self.firsts, &self.rows, key, visits);
+        let place = find(&self.firsts, &self.rows, key, steps);
         let from = entry_from(&self.rows, place);
         if place.at == 0 {
             return Around {
@@ -154,7 +156,7 @@ impl<T: Copy> Rows<T> {
             start(&mut self.firsts, &mut self.rows, &mut self.spare, entry);
             return Place { row: 0, at: 0 };
         }
-        let found = find(&self.firsts, &self.rows, entry.key, &mut Visits::new());
+        let found = find(&self.firsts, &self.rows, entry.key, &mut Steps::new());
         let place = make_place(&mut self.firsts, &mut self.rows, &mut self.spare, found);
         put(&mut self.firsts, &mut self.rows, place, entry);
         place

@@ -69,16 +69,11 @@ module _ {T : Type 0} where
       let u : nat_le size x.size ≡ true = grind (arith, nat_tests) in
       find-behind (λ e. nat_le key e.key && nat_le size e.size) l (x ∷ r) none ∙ rw (t, u) refl
 
-  -- behind the key each entry passes its test
-  large_from_all : (key size : ℕ) (r : List (Entry T)) → AllByRecursion (λ e. key ≤ e.key) r → first_large_from key size r ≡ first_large size r
-  large_from_all key size [] h = refl
-  large_from_all key size (e ∷ r) h = let le = h.0 in let t : nat_le key e.key ≡ true = grind (arith, nat_tests) in rw (t, large_from_all key size r h.1) refl
-
-  pub large_from_behind : (key size : ℕ) (l : List (Entry T)) (x : Entry T) (r : List (Entry T)) → first_large_from key size l ≡ None → key ≤ x.key → x.size < size → Sides l x r → first_large_from key size (l ++ x ∷ r) ≡ first_large size r
-  large_from_behind key size l x r none le small d =
+  pub large_from_behind : (key size : ℕ) (l : List (Entry T)) (x : Entry T) (r : List (Entry T)) → first_large_from key size l ≡ None → key ≤ x.key → x.size < size → first_large_from key size (l ++ x ∷ r) ≡ first_large_from key size r
+  large_from_behind key size l x r none le small =
       let t : nat_le key x.key ≡ true = grind (arith, nat_tests) in
       let u : nat_le size x.size ≡ false = grind (arith, nat_tests) in
-      find-behind (λ e. nat_le key e.key && nat_le size e.size) l (x ∷ r) none ∙ rw (t, u) (large_from_all key size r (AllByRecursion-weaker (λ e. x.key < e.key) (λ e. key ≤ e.key) r (λ e more. omega arith) d.over))
+      find-behind (λ e. nat_le key e.key && nat_le size e.size) l (x ∷ r) none ∙ rw (t, u) refl
 
   -- ---- the front that is taken
 

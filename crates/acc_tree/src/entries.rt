@@ -7,6 +7,7 @@ pub struct Entry<T> {
     pub key: u128,
     /// What a search for the first that is large enough compares.
     pub size: u64,
+    /// What is kept under the key.
     pub value: T,
 }
 

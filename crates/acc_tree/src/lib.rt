@@ -6,9 +6,7 @@ mod changes;
 mod entries;
 mod nodes;
 mod tree;
-mod visits;
 mod walks;
 
 pub use entries::{Around, Entry};
 pub use tree::Tree;
-pub use visits::Visits;

@@ -5,17 +5,18 @@ ghost use Rattle.acc_tree.specs.Nodes.{length_of, IsChain};
 
 use crate::entries::{Around, Entry};
 use crate::nodes::{Link, height_law, new_node, pop, push, put_away};
-use crate::visits::Visits;
 use crate::{changes, walks};
-use acc_base::Fault;
+use acc_base::{Fault, Steps};
 use std::alloc::Global;
 use std::marker::Model;
 
 /// Entries by rising key, and nodes that wait for more of them.
 ///
 /// Memory is asked for by [`Tree::reserve`] alone: an entry goes into a node that waits, and its node waits again once
-/// it is removed. No walk comes to more than two nodes for each binary digit of the number of entries. Contracts see a
-/// tree as the list of its entries by rising key, and how many more there is room for.
+/// it is removed. Contracts see a tree as the list of its entries by rising key, and how many more there is room for.
+///
+/// A walk comes to at most two nodes for each binary digit of the number of entries. That of [`Tree::first_fit_from`]
+/// goes down twice, so it comes to at most four.
 pub struct Tree<T: Copy> {
     alloc: Global,
     // What stands in nodes that wait.
@@ -113,18 +114,19 @@ impl<T: Copy> Tree<T> {
     pub fn get(&self, key: u128) -> Option<Entry<T>>
         ensures { result ≡ at_key key self.now.entries }
     {
-        self.get_counted(key, &mut Visits::new())
+        self.get_counted(key, &mut Steps::new())
     }
 
-    /// The entry of a key, if it is there, by at most two visits for each binary digit of the number of entries.
-    pub fn get_counted(&self, key: u128, visits: &mut Visits) -> Option<Entry<T>>
-        requires limit { visits.old ≤ 2 ^ 63 }
+    /// The entry of a key, if it is there, by at most two steps for each binary digit of the number of entries. At most
+    /// 2^32 were counted before.
+    pub fn get_counted(&self, key: u128, steps: &mut Steps) -> Option<Entry<T>>
+        requires limit { steps.old ≤ 2 ^ 32 }
         ensures found { result ≡ at_key key self.now.entries }
-        ensures not_fewer { visits.old ≤ visits.new }
-        ensures visits { (d : ℕ) → length self.now.entries < 2 ^ d → visits.new ≤ visits.old + 2 * d }
+        ensures not_fewer { steps.old ≤ steps.new }
+        ensures steps { (d : ℕ) → length self.now.entries < 2 ^ d → steps.new ≤ steps.old + 2 * d }
     {
         height_law(&self.root);
-        walks::find(&self.root, key, visits).copied()
+        walks::find(&self.root, key, steps).copied()
     }
 
     /// The entries on both sides of a key.
@@ -132,19 +134,20 @@ impl<T: Copy> Tree<T> {
         ensures before { result.before ≡ last_before key self.now.entries }
         ensures from { result.from ≡ first_from key self.now.entries }
     {
-        self.around_counted(key, &mut Visits::new())
+        self.around_counted(key, &mut Steps::new())
     }
 
-    /// The entries on both sides of a key, by at most two visits for each binary digit of the number of entries.
-    pub fn around_counted(&self, key: u128, visits: &mut Visits) -> Around<T>
-        requires limit { visits.old ≤ 2 ^ 63 }
+    /// The entries on both sides of a key, by at most two steps for each binary digit of the number of entries. At most
+    /// 2^32 were counted before.
+    pub fn around_counted(&self, key: u128, steps: &mut Steps) -> Around<T>
+        requires limit { steps.old ≤ 2 ^ 32 }
         ensures before { result.before ≡ last_before key self.now.entries }
         ensures from { result.from ≡ first_from key self.now.entries }
-        ensures not_fewer { visits.old ≤ visits.new }
-        ensures visits { (d : ℕ) → length self.now.entries < 2 ^ d → visits.new ≤ visits.old + 2 * d }
+        ensures not_fewer { steps.old ≤ steps.new }
+        ensures steps { (d : ℕ) → length self.now.entries < 2 ^ d → steps.new ≤ steps.old + 2 * d }
     {
         height_law(&self.root);
-        let (before, from) = walks::find_around(&self.root, key, None, None, visits);
+        let (before, from) = walks::find_around(&self.root, key, None, None, steps);
         Around {
             before: before.copied(),
             from: from.copied(),
@@ -170,20 +173,20 @@ impl<T: Copy> Tree<T> {
         requires some { 0 < size }
         ensures { result ≡ first_large size self.now.entries }
     {
-        self.first_fit_counted(size, &mut Visits::new())
+        self.first_fit_counted(size, &mut Steps::new())
     }
 
-    /// The entry of least key whose size is at least `size`, which is not 0, by at most two visits for each binary digit
-    /// of the number of entries.
-    pub fn first_fit_counted(&self, size: u64, visits: &mut Visits) -> Option<Entry<T>>
+    /// The entry of least key whose size is at least `size`, which is not 0, by at most two steps for each binary digit
+    /// of the number of entries. At most 2^32 were counted before.
+    pub fn first_fit_counted(&self, size: u64, steps: &mut Steps) -> Option<Entry<T>>
         requires some { 0 < size }
-        requires limit { visits.old ≤ 2 ^ 63 }
+        requires limit { steps.old ≤ 2 ^ 32 }
         ensures found { result ≡ first_large size self.now.entries }
-        ensures not_fewer { visits.old ≤ visits.new }
-        ensures visits { (d : ℕ) → length self.now.entries < 2 ^ d → visits.new ≤ visits.old + 2 * d }
+        ensures not_fewer { steps.old ≤ steps.new }
+        ensures steps { (d : ℕ) → length self.now.entries < 2 ^ d → steps.new ≤ steps.old + 2 * d }
     {
         height_law(&self.root);
-        walks::find_large(&self.root, size, visits).copied()
+        walks::find_large(&self.root, size, steps).copied()
     }
 
     /// The entry of least key from `key` on whose size is at least `size`, which is not 0.
@@ -191,7 +194,6 @@ impl<T: Copy> Tree<T> {
         requires some { 0 < size }
         ensures { result ≡ first_large_from key size self.now.entries }
     {
-        height_law(&self.root);
         walks::find_large_from(&self.root, key, size).copied()
     }
 

@@ -7,26 +7,26 @@ ghost use Rattle.acc_tree.specs.Listing.{seen};
 
 use crate::entries::Entry;
 use crate::nodes::{Link, Node, greatest};
-use crate::visits::Visits;
+use acc_base::Steps;
 
-/// The entry of a key. Each node on the way is a visit.
-pub fn find<'a, T: Copy>(tree: &'a Link<T>, key: u128, visits: &mut Visits) -> Option<&'a Entry<T>>
+/// The entry of a key. Each node on the way is a step.
+pub fn find<'a, T: Copy>(tree: &'a Link<T>, key: u128, steps: &mut Steps) -> Option<&'a Entry<T>>
     requires rising { KeysRise (entries_in tree.now) }
-    requires limit { visits.old + height_of tree.now < 2 ^ 64 }
+    requires limit { steps.old + height_of tree.now ≤ 2 ^ 33 }
     ensures found { seen result ≡ at_key key (entries_in tree.now) }
-    ensures not_fewer { visits.old ≤ visits.new }
-    ensures visits { visits.new ≤ visits.old + height_of tree.now }
+    ensures not_fewer { steps.old ≤ steps.new }
+    ensures steps { steps.new ≤ steps.old + height_of tree.now }
 {
     match tree {
         None => None,
         Some(node) => {
             let node: &Node<T> = node;
             let here = node.entry.key;
-            visits.tick();
+            steps.tick();
             if key < here {
-                find(&node.left, key, visits)
+                find(&node.left, key, steps)
             } else if here < key {
-                find(&node.right, key, visits)
+                find(&node.right, key, steps)
             } else {
                 Some(&node.entry)
             }
@@ -34,41 +34,40 @@ pub fn find<'a, T: Copy>(tree: &'a Link<T>, key: u128, visits: &mut Visits) -> O
     }
 }
 
-/// The first entry that is at least so large. Each node on the way is a visit.
+/// The first entry that is at least so large. Each node on the way is a step.
 pub fn find_large<'a, T: Copy>(
     tree: &'a Link<T>,
     size: u64,
-    visits: &mut Visits,
+    steps: &mut Steps,
 ) -> Option<&'a Entry<T>>
     requires some { 0 < size }
-    requires limit { visits.old + height_of tree.now < 2 ^ 64 }
+    requires limit { steps.old + height_of tree.now ≤ 2 ^ 33 }
     ensures found { seen result ≡ first_large size (entries_in tree.now) }
-    ensures not_fewer { visits.old ≤ visits.new }
-    ensures visits { visits.new ≤ visits.old + height_of tree.now }
+    ensures not_fewer { steps.old ≤ steps.new }
+    ensures steps { steps.new ≤ steps.old + height_of tree.now }
 {
     match tree {
         None => None,
         Some(node) => {
             let node: &Node<T> = node;
             let here = node.entry.size;
-            visits.tick();
+            steps.tick();
             if greatest(&node.left) >= size {
-                find_large(&node.left, size, visits)
+                find_large(&node.left, size, steps)
             } else if here >= size {
                 Some(&node.entry)
             } else {
-                find_large(&node.right, size, visits)
+                find_large(&node.right, size, steps)
             }
         }
     }
 }
 
 /// The first entry from a key on that is at least so large. Trees without one so large are passed over, so the walk
-/// comes to at most two nodes at each height.
+/// comes to at most two other nodes at each height: one on the way to the key, and one on the way to the entry.
 pub fn find_large_from<'a, T: Copy>(tree: &'a Link<T>, key: u128, size: u64) -> Option<&'a Entry<T>>
     requires some { 0 < size }
     requires rising { KeysRise (entries_in tree.now) }
-    requires limit { height_of tree.now < 2 ^ 63 }
     ensures { seen result ≡ first_large_from key size (entries_in tree.now) }
 {
     if greatest(tree) < size {
@@ -87,38 +86,38 @@ pub fn find_large_from<'a, T: Copy>(tree: &'a Link<T>, key: u128, size: u64) -> 
             if node.entry.size >= size {
                 Some(&node.entry)
             } else {
-                find_large(&node.right, size, &mut Visits::new())
+                find_large_from(&node.right, key, size)
             }
         }
     }
 }
 
 /// The last entry before a key and the first from it on, or else those that are handed in, which are found so far. Each
-/// node on the way is a visit.
+/// node on the way is a step.
 pub fn find_around<'a, T: Copy>(
     tree: &'a Link<T>,
     key: u128,
     before: Option<&'a Entry<T>>,
     from: Option<&'a Entry<T>>,
-    visits: &mut Visits,
+    steps: &mut Steps,
 ) -> (Option<&'a Entry<T>>, Option<&'a Entry<T>>)
     requires rising { KeysRise (entries_in tree.now) }
-    requires limit { visits.old + height_of tree.now < 2 ^ 64 }
+    requires limit { steps.old + height_of tree.now ≤ 2 ^ 33 }
     ensures before { seen result.0 ≡ option_or (last_before key (entries_in tree.now)) (seen before.entry) }
     ensures from { seen result.1 ≡ option_or (first_from key (entries_in tree.now)) (seen from.entry) }
-    ensures not_fewer { visits.old ≤ visits.new }
-    ensures visits { visits.new ≤ visits.old + height_of tree.now }
+    ensures not_fewer { steps.old ≤ steps.new }
+    ensures steps { steps.new ≤ steps.old + height_of tree.now }
 {
     match tree {
         None => (before, from),
         Some(node) => {
             let node: &Node<T> = node;
             let here = node.entry.key;
-            visits.tick();
+            steps.tick();
             if here < key {
-                find_around(&node.right, key, Some(&node.entry), from, visits)
+                find_around(&node.right, key, Some(&node.entry), from, steps)
             } else {
-                find_around(&node.left, key, before, Some(&node.entry), visits)
+                find_around(&node.left, key, before, Some(&node.entry), steps)
             }
         }
     }

@@ -10,7 +10,8 @@ invariant-loop-low g l = record {
   small : length l.items < 2 ^ 64;
   passed : AllByRecursion (λ x. nat_lt (g.K.Keyed.key_of x) l.key ≡ true) (take l.low l.items);
   failed : AllByRecursion (λ x. nat_lt (g.K.Keyed.key_of x) l.key ≡ false) (drop l.high l.items);
-  steps : (d : ℕ) → length l.items < 2 ^ d → (e : ℕ) × (l.steps + e ≡ d) × (l.high - l.low < 2 ^ e);
+  not_fewer : l.initial.steps ≤ l.steps;
+  steps : (d : ℕ) → length l.items < 2 ^ d → (e : ℕ) × (l.steps + e ≡ l.initial.steps + d) × (l.high - l.low < 2 ^ e);
 }
 
 abbrev pub decreases-loop-low : goal.decreases-loop-low

@@ -20,7 +20,7 @@ find_large_from-requires g t c κs within =
     let whole : entries_in c.args.tree.now ≡ l ++ x ∷ r = ap entries_in is ∙ sym (ap (λ (s : Shape g.row.T.Denot). s.entries) view) in
     let h : height_of c.args.tree.now ≡ c.node.inside.height = ap height_of is ∙ sym (ap (λ (s : Shape g.row.T.Denot). s.height) view) in
     let d : Sides l x r = sides l x r (subst (λ (es : List (Entry g.row.T.Denot)). KeysRise es) whole c.requires.rising) in
-    (omega (arith, c.node.invariant.height), (within, (c.requires.some, (d.right, omega (arith, c.node.invariant.height, c.requires.limit)))))
+    (omega (arith, c.node.invariant.height), (within, (c.requires.some, d.right)))
 
 pub returns-then-node-key : goal.returns-then-node-key
 returns-then-node-key g t c =
@@ -43,7 +43,7 @@ find_large_from-requires-in-Some g t c κs within =
     let whole : entries_in c.args.tree.now ≡ l ++ x ∷ r = ap entries_in is ∙ sym (ap (λ (s : Shape g.row.T.Denot). s.entries) view) in
     let h : height_of c.args.tree.now ≡ c.node.inside.height = ap height_of is ∙ sym (ap (λ (s : Shape g.row.T.Denot). s.height) view) in
     let d : Sides l x r = sides l x r (subst (λ (es : List (Entry g.row.T.Denot)). KeysRise es) whole c.requires.rising) in
-    (omega (arith, c.node.invariant.height), (within, (c.requires.some, (d.left, omega (arith, c.node.invariant.height, c.requires.limit)))))
+    (omega (arith, c.node.invariant.height), (within, (c.requires.some, d.left)))
 
 pub returns-in-Some-find_large_from : goal.returns-in-Some-find_large_from
 returns-in-Some-find_large_from g t c =
@@ -66,6 +66,18 @@ returns-then-node-size g t c =
     let d : Sides l x r = sides l x r (subst (λ (es : List (Entry g.row.T.Denot)). KeysRise es) whole c.requires.rising) in
     sym (large_from_here c.args.key c.args.size l x r (sym c.in_default.ensures) c.if-node-key.false c.if-node-size.true) ∙ sym (ap (first_large_from c.args.key c.args.size) whole)
 
+pub find_large_from-requires-else-node-size : goal.find_large_from-requires-else-node-size
+find_large_from-requires-else-node-size g t c κs within =
+    let l = entries_in c.node.inside.left in
+    let r = entries_in c.node.inside.right in
+    let x = c.node.inside.entry in
+    let is : c.args.tree.now ≡ Some c.in-Some.node = c.in-Some.is in
+    let view : shape_of c.node.inside ≡ c.in-Some.node.value = c.node.view_is ∙ c.deref-node.ensures in
+    let whole : entries_in c.args.tree.now ≡ l ++ x ∷ r = ap entries_in is ∙ sym (ap (λ (s : Shape g.row.T.Denot). s.entries) view) in
+    let h : height_of c.args.tree.now ≡ c.node.inside.height = ap height_of is ∙ sym (ap (λ (s : Shape g.row.T.Denot). s.height) view) in
+    let d : Sides l x r = sides l x r (subst (λ (es : List (Entry g.row.T.Denot)). KeysRise es) whole c.requires.rising) in
+    (omega (arith, c.node.invariant.height), (within, (c.requires.some, d.right)))
+
 pub returns-else-node-size : goal.returns-else-node-size
 returns-else-node-size g t c =
     let l = entries_in c.node.inside.left in
@@ -75,4 +87,4 @@ returns-else-node-size g t c =
     let view : shape_of c.node.inside ≡ c.in-Some.node.value = c.node.view_is ∙ c.deref-node.ensures in
     let whole : entries_in c.args.tree.now ≡ l ++ x ∷ r = ap entries_in is ∙ sym (ap (λ (s : Shape g.row.T.Denot). s.entries) view) in
     let d : Sides l x r = sides l x r (subst (λ (es : List (Entry g.row.T.Denot)). KeysRise es) whole c.requires.rising) in
-    c.find_large.ensures.found ∙ sym (large_from_behind c.args.key c.args.size l x r (sym c.in_default.ensures) c.if-node-key.false c.if-node-size.false d) ∙ sym (ap (first_large_from c.args.key c.args.size) whole)
+    c.find_large_from-else-node-size.ensures ∙ sym (large_from_behind c.args.key c.args.size l x r (sym c.in_default.ensures) c.if-node-key.false c.if-node-size.false) ∙ sym (ap (first_large_from c.args.key c.args.size) whole)

@@ -45,6 +45,7 @@ invariant_of-self c =
         aligned = c.fill.ensures.aligned c.self.invariant.canonical.aligned k.aligned c.rounded-size.ensures.multiple;
       };
       used = omega (arith, f.used, c.self.invariant.used);
+      few = omega (arith, k.bytes, c.self.invariant.used);
       room = omega (arith, c.fill.ensures.nodes, c.self.invariant.room);
     }
 

@@ -34,4 +34,5 @@ returns-clause-taken c =
 pub returns-clause-partition : goal.returns-clause-partition
 returns-clause-partition c = λ ts part.
     let s : IsCanonical c.args.self.now = subst (λ (r : Space). IsCanonical r) c.self.view_is c.self.invariant.canonical in
-    taken_partition c.args.self.now _ ts c.cut-place.result _ (rw (← c.rounded-size.ensures.value) c.rounded-size.ensures.multiple) s (returns-clause-taken c) part
+    let some : 0 < c.rounded-size.result = omega arith in
+    taken_partition c.args.self.now _ ts c.cut-place.result _ (rw (← c.rounded-size.ensures.value) some) (rw (← c.rounded-size.ensures.value) c.rounded-size.ensures.multiple) s (returns-clause-taken c) part

@@ -9,7 +9,7 @@ find-requires-clause-limit g c =
     let l : height_of c.self.inside.root ≤ 128 = low (height_of c.self.inside.root) (length (entries_in c.self.inside.root)) c.height_law.ensures (omega (arith, c.self.invariant.nodes, c.self.invariant.limit)) in
     omega (arith, c.requires.limit)
 
-pub returns-clause-visits : goal.returns-clause-visits
-returns-clause-visits g c =
+pub returns-clause-steps : goal.returns-clause-steps
+returns-clause-steps g c =
     let is : entries_in c.self.inside.root ≡ c.args.self.now.entries = ap (λ (l : Listing g.row.T.Denot). l.entries) c.self.view_is in
-    λ d few. let l = height_le (height_of c.self.inside.root) (length (entries_in c.self.inside.root)) d c.height_law.ensures (omega (arith, ap length is)) in omega (arith, c.find.ensures.visits)
+    λ d few. let l = height_le (height_of c.self.inside.root) (length (entries_in c.self.inside.root)) d c.height_law.ensures (omega (arith, ap length is)) in omega (arith, c.find.ensures.steps)

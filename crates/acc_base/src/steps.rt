@@ -1,10 +1,10 @@
-//! How many nodes a search comes to.
+//! How much a search looks at.
 
 ghost use Rattle.std.specs.Prelude.{◌≡◌, ◌+◌, ◌^◌, ◌<◌};
 
 use std::marker::Model;
 
-/// A count of nodes, which the counted searches raise by one for each node that they come to.
+/// A count of the nodes of a tree, or of the entries of a list, that the counted searches look at.
 #[derive(Drop)]
 pub struct Steps {
     count: u64,
@@ -26,7 +26,7 @@ impl Steps {
         Steps { count: 0 }
     }
 
-    /// Counts one node more. Fewer than 2^33 were counted before.
+    /// Counts one more. Fewer than 2^33 were counted before.
     pub fn tick(&mut self)
         requires { self.old < 2 ^ 33 }
         ensures { self.new ≡ self.old + 1 }
@@ -34,7 +34,7 @@ impl Steps {
         self.count += 1;
     }
 
-    /// How many nodes were counted.
+    /// How many were counted.
     pub fn count(&self) -> u64
         ensures { result ≡ self.now }
     {

@@ -16,7 +16,7 @@ use Rattle.acc_base.specs.Walk.{enter_task, enter_data_task, exit_task, move_tas
 use Rattle.acc_base.specs.Queues.{queue_named}
 use Rattle.acc_base.specs.Tasks.{queue_of}
 use Rattle.acc_base.specs.Loans.{none_lent}
-use Rattle.acc_base.specs.Judge.{Verdict, item_limit, item_count, few_items, tasks_with, holdings_left, queue_in, transfers_in, verdict_of, directive_verdict, plan_of}
+use Rattle.acc_base.specs.Judge.{Verdict, item_limit, item_count, few_items, device_named, own_device, tasks_with, holdings_left, queue_in, transfers_in, verdict_of, directive_verdict, plan_of}
 use Rattle.acc_base.proofs.Results.{refused_not}
 use Rattle.acc_base.proofs.Elements.{found_has}
 use Rattle.acc_clauses.specs.Overlays.{AreUnmixed, AreQueuesNamed, enters}
@@ -102,40 +102,49 @@ queue_at_turn (t ∷ ts) (suc i) d within all = queue_at_turn ts i d (omega (ari
 abbrev verdict_free : ℕ → Directive → State → List Did → Result Verdict Fault
 verdict_free n d s dids = none_lent (transfers_in d s.records.queues) s.records.loans >> Ok (verdict_of n d s dids)
 
+-- the directive names no other device than that of the limits
+abbrev IsOwn : Limits → Directive → Type 0
+IsOwn l d = own_device l.number (device_named d) ≡ Ok tt
+
 -- too many items are told before all else
-pub plan_many : (l : Limits) (n : ℕ) (d : Directive) (s : State) (fault : Fault) → few_items d ≡ Err fault → plan_of l n d s ≡ Err fault
+pub plan_many : (l : Limits) (d : Directive) (s : State) (fault : Fault) → few_items d ≡ Err fault → plan_of l d s ≡ Err fault
 unfolding plan_of
-plan_many l n d s fault few = rw few refl
+plan_many l d s fault few = rw few refl
+
+-- then another device
+pub plan_elsewhere : (l : Limits) (d : Directive) (s : State) (fault : Fault) → few_items d ≡ Ok tt → own_device l.number (device_named d) ≡ Err fault → plan_of l d s ≡ Err fault
+unfolding plan_of
+plan_elsewhere l d s fault few other = rw (few, other) refl
 
 -- then a region that is not open
-pub plan_closed : (l : Limits) (n : ℕ) (d : Directive) (s : State) (fault : Fault) → few_items d ≡ Ok tt → holdings_left d s.register ≡ Err fault → plan_of l n d s ≡ Err fault
+pub plan_closed : (l : Limits) (d : Directive) (s : State) (fault : Fault) → few_items d ≡ Ok tt → IsOwn l d → holdings_left d s.register ≡ Err fault → plan_of l d s ≡ Err fault
 unfolding plan_of directive_verdict
-plan_closed l n d s fault few left = rw (few, left) refl
+plan_closed l d s fault few own left = rw (few, own, left) refl
 
 -- then a queue that is not there
-pub plan_unqueued : (l : Limits) (n : ℕ) (d : Directive) (s : State) (holdings : List Holding) (fault : Fault) → few_items d ≡ Ok tt → holdings_left d s.register ≡ Ok holdings → queue_named (queue_in d) ≡ Err fault → plan_of l n d s ≡ Err fault
+pub plan_unqueued : (l : Limits) (d : Directive) (s : State) (holdings : List Holding) (fault : Fault) → few_items d ≡ Ok tt → IsOwn l d → holdings_left d s.register ≡ Ok holdings → queue_named (queue_in d) ≡ Err fault → plan_of l d s ≡ Err fault
 unfolding plan_of directive_verdict
-plan_unqueued l n d s holdings fault few left q = rw (few, left, q) refl
+plan_unqueued l d s holdings fault few own left q = rw (few, own, left, q) refl
 
 -- then what its tasks are refused for
-pub plan_refused : (l : Limits) (n : ℕ) (d : Directive) (s : State) (holdings : List Holding) (fault : Fault) → few_items d ≡ Ok tt → holdings_left d s.register ≡ Ok holdings → queue_named (queue_in d) ≡ Ok tt
-    → judge_all l 0 (tasks_with d holdings) s ≡ Err fault → plan_of l n d s ≡ Err fault
+pub plan_refused : (l : Limits) (d : Directive) (s : State) (holdings : List Holding) (fault : Fault) → few_items d ≡ Ok tt → IsOwn l d → holdings_left d s.register ≡ Ok holdings → queue_named (queue_in d) ≡ Ok tt
+    → judge_all l 0 (tasks_with d holdings) s ≡ Err fault → plan_of l d s ≡ Err fault
 unfolding plan_of directive_verdict
-plan_refused l n d s holdings fault few left q refused = rw (few, left, q, refused) refl
+plan_refused l d s holdings fault few own left q refused = rw (few, own, left, q, refused) refl
 
-plan_judged : (l : Limits) (n : ℕ) (d : Directive) (s : State) (holdings : List Holding) (dids : List Did) → few_items d ≡ Ok tt → holdings_left d s.register ≡ Ok holdings → queue_named (queue_in d) ≡ Ok tt
-    → judge_all l 0 (tasks_with d holdings) s ≡ Ok dids → plan_of l n d s ≡ verdict_free n d s dids
+plan_judged : (l : Limits) (d : Directive) (s : State) (holdings : List Holding) (dids : List Did) → few_items d ≡ Ok tt → IsOwn l d → holdings_left d s.register ≡ Ok holdings → queue_named (queue_in d) ≡ Ok tt
+    → judge_all l 0 (tasks_with d holdings) s ≡ Ok dids → plan_of l d s ≡ verdict_free l.number d s dids
 unfolding plan_of directive_verdict
-plan_judged l n d s holdings dids few left q judged = rw (few, left, q, judged) refl
+plan_judged l d s holdings dids few own left q judged = rw (few, own, left, q, judged) refl
 
 -- then a block that is lent of a transfer that it makes; else it is the verdict of what its tasks do
-pub plan_told : (l : Limits) (n : ℕ) (d : Directive) (s : State) (holdings : List Holding) (dids : List Did) (r : Result ⊤ Fault) → few_items d ≡ Ok tt → holdings_left d s.register ≡ Ok holdings → queue_named (queue_in d) ≡ Ok tt
-    → judge_all l 0 (tasks_with d holdings) s ≡ Ok dids → r ≡ none_lent (transfers_in d s.records.queues) s.records.loans → MatchResult r (λ _. plan_of l n d s ≡ Ok (verdict_of n d s dids)) (λ fault. plan_of l n d s ≡ Err fault)
-plan_told l n d s holdings dids (Ok x) few left q judged free = plan_judged l n d s holdings dids few left q judged ∙ rw (← free) refl
-plan_told l n d s holdings dids (Err fault) few left q judged lent = plan_judged l n d s holdings dids few left q judged ∙ rw (← lent) refl
+pub plan_told : (l : Limits) (d : Directive) (s : State) (holdings : List Holding) (dids : List Did) (r : Result ⊤ Fault) → few_items d ≡ Ok tt → IsOwn l d → holdings_left d s.register ≡ Ok holdings → queue_named (queue_in d) ≡ Ok tt
+    → judge_all l 0 (tasks_with d holdings) s ≡ Ok dids → r ≡ none_lent (transfers_in d s.records.queues) s.records.loans → MatchResult r (λ _. plan_of l d s ≡ Ok (verdict_of l.number d s dids)) (λ fault. plan_of l d s ≡ Err fault)
+plan_told l d s holdings dids (Ok x) few own left q judged free = plan_judged l d s holdings dids few own left q judged ∙ rw (← free) refl
+plan_told l d s holdings dids (Err fault) few own left q judged lent = plan_judged l d s holdings dids few own left q judged ∙ rw (← lent) refl
 
 -- what is asked of what the region holds that is left
 pub asked_left : (d : Directive) (g : Register) (holdings : List Holding) → few_items d ≡ Ok tt → holdings_left d g ≡ Ok holdings → asked_of d g ≡ Ok (tasks_with d holdings)
 asked_left d g holdings few left = rw (few, left) refl
 
-pub ruleset event_laws = (plan_many, plan_closed, plan_unqueued, plan_refused, asked_left)
+pub ruleset event_laws = (plan_many, plan_closed, asked_left)

@@ -7,7 +7,7 @@ use Rattle.acc_clauses.specs.Words.{Section, Range, Block, Loan, Event}
 use Rattle.acc_base.specs.declared.faults.Fault.TheVariants.{NoLease}
 use Rattle.acc_base.specs.declared.events.Event.TheVariants.{Lent}
 use Rattle.acc_base.specs.Results.{refuse_if}
-use Rattle.acc_base.specs.Limits.{Limits, recorded, IsWithinBounds}
+use Rattle.acc_base.specs.Limits.{Limits, recorded, base_on, number_at, IsWithinBounds}
 use Rattle.acc_base.specs.Records.{Records, State, layout_of}
 use Rattle.acc_base.specs.Blocks.{block_at, used_bytes}
 use Rattle.acc_base.specs.Loans.{Leased, loan_of, is_loan_of, is_lent, with_loan, without_loan, len_of}
@@ -27,7 +27,7 @@ use Rattle.acc_base.proofs.LegalEvents.{lend_legal, IsGathered, gather_legal}
 use Rattle.acc_dev.specs.Marks.{is_ended_at, IsMarkOf}
 use Rattle.acc_dev.specs.Device.{DeviceState, HasBlock, IsTakenOut, IsPutBack}
 use Rattle.acc_clauses.specs.declared.numbers.Numbers.{Numbers}
-use Rattle.acc_clauses.specs.Contents.{WithHost, Contents, state_of, ArePartsSound}
+use Rattle.acc_clauses.specs.Contents.{WithHost, Contents, state_of, AreSizedBy, ArePartsSound}
 use Rattle.acc_clauses.specs.Stored.{IsStoreSound, AreHoldingsWithin}
 use Rattle.acc_clauses.specs.Lending.{IsLoanPlanned, lent_state, gathered_state}
 use Rattle.acc_clauses.proofs.Changes.{state_from_parts}
@@ -54,6 +54,15 @@ lend_mapped l x n loan parts zip sound = (told_by_mark x loan.block parts.marked
 
 pub lend_within : (l : Limits) (x : WithHost) (n : Numbers) (loan : Loan) → ArePartsSound l x n → IsLoanSound x.present.table.ranges loan → loan.offset + loan.len ≤ len_of loan.block x.device.blocks
 lend_within l x n loan parts sound = grind (arith, nat_tests, loan_there l (state_of x n).records loan parts.sound.records sound)
+
+-- ---- the number of the device
+
+-- the number of a device is told by where its memory begins
+number_of_base : (n : ℕ) → number_at (base_on n) ≡ n
+number_of_base n = omega arith
+
+pub number_told : (l : Limits) (x : WithHost) → AreSizedBy l x → number_at x.device.memory.start ≡ l.number
+number_told l x sized = ap (λ (m : Section). number_at m.start) sized.device ∙ number_of_base l.number
 
 -- ---- the parts
 
@@ -96,8 +105,8 @@ loan_some : (lease : Leased) (o : Option Loan) → is_loan_of lease o ≡ true �
 loan_some lease o e = grind (arith, nat_tests)
 
 -- the block of a lease that is returnable is lent
-returnable_lent : (full : Bool) (lease : Leased) (s : State) → is_returnable full lease s.records.blocks s.records.loans s.memories ≡ true → is_lent lease.block s.records.loans ≡ true
-returnable_lent full lease s e = loan_some lease (loan_of lease.block s.records.loans) (and_true _ _ (and_true _ _ e).0).0
+returnable_lent : (full : Bool) (d : ℕ) (lease : Leased) (s : State) → is_returnable full d lease s.records.blocks s.records.loans s.memories ≡ true → is_lent lease.block s.records.loans ≡ true
+returnable_lent full d lease s e = loan_some lease (loan_of lease.block s.records.loans) (and_true _ _ (and_true _ _ (and_true _ _ e).0).0).0
 
 pub lent_is : (full : Bool) (x : WithHost) (n : Numbers) (d : DeviceState) (loan : Loan) → IsTakenOut x.device d loan full → state_of (record x { device = d }) (numbered_on n) ≡ lent_state full loan (state_of x n)
 lent_is full x n d loan out = state_from_parts (record x { device = d }) (numbered_on n) (lent_state full loan (state_of x n)) refl out.blocks refl out.births refl out.loans refl refl refl refl out.memories
@@ -122,18 +131,18 @@ pub gathered_is : (x : WithHost) (n : Numbers) (d : DeviceState) (lease : Leased
 gathered_is x n d lease back = state_from_parts (record x { device = d }) (numbered_off n) (gathered_state lease (state_of x n)) refl back.blocks refl back.births refl back.loans refl refl refl refl back.memories
 
 -- a lease that a block fits is gathered
-pub gather_is : (full : Bool) (lease : Leased) (s : State) → is_returnable full lease s.records.blocks s.records.loans s.memories ≡ true → gather_event full lease s ≡ Ok (gathered full lease)
+pub gather_is : (l : Limits) (lease : Leased) (s : State) → is_returnable l.full l.number lease s.records.blocks s.records.loans s.memories ≡ true → gather_event l lease s ≡ Ok (gathered l.full lease)
 unfolding gather_event
-gather_is full lease s e = rw e refl
+gather_is l lease s e = rw e refl
 
-pub returnable : (full : Bool) (lease : Leased) (s : State) (e : Event) → gather_event full lease s ≡ Ok e → is_returnable full lease s.records.blocks s.records.loans s.memories ≡ true
+pub returnable : (l : Limits) (lease : Leased) (s : State) (e : Event) → gather_event l lease s ≡ Ok e → is_returnable l.full l.number lease s.records.blocks s.records.loans s.memories ≡ true
 unfolding gather_event
-returnable full lease s e h = not_false _ (refused_not _ _ (then_ok (refuse_if (not (is_returnable full lease s.records.blocks s.records.loans s.memories)) (NoLease lease.serial)) (Ok (gathered full lease)) e h).0)
+returnable l lease s e h = not_false _ (refused_not _ _ (then_ok (refuse_if (not (is_returnable l.full l.number lease s.records.blocks s.records.loans s.memories)) (NoLease lease.serial)) (Ok (gathered l.full lease)) e h).0)
 
-pub gathered_parts : (l : Limits) (x : WithHost) (n : Numbers) (d : DeviceState) (lease : Leased) → ArePartsSound l x n → is_returnable l.full lease x.device.blocks x.device.loans x.device.memories ≡ true → IsPutBack x.device d lease → ArePartsSound l (record x { device = d }) (numbered_off n)
+pub gathered_parts : (l : Limits) (x : WithHost) (n : Numbers) (d : DeviceState) (lease : Leased) → ArePartsSound l x n → is_returnable l.full l.number lease x.device.blocks x.device.loans x.device.memories ≡ true → IsPutBack x.device d lease → ArePartsSound l (record x { device = d }) (numbered_off n)
 gathered_parts l x n d lease parts fits back =
     let s : State = state_of x n in
-    let long : IsGathered l lease s (gathered l.full lease) = gather_legal l lease s (gathered l.full lease) parts.sound.records (gather_is l.full lease s fits) in
+    let long : IsGathered l lease s (gathered l.full lease) = gather_legal l lease s (gathered l.full lease) parts.sound.records (gather_is l lease s fits) in
     let records : AreRecordsSound l (gathered_state lease s).records = with_loans l s.records (without_loan lease.block s.records.loans) parts.sound.records (loans-without s.records.ranges lease.block s.records.loans parts.sound.records.loans) in
     let memories : AreMemoriesSized l (gathered_state lease s) = record { host = parts.sound.memories.host; blocks = gathered_sized lease.block lease.bytes s.records.loans s.memories s.records.blocks long.fits parts.sound.memories.blocks } in
     let is : state_of (record x { device = d }) (numbered_off n) ≡ gathered_state lease s = gathered_is x n d lease back in
@@ -142,22 +151,22 @@ gathered_parts l x n d lease parts fits back =
       sized = record { counters = parts.sized.counters; device = back.memory ∙ parts.sized.device; pointers = parts.sized.pointers; queues = parts.sized.queues };
       sound = record { records = subst (λ (t : State). AreRecordsSound l t.records) (sym is) records; memories = subst (AreMemoriesSized l) (sym is) memories };
       marked = rw back.marks parts.marked;
-      lent = ap (λ k. k - 1) parts.lent ∙ (sym (length-without lease.block x.device.loans parts.sound.records.loans.rising (returnable_lent l.full lease s fits)) ∙ ap length (sym back.loans));
+      lent = ap (λ k. k - 1) parts.lent ∙ (sym (length-without lease.block x.device.loans parts.sound.records.loans.rising (returnable_lent l.full l.number lease s fits)) ∙ ap length (sym back.loans));
       few = omega (arith, parts.few);
     }
 
 -- ---- the store
 
 -- what a planned loan says: it is legal, its block is not lent, and its section lies in the range of the block
-pub record IsLendable (l : Limits) (device region : ℕ) (section : Section) (s : State) (loan : Loan) : Type 0 where
-  pub legal : IsLegal l (Lent device region section loan.block loan.serial) (layout_of s)
+pub record IsLendable (l : Limits) (region : ℕ) (section : Section) (s : State) (loan : Loan) : Type 0 where
+  pub legal : IsLegal l (Lent l.number region section loan.block loan.serial) (layout_of s)
   pub free : is_lent loan.block s.records.loans ≡ false
   pub sound : IsLoanSound s.records.ranges loan
 
-pub planned_says : (l : Limits) (device region : ℕ) (section : Section) (s : State) (loan : Loan) → AreRecordsSound l s.records → IsLoanPlanned l device region section s loan → IsLendable l device region section s loan
-planned_says l device region section s loan h p =
-    let e : Event = Lent device region section loan.block loan.serial in
-    let lent : (block : ℕ) × (Lent device region section block s.register.serial ≡ e) × IsLegal l (Lent device region section block s.register.serial) (layout_of s) = lend_legal l device region section s e p.event in
+pub planned_says : (l : Limits) (region : ℕ) (section : Section) (s : State) (loan : Loan) → AreRecordsSound l s.records → IsLoanPlanned l region section s loan → IsLendable l region section s loan
+planned_says l region section s loan h p =
+    let e : Event = Lent l.number region section loan.block loan.serial in
+    let lent : (block : ℕ) × (Lent l.number region section block s.register.serial ≡ e) × IsLegal l (Lent l.number region section block s.register.serial) (layout_of s) = lend_legal l l.number region section s e p.event in
     let legal : IsLegal l e (layout_of s) = subst (λ x. IsLegal l x (layout_of s)) lent.1 lent.2 in
     record { legal = legal; free = legal.names.2; sound = subst (IsLoanSound s.records.ranges) (sym p.loan_is) (placed_loan l loan.serial loan.block section s.records h legal.names.1) }
 
@@ -169,14 +178,14 @@ pub gathered_after : (full : Bool) (lease : Leased) (s : State) → gathered_sta
 unfolding after loaned drained act_all_state
 gathered_after full lease s = refl
 
-pub lent_store : (device region : ℕ) (section : Section) (c f : Contents) (loan : Loan) → IsWithinBounds c.limits → IsStoreSound c → IsLoanPlanned c.limits device region section c.state loan → f.limits ≡ c.limits → f.state ≡ lent_state c.limits.full loan c.state → IsStoreSound f
-lent_store device region section c f loan bounds h p limits is =
-    let says : IsLendable c.limits device region section c.state loan = planned_says c.limits device region section c.state loan h.sound.layout.records p in
-    event_sound c.limits (Lent device region section loan.block loan.serial) [] c f bounds refl limits h says.legal tt (is ∙ lent_after c.limits.full device region section loan c.state p.loan_is) h.sound.layout.register.few
+pub lent_store : (region : ℕ) (section : Section) (c f : Contents) (loan : Loan) → IsWithinBounds c.limits → IsStoreSound c → IsLoanPlanned c.limits region section c.state loan → f.limits ≡ c.limits → f.state ≡ lent_state c.limits.full loan c.state → IsStoreSound f
+lent_store region section c f loan bounds h p limits is =
+    let says : IsLendable c.limits region section c.state loan = planned_says c.limits region section c.state loan h.sound.layout.records p in
+    event_sound c.limits (Lent c.limits.number region section loan.block loan.serial) [] c f bounds refl limits h says.legal tt (is ∙ lent_after c.limits.full c.limits.number region section loan c.state p.loan_is) h.sound.layout.register.few
     (subst (λ (t : State). used_bytes t.records.blocks ≤ c.limits.device) (sym is) h.sound.bytes_accounted)
     (subst (λ (t : State). AreHoldingsWithin t.records t.register.regions) (sym is) (holdings_same c.state.records (lent_state c.limits.full loan c.state).records c.state.register.regions refl refl h.holdings))
 
-pub gathered_store : (c f : Contents) (lease : Leased) → IsWithinBounds c.limits → IsStoreSound c → gather_event c.limits.full lease c.state ≡ Ok (gathered c.limits.full lease) → f.limits ≡ c.limits → f.state ≡ gathered_state lease c.state → IsStoreSound f
+pub gathered_store : (c f : Contents) (lease : Leased) → IsWithinBounds c.limits → IsStoreSound c → gather_event c.limits lease c.state ≡ Ok (gathered c.limits.full lease) → f.limits ≡ c.limits → f.state ≡ gathered_state lease c.state → IsStoreSound f
 gathered_store c f lease bounds h fits limits is =
     let says : IsGathered c.limits lease c.state (gathered c.limits.full lease) = gather_legal c.limits lease c.state (gathered c.limits.full lease) h.sound.layout.records fits in
     event_sound c.limits (gathered c.limits.full lease) lease.bytes c f bounds refl limits h says.legal says.fits (is ∙ gathered_after c.limits.full lease c.state) h.sound.layout.register.few

@@ -45,3 +45,4 @@ pub mod AimsValued
 pub mod AimsJudged
 pub mod AimsTargeted
 pub mod Lends
+pub mod Crossing

@@ -10,9 +10,9 @@ use Rattle.acc_base.specs.Bytes.{memory_changed}
 use Rattle.acc_base.specs.Walk.{loan_at}
 use Rattle.acc_base.specs.Judge.{lend_event}
 
--- the loan is that of a section in a region that is open on the device, which is not refused
-pub record IsLoanPlanned (l : Limits) (device region : ℕ) (section : Section) (s : State) (loan : Loan) : Type 0 where
-  pub event : lend_event l device region section s ≡ Ok (Lent device region section loan.block loan.serial)
+-- the loan is that of a section in a region that is open on the device of these limits, which is not refused
+pub record IsLoanPlanned (l : Limits) (region : ℕ) (section : Section) (s : State) (loan : Loan) : Type 0 where
+  pub event : lend_event l l.number region section s ≡ Ok (Lent l.number region section loan.block loan.serial)
   pub loan_is : loan ≡ loan_at loan.serial loan.block section s.records.ranges
 
 -- the state after a loan: the bytes of its block are in the lease, and with full traces a copy stays

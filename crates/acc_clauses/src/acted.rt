@@ -1,4 +1,4 @@
-//! A task with what it is judged to do.
+//! One task of a directive that was judged.
 
 use acc_base::{Did, Task};
 

@@ -102,7 +102,12 @@ pub(crate) fn aim_before(parts: &Parts, draft: &Draft, task: Task, step: Step) -
     match task {
         Task::Enter { .. } => Aim::None,
         Task::ExitRegion { holding } => release(parts, draft, holding.aim),
-        Task::ExitData { finalize, .. } => detach(parts, draft, finalize, pointer_aimed(task, step)),
+        Task::ExitData { finalize, .. } => detach(
+            parts,
+            draft,
+            finalize,
+            pointer_aimed(task, step),
+        ),
         Task::Move { .. } => Aim::None,
     }
 }

@@ -61,7 +61,7 @@ impl DeviceBase {
         &self.attached
     }
 
-    /// How many blocks were ever born.
+    /// How many blocks were born until then, those too that were given back. They are numbered from 1 on.
     pub fn births(&self) -> u64
         ensures { result ≡ self.now.records.births }
     {

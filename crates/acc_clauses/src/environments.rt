@@ -7,7 +7,7 @@ ghost use Rattle.acc_clauses.specs.Spares.{IsNewEnvironment};
 
 use crate::numbers::Numbers;
 use acc_attach::Attached;
-use acc_base::{Config, DEVICE_BASE, Fault};
+use acc_base::{Config, Fault};
 use acc_dev::Device;
 use acc_present::Present;
 use acc_queues::Queues;
@@ -46,7 +46,7 @@ impl Environment {
     {
         config.laws();
         let queues = Queues::new(alloc, config.queue_cap())?;
-        let device = Device::new(alloc, (number + 1) * DEVICE_BASE, config.device())?;
+        let device = Device::new(alloc, number, config.device())?;
         Ok(Environment {
             present: Present::new(alloc, config.counter_max()),
             device,

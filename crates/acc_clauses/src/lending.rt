@@ -1,6 +1,6 @@
 //! What is refused because a block is lent (OpenACC 3.3, section 2.5, compute constructs).
 
-ghost use Rattle.std.specs.Prelude.{ℕ, ◌≡◌, Some, Ok, Err, MatchResult};
+ghost use Rattle.std.specs.Prelude.{◌≡◌, Some, Ok, Err, MatchResult};
 ghost use Rattle.acc_base.specs.Queues.{queue_at};
 ghost use Rattle.acc_base.specs.Waits.{transfers_of};
 ghost use Rattle.acc_base.specs.Judge.{transfers_in, region_open, lend_event, gathered, gather_event};
@@ -75,10 +75,10 @@ fn region_open(parts: &Parts, number: u64) -> Result<(), Fault>
     }
 }
 
-/// The loan of a section in an open region, or what it is refused for.
+/// The loan of a section in an open region of the device of the parts, or what it is refused for.
 #[tactic(auto, unfolding(acc_base::specs::Judge::lend_event))]
 pub(crate) fn plan_loan(parts: &Parts, region: u64, section: Section) -> Result<Loan, Fault>
-    ensures { (device : ℕ) → MatchResult result (λ loan. IsLoanPlanned parts.now.limits device region section parts.now.state loan) (λ fault. lend_event parts.now.limits device region section parts.now.state ≡ Err fault) }
+    ensures { MatchResult result (λ loan. IsLoanPlanned parts.now.limits region section parts.now.state loan) (λ fault. lend_event parts.now.limits parts.now.limits.number region section parts.now.state ≡ Err fault) }
 {
     region_open(parts, region)?;
     in_host(parts, 0, section)?;
@@ -99,10 +99,10 @@ pub(crate) fn plan_loan(parts: &Parts, region: u64, section: Section) -> Result<
     }
 }
 
-/// The lease brings a lent block back, or what it is refused for.
+/// The lease brings a lent block of the device of the parts back, or what it is refused for.
 #[tactic(auto, unfolding(acc_base::specs::Judge::gather_event))]
 pub(crate) fn check_lease(parts: &Parts, lease: &Lease) -> Result<(), Fault>
-    ensures { MatchResult result (λ _. gather_event parts.now.limits.full lease.now parts.now.state ≡ Ok (gathered parts.now.limits.full lease.now)) (λ fault. gather_event parts.now.limits.full lease.now parts.now.state ≡ Err fault) }
+    ensures { MatchResult result (λ _. gather_event parts.now.limits lease.now parts.now.state ≡ Ok (gathered parts.now.limits.full lease.now)) (λ fault. gather_event parts.now.limits lease.now parts.now.state ≡ Err fault) }
 {
     if parts.is_returnable(lease) {
         return Ok(());

@@ -38,7 +38,7 @@ mod views;
 
 pub use acted::Acted;
 pub use bases::{Base, DeviceBase};
-pub use planning::check_items;
+pub use planning::{check_items, device_named};
 pub use plans::Plan;
 pub use spares::Spare;
 pub use stores::Store;

@@ -1,10 +1,10 @@
 //! A directive is judged whole, without memory and without a change.
 
-ghost use Rattle.std.specs.Prelude.{ℕ, ◌≡◌, ◌<◌, ◌≤◌, ◌^◌, MatchResult, OnOk, length, Ok, Err};
+ghost use Rattle.std.specs.Prelude.{◌≡◌, ◌<◌, ◌≤◌, ◌^◌, MatchResult, OnOk, length, Ok, Err};
 ghost use Rattle.std.specs.List.{AllByRecursion};
 ghost use Rattle.acc_base.specs.Acting.{judge_all};
 ghost use Rattle.acc_base.specs.Queues.{queue_named};
-ghost use Rattle.acc_base.specs.Judge.{few_items, tasks_with, holdings_left, queue_in, verdict_of, plan_of};
+ghost use Rattle.acc_base.specs.Judge.{few_items, device_named, own_device, tasks_with, holdings_left, queue_in, verdict_of, plan_of};
 ghost use Rattle.acc_clauses.specs.Overlays.{IsPlanned, AreUnmixed, AreQueuesNamed, tasks_in, dids_in};
 ghost use Rattle.acc_clauses.specs.Planned.{HasFewHoldings, IsPlanOf};
 ghost use Rattle.acc_clauses.specs.Acts.{regions_entered};
@@ -59,6 +59,35 @@ pub fn check_items(directive: &Directive) -> Result<(), Fault>
     Ok(())
 }
 
+/// The number of the device that a directive names. The exit from a data region names none: it is for the device on which
+/// the region was entered (OpenACC 3.3, section 2.6.5).
+pub fn device_named(directive: &Directive) -> Option<u64>
+    ensures { result ≡ device_named directive.now }
+{
+    match directive {
+        Directive::Enter { device, .. } => Some(*device),
+        Directive::Exit { .. } => None,
+        Directive::EnterData { device, .. } => Some(*device),
+        Directive::ExitData { device, .. } => Some(*device),
+        Directive::Update { device, .. } => Some(*device),
+        Directive::Wait { device, .. } => Some(*device),
+        Directive::Step { device, .. } => Some(*device),
+    }
+}
+
+// The directive names no other device than that of the parts.
+fn check_device(parts: &Parts, directive: &Directive) -> Result<(), Fault>
+    ensures { result ≡ own_device parts.now.limits.number (device_named directive.now) }
+{
+    let Some(device) = device_named(directive) else {
+        return Ok(());
+    };
+    if device != parts.number() {
+        return Err(Fault::NoDevice { device });
+    }
+    Ok(())
+}
+
 // What the region holds that a directive leaves, which undoes it.
 fn holdings_left<'a>(parts: &'a Parts, directive: &Directive) -> Result<&'a [Holding], Fault>
     ensures { let left = holdings_left directive.now parts.now.state.register in MatchResult result (λ holdings. left ≡ Ok holdings.now) (λ fault. left ≡ Err fault) }
@@ -72,7 +101,7 @@ fn holdings_left<'a>(parts: &'a Parts, directive: &Directive) -> Result<&'a [Hol
     }
 }
 
-/// The queue that a directive names.
+/// The queue that a directive names. Without one its transfers are made at once, and a wait is for all queues.
 pub(crate) fn queue_in(directive: &Directive) -> Option<u64>
     ensures { result ≡ queue_in directive.now }
 {
@@ -106,24 +135,26 @@ fn check_queue(queue: Option<u64>) -> Result<(), Fault>
     }
 }
 
-/// Judges a directive whole, as one of any number of device: its first refusal, or what each of its items will do. It takes
-/// no memory, and nothing changes.
+/// Judges a directive whole for the device of the parts: its first refusal, or what each of its items will do. It takes no
+/// memory, and nothing of the parts changes.
 ///
 /// # Errors
 ///
-/// [`Fault::TooManyItems`] above 64 items; [`Fault::NoRegion`] where the region that is left is not open;
-/// [`Fault::NoQueue`] where there is no queue of the number that it names; else the first refusal of an item:
-/// [`Fault::OutOfHost`], [`Fault::Misaligned`], [`Fault::PartlyPresent`], [`Fault::NotPresent`], [`Fault::CounterFull`] or
-/// [`Fault::DeviceFull`], with the item's place in the directive, counted from 0, or [`Fault::Lent`] or
-/// [`Fault::QueueFull`]; or, of a wait or a step, [`Fault::Lent`] at the first transfer whose block is lent.
+/// [`Fault::TooManyItems`] above 64 items; [`Fault::NoDevice`] where the directive names another device;
+/// [`Fault::NoRegion`] where the region that is left is not open; [`Fault::NoQueue`] where there is no queue of the number
+/// that it names; else the first refusal of an item: [`Fault::OutOfHost`], [`Fault::Misaligned`],
+/// [`Fault::PartlyPresent`], [`Fault::NotPresent`], [`Fault::CounterFull`] or [`Fault::DeviceFull`], with the item's place
+/// in the directive, counted from 0, or [`Fault::Lent`] or [`Fault::QueueFull`]; or, of a wait or a step, [`Fault::Lent`]
+/// at the first transfer whose block is lent.
 #[tactic(auto, using(crate::proofs::Asking::event_laws))]
 pub(crate) fn plan(parts: &Parts, directive: &Directive, plan: &mut Plan) -> Result<(), Fault>
     requires births { parts.now.state.records.births < 2 ^ 48 }
     requires register { AllByRecursion HasFewHoldings parts.now.state.register.regions }
-    ensures judged { (device : ℕ) → let s = parts.now.state in MatchResult result (λ _. plan_of parts.now.limits device directive.now s ≡ Ok (verdict_of device directive.now s plan.new.dids)) (λ fault. plan_of parts.now.limits device directive.now s ≡ Err fault) }
+    ensures judged { let s = parts.now.state in MatchResult result (λ _. plan_of parts.now.limits directive.now s ≡ Ok (verdict_of parts.now.limits.number directive.now s plan.new.dids)) (λ fault. plan_of parts.now.limits directive.now s ≡ Err fault) }
     ensures planned { OnOk result (IsPlanOf parts.now.limits directive.now parts.now.state plan.new) }
 {
     check_items(directive)?;
+    check_device(parts, directive)?;
     let holdings = holdings_left(parts, directive)?;
     check_queue(queue_in(directive))?;
     let judged = judge_all(parts, directive, holdings, &mut plan.draft);

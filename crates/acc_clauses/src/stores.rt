@@ -103,8 +103,9 @@ impl Store {
     ///
     /// # Errors
     ///
-    /// `TooManyItems` above 64 items; `NoRegion` where the region is not open; `NoQueue` where there is no such queue;
-    /// then the first refusal of the items in the order in which they act. Of an item these are, in this order: what
+    /// `TooManyItems` above 64 items; `NoDevice` where the directive names another device than [`Store::number`];
+    /// `NoRegion` where the region is not open; `NoQueue` where there is no such queue; then the first refusal of the items
+    /// in the order in which they act. Of an item these are, in this order: what
     /// the clause tables refuse, which is `OutOfHost`, `Misaligned`, `PartlyPresent`, `NotPresent`, `CounterFull` or
     /// `DeviceFull`; `Lent` for the block in which it detaches a pointer; `Lent` for the block from which its step
     /// takes a counter, or whose bytes it copies at once; `QueueFull`; and for an entry, whose pointer is attached
@@ -112,7 +113,7 @@ impl Store {
     /// block is lent. The plan is then of no use.
     pub fn plan(&self, directive: &Directive, plan: &mut Plan) -> Result<(), Fault>
         requires births { self.now.state.records.births < 2 ^ 48 }
-        ensures judged { (device : ℕ) → let s = self.now.state in MatchResult result (λ _. plan_of self.now.limits device directive.now s ≡ Ok (verdict_of device directive.now s plan.new.dids)) (λ fault. plan_of self.now.limits device directive.now s ≡ Err fault) }
+        ensures judged { let s = self.now.state in MatchResult result (λ _. plan_of self.now.limits directive.now s ≡ Ok (verdict_of self.now.limits.number directive.now s plan.new.dids)) (λ fault. plan_of self.now.limits directive.now s ≡ Err fault) }
         ensures planned { OnOk result (IsPlanOf self.now.limits directive.now self.now.state plan.new) }
     {
         planning::plan(&self.parts, directive, plan)
@@ -147,15 +148,15 @@ impl Store {
 
     /// Does a directive for which this plan was made on this state of the store, and for which room was made. It takes no
     /// memory and is never refused. Each of the plan's births, at most 64, has fewer than 2^48 before it, and so has the
-    /// region that it enters. Afterwards the state is that after the event of the directive; it stays where there is nothing
-    /// to do.
+    /// region that it enters. Afterwards the state is that after the event of the directive on this device; it stays where
+    /// there is nothing to do.
     pub fn commit(&mut self, directive: &Directive, plan: &Plan)
         requires planned { IsPlanOf self.old.limits directive.now self.old.state plan.now }
         requires births { self.old.state.records.births + 64 ≤ 2 ^ 48 }
         requires next { self.old.state.register.next < 2 ^ 48 }
         requires room { HasPlanRoom directive.now plan.now self.old.room }
         ensures limits { self.new.limits ≡ self.old.limits }
-        ensures state { (device : ℕ) → self.new.state ≡ state_by self.old.limits.full (verdict_of device directive.now self.old.state plan.now.dids) self.old.state }
+        ensures state { self.new.state ≡ state_by self.old.limits.full (verdict_of self.old.limits.number directive.now self.old.state plan.now.dids) self.old.state }
     {
         self.parts.laws();
         act_all(&mut self.parts, plan.acts(), plan.hints());
@@ -185,38 +186,38 @@ impl Store {
         self.parts.host_write(addr, bytes);
     }
 
-    /// The loan of a section of host memory in an open region, or what it is refused for (OpenACC 3.3, sections 2.5, compute
-    /// constructs, and 2.6, data environment). It takes no memory, and nothing changes.
+    /// The loan of a section of host memory in a region that is open on this device, or what it is refused for (OpenACC 3.3,
+    /// sections 2.5, compute constructs, and 2.6, data environment). It takes no memory, and nothing changes.
     ///
     /// # Errors
     ///
-    /// `NoRegion` where the region is not open; then, with item 0, `OutOfHost` where the section is not empty and some
+    /// `NoRegion` where the region is not open here; then, with item 0, `OutOfHost` where the section is not empty and some
     /// address of it is outside of host memory, `PartlyPresent` where some of its addresses are mapped but no one range has
     /// them all, and `NotPresent` where it is absent or empty; `Lent` where its block is lent.
     pub fn plan_loan(&self, region: u64, section: Section) -> Result<Loan, Fault>
-        ensures { (device : ℕ) → MatchResult result (λ loan. IsLoanPlanned self.now.limits device region section self.now.state loan) (λ fault. lend_event self.now.limits device region section self.now.state ≡ Err fault) }
+        ensures { MatchResult result (λ loan. IsLoanPlanned self.now.limits region section self.now.state loan) (λ fault. lend_event self.now.limits self.now.limits.number region section self.now.state ≡ Err fault) }
     {
         plan_loan(&self.parts, region, section)
     }
 
-    /// Lends the block of a loan that was planned on this state: its bytes are moved into the lease. With full traces a copy
-    /// of them stays; else it takes no memory and is never refused.
+    /// Lends the block of a loan that was planned on this state: its bytes are moved into the lease, which names this device.
+    /// With full traces a copy of them stays; else it takes no memory and is never refused.
     ///
     /// # Errors
     ///
     /// [`Fault::Memory`], and with full traces alone. Nothing changed.
-    pub fn lend(&mut self, device: u64, loan: Loan) -> Result<Lease, Fault>
-        requires planned { (region : ℕ) × (section : Section) × IsLoanPlanned self.old.limits device region section self.old.state loan }
+    pub fn lend(&mut self, loan: Loan) -> Result<Lease, Fault>
+        requires planned { (region : ℕ) × (section : Section) × IsLoanPlanned self.old.limits region section self.old.state loan }
         requires serial { self.old.state.register.serial < 2 ^ 48 }
-        ensures lease { IfOk result (λ lease. lease ≡ leased device loan self.old.state) }
+        ensures lease { IfOk result (λ lease. lease ≡ leased self.old.limits.number loan self.old.state) }
         ensures limits { self.new.limits ≡ self.old.limits }
         ensures room { self.new.room ≡ self.old.room }
-        ensures state { OnOk result ((region : ℕ) (section : Section) → IsLoanPlanned self.old.limits device region section self.old.state loan → self.new.state ≡ after self.old.limits.full (Lent device region section loan.block loan.serial) [] self.old.state) }
+        ensures state { OnOk result ((region : ℕ) (section : Section) → IsLoanPlanned self.old.limits region section self.old.state loan → self.new.state ≡ after self.old.limits.full (Lent self.old.limits.number region section loan.block loan.serial) [] self.old.state) }
         ensures same { OnErr result (self.new.state ≡ self.old.state) }
         ensures only { IfErr result (λ fault. (self.old.limits.full ≡ true) × (fault ≡ Memory)) }
     {
         self.parts.laws();
-        let lease = self.parts.lend(device, loan)?;
+        let lease = self.parts.lend(loan)?;
         self.parts.laws();
         Ok(lease)
     }
@@ -225,18 +226,20 @@ impl Store {
     ///
     /// # Errors
     ///
-    /// `NoLease` with the serial number of the lease, unless a block is lent under it with the lease's number of the block,
-    /// place and length of the section, and length of the block, and with full traces the lease's bytes outside of the
-    /// section are those that were kept.
+    /// `NoLease` with the serial number of the lease, unless all of this holds. The lease is of this device, the one of
+    /// [`Store::number`]. A block is lent here under its serial number, with its number of the block, and its place and
+    /// length of the section. It has as many bytes as the block. With full traces its bytes outside of the section are those
+    /// that were kept.
     pub fn check_lease(&self, lease: &Lease) -> Result<(), Fault>
-        ensures { MatchResult result (λ _. gather_event self.now.limits.full lease.now self.now.state ≡ Ok (gathered self.now.limits.full lease.now)) (λ fault. gather_event self.now.limits.full lease.now self.now.state ≡ Err fault) }
+        ensures { MatchResult result (λ _. gather_event self.now.limits lease.now self.now.state ≡ Ok (gathered self.now.limits.full lease.now)) (λ fault. gather_event self.now.limits lease.now self.now.state ≡ Err fault) }
     {
         check_lease(&self.parts, lease)
     }
 
-    /// Takes a block back that is lent: its bytes are moved out of the lease. It takes no memory and is never refused.
+    /// Takes a block back that is lent, by a lease that [`Store::check_lease`] does not refuse: its bytes are moved out of
+    /// the lease. It takes no memory and is never refused.
     pub fn gather(&mut self, lease: Lease)
-        requires { gather_event self.old.limits.full lease self.old.state ≡ Ok (gathered self.old.limits.full lease) }
+        requires { gather_event self.old.limits lease self.old.state ≡ Ok (gathered self.old.limits.full lease) }
         ensures limits { self.new.limits ≡ self.old.limits }
         ensures room { self.new.room ≡ self.old.room }
         ensures state { self.new.state ≡ after self.old.limits.full (gathered self.old.limits.full lease) lease.bytes self.old.state }
@@ -247,6 +250,14 @@ impl Store {
     }
 
     // ---- what it tells of itself
+
+    /// The number of the device that the store has. A directive that names another is refused by [`Store::plan`], and a
+    /// lease of another by [`Store::check_lease`].
+    pub fn number(&self) -> u64
+        ensures { result ≡ self.now.limits.number }
+    {
+        self.parts.number()
+    }
 
     /// What the device has, to look at.
     pub fn view(&self) -> View<'_>

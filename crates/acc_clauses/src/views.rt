@@ -183,7 +183,7 @@ impl<'a> View<'a> {
         self.environment.device.used()
     }
 
-    /// How many blocks were born so far.
+    /// How many blocks were born so far, those too that were given back. They are numbered from 1 on.
     pub fn births(&self) -> u64
         ensures { result ≡ self.now.device.records.births }
     {
@@ -206,7 +206,7 @@ impl<'a> View<'a> {
         self.environment.device.hole(from)
     }
 
-    /// Whether a block is lent.
+    /// Whether a block is lent: its bytes are in a lease, and not on the device.
     pub fn is_lent(&self, block: u64) -> bool
         ensures { result ≡ is_lent block self.now.device.records.loans }
     {

@@ -83,7 +83,7 @@ place_low l w number bounds a = go (block_at number w.records.blocks) refl
     go None e = omega arith
     go (Some b) e =
         let on : IsOnDevice (device_memory l) b = (found_has (IsOnDevice (device_memory l)) (λ b. b.number == number) w.records.blocks b a.blocks_apart.on_device e).0 in
-        omega (arith, on.last, bounds.device_base.1, bounds.device.1)
+        omega (arith, on.last, bounds.number, bounds.device.1)
 
 -- ---- the bytes of a block
 

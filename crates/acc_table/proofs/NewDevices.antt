@@ -1,6 +1,6 @@
 -- The devices of a new table, one after the other.
 use Rattle.std.proofs.Common.{ℕ, zero, suc, ◌≡◌, ◌+◌, refl, sym, ◌∙◌, ap, subst, List, [], ◌∷◌, ◌++◌, length, replicate, Option, Some, None, arith, length-append}
-use Rattle.std.specs.Prelude.{map, slice_index_or, IsSome}
+use Rattle.std.specs.Prelude.{slice_index_or, IsSome}
 use Rattle.std.specs.List.{AllByRecursion}
 use Rattle.std.proofs.lemmas.List.{map-append, replicate-append-replicate}
 use Rattle.acc_base.specs.Limits.{Limits, limits_on}

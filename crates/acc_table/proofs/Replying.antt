@@ -18,7 +18,7 @@ use Rattle.acc_base.specs.Ranges.{where_is}
 use Rattle.acc_base.specs.Clauses.{in_host}
 use Rattle.acc_base.specs.Acting.{judge_all}
 use Rattle.acc_base.specs.Queues.{head_of, queue_named}
-use Rattle.acc_base.specs.Judge.{Verdict, Makes, few_items, tasks_of, queue_in, transfers_in, step_verdict, verdict_of, directive_verdict, plan_of, region_open, lend_there, lend_event, written, gathered, gather_event}
+use Rattle.acc_base.specs.Judge.{Verdict, Makes, tasks_of, queue_in, transfers_in, step_verdict, verdict_of, directive_verdict, region_open, lend_there, lend_event, written, gathered, gather_event}
 use Rattle.acc_base.specs.Calls.{World, judge, ticket, trace_room, device_for, verdict_on, loan_on}
 use Rattle.acc_table.specs.declared.calls.Reply.{Reply}
 use Rattle.acc_table.specs.declared.calls.Reply.TheVariants as replies

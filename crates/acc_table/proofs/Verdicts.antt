@@ -7,7 +7,7 @@ use Rattle.acc_clauses.specs.Words.{Section, Directive, Call, Event, Did, Transf
 use Rattle.acc_base.specs.Section.{is_empty, is_within, host_memory}
 use Rattle.acc_base.proofs.Results.{equal_self, then_ok, ok_same, refused_not}
 use Rattle.acc_base.proofs.LegalEvents.{IsMadeBy, made_by}
-use Rattle.acc_base.specs.declared.directives.Directive.TheVariants.{Enter, Step}
+use Rattle.acc_base.specs.declared.directives.Directive.TheVariants.{Enter, Exit, EnterData, ExitData, Update, Wait, Step}
 use Rattle.acc_base.specs.declared.calls.Call.TheVariants.{Do, HostWrite, Gather}
 use Rattle.acc_base.specs.declared.events.Event.TheVariants.{Stepped}
 use Rattle.acc_base.specs.declared.faults.Fault.TheVariants.{Memory, NoLease}

@@ -18,7 +18,7 @@ ghost use Rattle.acc_table.specs.Queries.{is_inside, counters_of_section, mapped
 use crate::calls::Mapped;
 use crate::tables::Table;
 use acc_base::{Attachment, Config, Counters, Directive, Ended, Event, Found, Hole, Section};
-use acc_clauses::{Base, View};
+use acc_clauses::{Base, View, device_named};
 
 fn is_inside(found: Found) -> bool
     ensures { result ≡ is_inside found }
@@ -226,13 +226,8 @@ impl Table {
         ensures { result ≡ device_for directive.now self.now.state }
     {
         match directive {
-            Directive::Enter { device, .. } => *device,
             Directive::Exit { number } => self.device_of_region(*number),
-            Directive::EnterData { device, .. } => *device,
-            Directive::ExitData { device, .. } => *device,
-            Directive::Update { device, .. } => *device,
-            Directive::Wait { device, .. } => *device,
-            Directive::Step { device, .. } => *device,
+            _ => device_named(directive).unwrap_or(0),
         }
     }
 

@@ -71,10 +71,11 @@ impl Parts {
         self.numbers.serial
     }
 
-    /// Whether a lease brings back a block that is lent: under its serial number, with its place and length of the section,
-    /// as long as the lease has bytes, and with full traces with the bytes that were kept outside of the section.
+    /// Whether a lease brings back a block of the device that is lent. The lease is of this device, and has the serial
+    /// number, the block and the section of the loan. It has as many bytes as the block, and with full traces those that
+    /// were kept outside of the section.
     pub(crate) fn is_returnable(&self, lease: &Lease) -> bool
-        ensures { result ≡ is_returnable self.now.limits.full lease.now self.now.state.records.blocks self.now.state.records.loans self.now.state.memories }
+        ensures { result ≡ is_returnable self.now.limits.full self.now.limits.number lease.now self.now.state.records.blocks self.now.state.records.loans self.now.state.memories }
     {
         self.environment
             .device

@@ -144,16 +144,16 @@ impl Parts {
     }
 
     /// Moves the bytes of a block that is not lent into a lease, for a loan under the next serial number of a section that
-    /// lies in the range of the block. The lease tells the device by this number. With full traces a copy of them stays.
+    /// lies in the range of the block. The lease tells the number of the device. With full traces a copy of the bytes stays.
     ///
     /// # Errors
     ///
     /// [`Fault::Memory`], and with full traces alone. Nothing changed.
-    pub(crate) fn lend(&mut self, device: u64, loan: Loan) -> Result<Lease, Fault>
+    pub(crate) fn lend(&mut self, loan: Loan) -> Result<Lease, Fault>
         requires free { is_lent loan.block self.old.state.records.loans ≡ false }
         requires sound { IsLoanSound self.old.state.records.ranges loan }
         requires few { self.old.state.register.serial < 2 ^ 48 }
-        ensures lease { IfOk result (λ lease. lease ≡ leased device loan self.old.state) }
+        ensures lease { IfOk result (λ lease. lease ≡ leased self.old.limits.number loan self.old.state) }
         ensures limits { self.new.limits ≡ self.old.limits }
         ensures room { self.new.room ≡ self.old.room }
         ensures state { OnOk result (self.new.state ≡ lent_state self.old.limits.full loan self.old.state) }
@@ -162,14 +162,10 @@ impl Parts {
     {
         self.environment.device.laws();
         let keep = self.config.full();
-        let lease = self.environment.device.take_out(
-            device,
-            loan.block,
-            loan.serial,
-            loan.offset,
-            loan.len,
-            keep,
-        )?;
+        let lease = self
+            .environment
+            .device
+            .take_out(loan.block, loan.serial, loan.offset, loan.len, keep)?;
         self.numbers.serial += 1;
         self.numbers.lent += 1;
         Ok(lease)
@@ -177,7 +173,7 @@ impl Parts {
 
     /// Moves the bytes of a lease back into its block. It takes no memory and is never refused.
     pub(crate) fn gather(&mut self, lease: Lease)
-        requires { is_returnable self.old.limits.full lease self.old.state.records.blocks self.old.state.records.loans self.old.state.memories ≡ true }
+        requires { is_returnable self.old.limits.full self.old.limits.number lease self.old.state.records.blocks self.old.state.records.loans self.old.state.memories ≡ true }
         ensures limits { self.new.limits ≡ self.old.limits }
         ensures room { self.new.room ≡ self.old.room }
         ensures state { self.new.state ≡ gathered_state lease self.old.state }

@@ -1,6 +1,6 @@
-use Rattle.std.proofs.Common.{ap, sym, ◌∙◌}
+use Rattle.std.proofs.Common.{ap, sym, ◌∙◌, rules}
 use Rattle.acc_base.specs.Queues.{queue_named}
-use Rattle.acc_clauses.proofs.Asking.{left_fit, queues_there, plan_told}
+use Rattle.acc_clauses.proofs.Asking.{left_fit, queues_there, plan_elsewhere, plan_unqueued, plan_refused, plan_told}
 use Rattle.acc_clauses.proofs.planning.plan.Goals as goal
 
 pub judge_all-judged-requires-clause-few : goal.judge_all-judged-requires-clause-few
@@ -14,7 +14,24 @@ judge_all-judged-requires-clause-queues c =
     let known = ap queue_named (sym c.queue_in.ensures) ∙ sym c.in_ok-check_queue.ensures in
     queues_there _ _ known (left_fit c.args.directive.now c.args.parts.now.state.register _ c.requires.register (sym c.in_ok-check_items.ensures) c.in_ok-holdings.ensures).queues
 
-pub returns-clause-judged : goal.returns-clause-judged
-returns-clause-judged c n =
+pub returns-in_err-check_device-clause-judged : goal.returns-in_err-check_device-clause-judged
+returns-in_err-check_device-clause-judged c =
+    let refused = plan_elsewhere c.args.parts.now.limits c.args.directive.now c.args.parts.now.state _ (sym c.in_ok-check_items.ensures) (sym c.in_err-check_device.ensures) in
+    search rules
+
+pub returns-in_err-check_queue-clause-judged : goal.returns-in_err-check_queue-clause-judged
+returns-in_err-check_queue-clause-judged c =
+    let unknown = ap queue_named (sym c.queue_in.ensures) ∙ sym c.in_err-check_queue.ensures in
+    let refused = plan_unqueued c.args.parts.now.limits c.args.directive.now c.args.parts.now.state _ _ (sym c.in_ok-check_items.ensures) (sym c.in_ok-check_device.ensures) c.in_ok-holdings.ensures unknown in
+    search rules
+
+pub returns-in_err-judged-clause-judged : goal.returns-in_err-judged-clause-judged
+returns-in_err-judged-clause-judged c =
     let known = ap queue_named (sym c.queue_in.ensures) ∙ sym c.in_ok-check_queue.ensures in
-    plan_told c.args.parts.now.limits n c.args.directive.now c.args.parts.now.state _ _ c.transfers_free.result (sym c.in_ok-check_items.ensures) c.in_ok-holdings.ensures known c.in_ok-judged.ensures.judged c.transfers_free.ensures
+    let refused = plan_refused c.args.parts.now.limits c.args.directive.now c.args.parts.now.state _ _ (sym c.in_ok-check_items.ensures) (sym c.in_ok-check_device.ensures) c.in_ok-holdings.ensures known c.in_err-judged.ensures.judged in
+    search rules
+
+pub returns-clause-judged : goal.returns-clause-judged
+returns-clause-judged c =
+    let known = ap queue_named (sym c.queue_in.ensures) ∙ sym c.in_ok-check_queue.ensures in
+    plan_told c.args.parts.now.limits c.args.directive.now c.args.parts.now.state _ _ c.transfers_free.result (sym c.in_ok-check_items.ensures) (sym c.in_ok-check_device.ensures) c.in_ok-holdings.ensures known c.in_ok-judged.ensures.judged c.transfers_free.ensures

@@ -27,4 +27,4 @@ pub invariant_of-self : goal.invariant_of-self
 invariant_of-self c = grind (arith, plan_sound, all_finished)
 
 pub returns-clause-state : goal.returns-clause-state
-returns-clause-state c device = grind (arith, all_finished, finished_verdict)
+returns-clause-state c = grind (arith, all_finished, finished_verdict)

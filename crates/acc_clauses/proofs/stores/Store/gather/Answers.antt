@@ -7,7 +7,7 @@ use Rattle.acc_clauses.proofs.stores.Store.gather.Goals as goal
 pub gather-requires : goal.gather-requires
 gather-requires c =
     let k : Contents = c.self.inside.parts in
-    returnable k.limits.full c.args.lease k.state (gathered k.limits.full c.args.lease) (subst (λ (x : Contents). gather_event x.limits.full c.args.lease x.state ≡ Ok (gathered x.limits.full c.args.lease)) (sym c.self.view_is) c.requires)
+    returnable k.limits c.args.lease k.state (gathered k.limits.full c.args.lease) (subst (λ (x : Contents). gather_event x.limits c.args.lease x.state ≡ Ok (gathered x.limits.full c.args.lease)) (sym c.self.view_is) c.requires)
 
 pub invariant_of-self : goal.invariant_of-self
 invariant_of-self c = grind (arith, gathered_store)

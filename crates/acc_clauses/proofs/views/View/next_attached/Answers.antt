@@ -1,4 +1,4 @@
-use Rattle.std.proofs.Common.{◌-◌, sym, arith}
+use Rattle.std.proofs.Common.{sym, arith}
 use Rattle.acc_base.proofs.Pointers.{next_low}
 use Rattle.acc_clauses.proofs.NextAttached.{first_begins, none_begins, none_next}
 use Rattle.acc_clauses.proofs.views.View.next_attached.Goals as goal

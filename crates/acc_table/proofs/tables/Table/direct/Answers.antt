@@ -3,7 +3,6 @@ use Rattle.std.specs.Prelude.{IfOk, IfErr, OnOk}
 use Rattle.acc_clauses.specs.Words.{Event, Directive, Fault}
 use Rattle.acc_base.specs.declared.calls.Call.TheVariants.{Do}
 use Rattle.acc_base.specs.Limits.{Limits}
-use Rattle.acc_base.specs.Judge.{plan_of}
 use Rattle.acc_base.specs.Calls.{Base, World, judge, device_for}
 use Rattle.acc_clauses.specs.Contents.{Contents}
 use Rattle.acc_clauses.specs.Planned.{Planned}
@@ -11,7 +10,7 @@ use Rattle.acc_table.specs.declared.calls.Reply.{Reply}
 use Rattle.acc_table.specs.declared.devices.Devices.{Devices}
 use Rattle.acc_table.specs.Devices.{whole_of}
 use Rattle.acc_table.specs.Calls.{IsDone, IsRefusal}
-use Rattle.acc_table.specs.Making.{admitted, planned_verdict, MayBeToldOf, IsCommitted}
+use Rattle.acc_table.specs.Making.{admitted, planned_verdict}
 use Rattle.acc_table.proofs.Verdicts.{with_store, world_in, device_admitted, directive_done, directive_judged, directive_refused}
 use Rattle.acc_table.proofs.Keeping.{opened, AreDevicesOf, selected, births_fit, region_fits, kept_carried}
 use Rattle.acc_table.proofs.tables.Table.direct.Goals as goal

@@ -16,4 +16,4 @@ invariant_of-self-2 c =
     let w : World = world_in c.deref_mut-kept.result.now.config c.deref_mut-kept.result.now.base c.deref_mut-kept.result.now.devices c.deref_mut-kept.result.now.trace.items in
     let count : c.events-events.result ≡ event_count w.history = c.events-events.ensures ∙ ap (λ (v : World). event_count v.history) (sym o.same) in
     let new : c.in_ok-base.base ≡ base_of c.deref_mut-kept.result.now.config.full (whole_of c.deref_mut-kept.result.now.devices) (event_count w.history) = c.in_ok-base.ensures.ok ∙ ap (λ n. base_of c.deref_mut-kept.result.now.config.full (whole_of c.deref_mut-kept.result.now.devices) n) count in
-    rw c.clear.ensures.items (kept_rebased c.deref_mut-kept.result.now.config c.deref_mut-kept.result.now.base c.in_ok-base.base c.deref_mut-kept.result.now.devices c.deref_mut-kept.result.now.trace.items o.kept new, o.set)
+    rw (c.replace-base.ensures.after, c.replace-events.ensures.after, c.new.ensures.items) (kept_rebased c.deref_mut-kept.result.now.config c.deref_mut-kept.result.now.base c.in_ok-base.base c.deref_mut-kept.result.now.devices c.deref_mut-kept.result.now.trace.items o.kept new, o.set)

@@ -213,8 +213,10 @@ legal_apart_from_bytes : AreLegal (record limits { full = true }) left_unattache
 unfolding judge_step judge_row walk loaned records_drained act act_all act_step act_row records_after_birth
 legal_apart_from_bytes = (
   record { there = omega arith; legal = record { names = (refl, refl); judged = tt } },
-  (record { there = omega arith; legal = record { names = refl; judged = (refl, tt, (refl, tt, tt)) } },
-  (record { there = omega arith; legal = record { names = refl; judged = (refl, tt, tt) } }, tt)),
+  (
+    record { there = omega arith; legal = record { names = refl; judged = (refl, tt, (refl, tt, tt)) } },
+    (record { there = omega arith; legal = record { names = refl; judged = (refl, tt, tt) } }, tt),
+  ),
 )
 
 -- the first item attached its pointer

@@ -4,15 +4,11 @@ use Rattle.std.specs.declared.sync.ledger.Ledger.{Ghosts}
 use denote.Param.Send.{IsSend, IsSync, sendable, view_send, recorded_send, struct_send}
 use denote.Struct.Declared.{shape}
 use Rattle.std.proofs.Crossing.{crosses}
-use Rattle.acc_base.specs.contracts.configs.Config as Config
 use Rattle.acc_table.proofs.Crossing.{table_send}
 use Rattle.acc_runtime.proofs.laws.Books.TheSendSync.{the_send as books_send, the_field_send as books_field_send}
 use Rattle.acc_runtime.specs.contracts.laws.Locked as Locked
 use Rattle.acc_runtime.specs.contracts.laws.Locked.TheInside as inside_locked
 use Rattle.acc_runtime.specs.contracts.lock.Runtime as Runtime
-
-config_send : IsSend Config.the_row
-config_send = search (sendable, crosses) depth 60 fits 100000
 
 locked_send : (L M N : RattleType) (l : Ghosts L.Denot) (m : Ghosts M.Denot) (n : Ghosts N.Denot) → IsSend L → IsSend M → IsSend N → IsSend (Locked.the_row L M N l m n)
 locked_send L M N l m n sl sm sn =
@@ -20,4 +16,4 @@ locked_send L M N l m n sl sm sn =
     (struct_send (shape (inside_locked.the_type L M N l m n)) (search (sendable, crosses, table_send) depth 20, (search (sendable, crosses, books_send, books_field_send) depth 20, tt))))
 
 pub runtime_sync : (L M N : RattleType) (l : Ghosts L.Denot) (m : Ghosts M.Denot) (n : Ghosts N.Denot) → IsSend L → IsSend M → IsSend N → IsSync (Runtime.the_row L M N l m n)
-runtime_sync L M N l m n sl sm sn = search (sendable, crosses, config_send, locked_send L M N l m n sl sm sn) depth 60 fits 100000
+runtime_sync L M N l m n sl sm sn = search (sendable, crosses, locked_send L M N l m n sl sm sn) depth 60 fits 100000

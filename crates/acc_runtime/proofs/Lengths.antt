@@ -5,7 +5,10 @@ use Rattle.std.specs.Prelude.{◌||◌, take, drop, MatchResult, IfOk}
 use Rattle.std.proofs.lemmas.Bool.Decides.{nat_tests}
 use Rattle.acc_base.specs.Section.{is_empty, is_within, host_base, host_memory}
 use Rattle.acc_table.specs.Queries.{host_read_of}
-use Rattle.acc_base.specs.Words.{Section, Event, Found, Fault}
+use Rattle.acc_base.specs.declared.items.Section.{Section}
+use Rattle.acc_base.specs.declared.mappings.Found.{Found}
+use Rattle.acc_base.specs.declared.events.Event.{Event}
+use Rattle.acc_base.specs.declared.faults.Fault.{Fault}
 use Rattle.acc_base.specs.declared.calls.Call.TheVariants.{Lend}
 use Rattle.acc_base.specs.declared.mappings.Found.TheVariants.{Inside}
 use Rattle.acc_base.specs.declared.events.Event.TheVariants as events
@@ -17,10 +20,9 @@ use Rattle.acc_base.specs.Ranges.{where_is}
 use Rattle.acc_base.specs.Clauses.{in_host}
 use Rattle.acc_base.specs.Walk.{loan_at}
 use Rattle.acc_base.specs.Devices.{view, device_in, device_of_region}
-use Rattle.acc_base.specs.Judge.{Verdict, Makes, Idle, region_open, lend_there, lend_event, leased}
+use Rattle.acc_base.specs.Judge.{Verdict, region_open, lend_there, lend_event, leased}
 use Rattle.acc_base.specs.Calls.{World, judge, ticket, trace_room, loan_on}
 use Rattle.acc_base.proofs.Results.{then_ok, ok_same}
-use Rattle.acc_table.specs.declared.calls.Reply.{Reply}
 use Rattle.acc_table.specs.declared.calls.Reply.TheVariants as replies
 use Rattle.acc_table.specs.Calls.{reply_of, IsCarriedOut, IsDone}
 use Rattle.acc_table.proofs.Replying.{made_of}

@@ -1,4 +1,4 @@
-use Rattle.std.proofs.Common.{rules, arith, ◌*◌, ap, vec_len, Some, ◌≡◌, ◌+◌, None, sym, ◌∙◌, map}
+use Rattle.std.proofs.Common.{rules, arith, ◌*◌, ap, vec_len, Some, ◌≡◌, ◌+◌, sym, ◌∙◌, map}
 use Rattle.std.specs.Option.{option_or}
 use Rattle.std.proofs.lemmas.List.Elements.{All-pop}
 use Rattle.acc_runtime.specs.Drills.{IsWorked, first_fault}

@@ -1,0 +1,10 @@
+pub mod Halving
+pub mod Tall
+pub mod Steps
+pub mod Ends
+pub mod Whole
+pub mod Within
+pub mod Beside
+pub mod Avl
+pub mod Kept
+pub mod Found

@@ -1,0 +1,41 @@
+use Rattle.std.proofs.Common.{◌≡◌, ℕ, ◌+◌, ◌-◌, ◌*◌, ◌/◌, ◌^◌, ◌<◌, ◌≤◌, get_or, sym, ap, arith, add-one}
+use Rattle.acc_ordered.proofs.Halving.{halved, passed_up, failed_down}
+use Rattle.acc_ordered.specs.declared.entries.Entry.{Entry}
+use Rattle.acc_ordered.proofs.search.count_below.Goals as goal
+
+abbrev key_in : {T : Type 0} → Entry T → ℕ
+key_in e = e.key
+
+pub tick-requires : goal.tick-requires
+tick-requires g c = let s = c.loop-low.invariant.steps 64 c.loop-low.invariant.small in omega (arith, s.1, c.requires.limit)
+
+-- one step leaves half, and is counted once
+step : (steps new d s t : ℕ) → 0 < s → 2 * t ≤ s → new ≡ steps + 1 → (e : ℕ) × (steps + e ≡ d) × (s < 2 ^ e) → (e : ℕ) × (new + e ≡ d) × (t < 2 ^ e)
+step steps new d s t some half is (e, sum, less) = let h = halved s t e some half less in (h.0, omega (arith, h.1), h.2)
+
+pub loop-low-preserved-then-row-middle : goal.loop-low-preserved-then-row-middle
+loop-low-preserved-then-row-middle g c =
+    let is : key_in (get_or c.args.row.now (c.loop-low.low + (c.loop-low.high - c.loop-low.low) / 2) c.index-row-middle.result) ≡ c.index-row-middle.result.key = sym (ap key_in c.index-row-middle.is) in
+    record {
+      order = omega arith;
+      bound = omega arith;
+      small = c.loop-low.invariant.small;
+      passed = rw (add-one (c.loop-low.low + (c.loop-low.high - c.loop-low.low) / 2)) (passed_up key_in c.args.key c.args.row.now (c.loop-low.low + (c.loop-low.high - c.loop-low.low) / 2) c.index-row-middle.result c.requires.rising (omega arith) (omega (arith, is)));
+      failed = c.loop-low.invariant.failed;
+      steps = λ d long. step c.loop-low.comparisons c.tick.new.self (c.args.comparisons.now + d) (c.loop-low.high - c.loop-low.low) (c.loop-low.high - (c.loop-low.low + (c.loop-low.high - c.loop-low.low) / 2 + 1)) (omega arith) (omega arith) c.tick.ensures (c.loop-low.invariant.steps d long);
+    }
+
+pub loop-low-preserved : goal.loop-low-preserved
+loop-low-preserved g c =
+    let is : key_in (get_or c.args.row.now (c.loop-low.low + (c.loop-low.high - c.loop-low.low) / 2) c.index-row-middle.result) ≡ c.index-row-middle.result.key = sym (ap key_in c.index-row-middle.is) in
+    record {
+      order = omega arith;
+      bound = omega arith;
+      small = c.loop-low.invariant.small;
+      passed = c.loop-low.invariant.passed;
+      failed = failed_down key_in c.args.key c.args.row.now (c.loop-low.low + (c.loop-low.high - c.loop-low.low) / 2) c.index-row-middle.result c.requires.rising (omega arith) (omega (arith, is));
+      steps = λ d long. step c.loop-low.comparisons c.tick.new.self (c.args.comparisons.now + d) (c.loop-low.high - c.loop-low.low) ((c.loop-low.low + (c.loop-low.high - c.loop-low.low) / 2) - c.loop-low.low) (omega arith) (omega arith) c.tick.ensures (c.loop-low.invariant.steps d long);
+    }
+
+pub returns-clause-comparisons : goal.returns-clause-comparisons
+returns-clause-comparisons g c = λ d long. let s = c.loop-low.invariant.steps d long in omega (arith, s.1)

@@ -204,7 +204,8 @@ pointer_lives : (view 0 (ran_with limits attached_twice).world.state).records.at
 unfolding ran_with
 pointer_lives = (refl, refl, refl, refl)
 
--- a full trace in which a pointer is not attached whose target is mapped: it is legal apart from bytes, and not with them
+-- a full trace in which a pointer is not attached whose target is mapped: it is legal apart from bytes, and not with
+-- them
 abbrev left_unattached : List Event
 left_unattached = events.HostWritten 0x1008 8 (0x10 ∷ 0x10 ∷ replicate 6 0) ∷ events.EnteredData 0 (item enter.Copyin a ∷ item enter.Copyin b ∷ []) None (did_of (Born 1 0x1_0000_0000) ∷ did_of (Born 2 0x1_0000_0010) ∷ [])
     ∷ events.EnteredData 0 (pointer_item enter.Attach ∷ []) None (did_of Nothing ∷ []) ∷ []
@@ -282,7 +283,8 @@ two_leased : leased 0 (loan 1 1 1 2) (view 0 (ran_with limits (HostWrite 0x1000 
 unfolding ran_with
 two_leased = refl
 
--- ---- a full trace stores the bytes of a write and of a section that comes back; a lent block keeps a copy, from which its lease may differ in the section alone
+-- ---- a full trace stores the bytes of a write and of a section that comes back; a lent block keeps a copy, from which
+-- its lease may differ in the section alone
 
 abbrev full_trace : Limits
 full_trace = record limits { full = true }
@@ -317,7 +319,8 @@ abbrev full_queue_lent : List (Call Leased)
 full_queue_lent = point_to 0x20 ∷ enter_of [] ∷ enter_data_of (item enter.Copyin a ∷ []) ∷ update_later 4 (item ToSelf a ∷ item ToSelf a ∷ []) ∷ exit_later 4 (item exit.Copyout a ∷ []) ∷ Lend 1 a ∷ []
 
 refused_where_lent :
-    -- a wait makes the first transfer of its queue, which is of a free block, and the second one, of a lent block; a step only one
+    -- a wait makes the first transfer of its queue, which is of a free block, and the second one, of a lent block; a
+    -- step only one
     refusals (enter_of [] ∷ enter_data_of (item enter.Copyin a ∷ item enter.Copyin b ∷ []) ∷ update_later 2 (item ToSelf b ∷ item ToSelf a ∷ []) ∷ Lend 1 a ∷ Do (Wait 0 (Some 2)) ∷ Do (Wait 0 None) ∷ Do (Step 0 2) ∷ Do (Step 0 2) ∷ gather 1 1 0 16 zeros ∷ Do (Wait 0 (Some 2)) ∷ [])
     ≡ fine 4 ++ Some (Lent 1) ∷ Some (Lent 1) ∷ None ∷ Some (Lent 1) ∷ None ∷ None ∷ []
     -- where section and pointer lie is told before; that the queue is full after

@@ -1,4 +1,5 @@
--- Over every legal history of several devices: each device's records stay sound, and its counters are counts over its own events.
+-- Over every legal history of several devices: each device's records stay sound, and its counters are counts over its
+-- own events.
 use Rattle.std.proofs.Common.{ℕ, zero, suc, ◌≡◌, ◌+◌, ◌<◌, ◌≤◌, refl, sym, ◌∙◌, ap, subst, Bool, true, false, List, [], ◌∷◌, length, arith}
 use Rattle.std.specs.Prelude.{◌==◌, fold, sum_by, replicate, slice_index_or}
 use Rattle.std.proofs.lemmas.List.Sums.{sum_by-cons}

@@ -36,7 +36,8 @@ memories_kept blocks memories = filter (λ m. list_any (λ b. b.number == m.bloc
 abbrev pub without_memory : ℕ → List Memory → List Memory
 without_memory block memories = filter (λ m. not (m.block == block)) memories
 
--- ---- transfers: they copy the section but for the bytes of attached pointers, and every other byte stays (the standard leaves attached pointers in a transfer undefined; here they stay)
+-- ---- transfers: they copy the section but for the bytes of attached pointers, and every other byte stays (the
+-- standard leaves attached pointers in a transfer undefined; here they stay)
 
 -- the address is one of those that are copied
 abbrev pub is_moved : Section → ℕ → List Attachment → ℕ → Bool

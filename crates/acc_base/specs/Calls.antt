@@ -1,4 +1,5 @@
--- A call on a table: its refusal, or its event with the world after it. A world is a history and what it led to on all devices.
+-- A call on a table: its refusal, or its event with the world after it. A world is a history and what it led to on all
+-- devices.
 use Rattle.std.specs.Prelude.{ℕ, ◌+◌, nat_le, Bool, List, [], ◌∷◌, ◌++◌, length, unwrap_or, Result, Ok, ⊤}
 use Rattle.acc_base.specs.Words.{Section, Directive, Call, Event, Fault}
 use Rattle.acc_base.specs.declared.directives.Directive.TheVariants.{Enter, Exit}
@@ -10,7 +11,8 @@ use Rattle.acc_base.specs.Loans.{Leased}
 use Rattle.acc_base.specs.Judge.{Verdict, Makes, few_items, device_named, directive_verdict, host_write_event, lend_event, gather_event}
 use Rattle.acc_base.specs.Devices.{Whole, view, new_whole, open_regions, device_of_region, after_on, recorded_whole}
 
--- what a table had when its trace was last made empty: everything but bytes, with full traces the bytes of all memories too, and how many events had led there
+-- what a table had when its trace was last made empty: everything but bytes, with full traces the bytes of all memories
+-- too, and how many events had led there
 pub record Base : Type 0 where
   pub state : Whole
   pub events : ℕ

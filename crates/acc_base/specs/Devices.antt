@@ -1,4 +1,5 @@
--- The devices of a table: each has records, open regions and block memories of its own; host memory and the numbers of the next region and the next loan are there once. A directive sees one device's view, which is a state.
+-- The devices of a table: each has records, open regions and block memories of its own; host memory and the numbers of
+-- the next region and the next loan are there once. A directive sees one device's view, which is a state.
 use Rattle.std.specs.Prelude.{ℕ, ◌==◌, List, [], ◌∷◌, map, filter, fold, replicate, sum_by, slice_index_or, slice_set, length, Bool, true, is_some, unwrap_or, position}
 use Rattle.acc_base.specs.Words.{Event}
 use Rattle.acc_base.specs.declared.events.Event.TheVariants.{Entered, Left, EnteredData, ExitedData, Updated, Waited, Stepped, HostWritten, Lent, Gathered}

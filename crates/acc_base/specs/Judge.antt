@@ -89,7 +89,8 @@ verdict_of d (Update device items if_present queue) s dids = Makes (events.Updat
 verdict_of d (Wait device queue) s dids = Makes (events.Waited d queue (length (steps_of queue s.records.queues)))
 verdict_of d (Step device queue) s dids = step_verdict d queue (head_of queue s.records.queues)
 
--- the first refusal of a directive on a device, in that device's view, or what it comes to: an unknown region is told first, then an unknown queue, and then its items, or the transfers that it makes, in the order in which they act
+-- the first refusal of a directive on a device, in that device's view, or what it comes to: an unknown region is told
+-- first, then an unknown queue, and then its items, or the transfers that it makes, in the order in which they act
 unfoldable pub directive_verdict : Limits → ℕ → Directive → State → Result Verdict Fault
 directive_verdict l d directive s = do
   tasks ← tasks_of directive s.register
@@ -113,7 +114,8 @@ abbrev pub own_device : ℕ → Option ℕ → Result ⊤ Fault
 own_device d None = Ok tt
 own_device d (Some named) = refuse_if (not (named == d)) (NoDevice named)
 
--- what planning a directive for the device of these limits answers: too many items are told first, and then another device
+-- what planning a directive for the device of these limits answers: too many items are told first, and then another
+-- device
 unfoldable pub plan_of : Limits → Directive → State → Result Verdict Fault
 plan_of l directive s = do
   few_items directive

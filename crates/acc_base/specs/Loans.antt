@@ -1,11 +1,13 @@
--- Loans: the blocks whose bytes are out in a lease, and which lease brings one back (OpenACC 3.3, sections 2.5, compute constructs, and 2.6, data environment).
+-- Loans: the blocks whose bytes are out in a lease, and which lease brings one back (OpenACC 3.3, sections 2.5, compute
+-- constructs, and 2.6, data environment).
 use Rattle.std.specs.Prelude.{ℕ, Bool, false, not, ◌&&◌, if◌then◌else◌, nat_lt, ◌==◌, List, [], ◌∷◌, Option, None, Some, find, filter, is_some, option_map, unwrap_or, Result, Ok, ⊤}
 use Rattle.acc_base.specs.Words.{Loan, Block, Transfer, Fault}
 use Rattle.acc_base.specs.declared.faults.Fault.TheVariants.{Lent}
 use Rattle.acc_base.specs.Results.{◌>>◌, refuse_if}
 use Rattle.acc_base.specs.Blocks.{block_at}
 
--- what a lease holds: the device of its loan and the loan's serial number, the number of the block, the place of the section's first byte in the block, the section's length, and the bytes of the whole block
+-- what a lease holds: the device of its loan and the loan's serial number, the number of the block, the place of the
+-- section's first byte in the block, the section's length, and the bytes of the whole block
 pub record Leased : Type 0 where
   pub device : ℕ
   pub serial : ℕ

@@ -1,4 +1,5 @@
--- Queued transfers are made: the first of a queue, or all of one queue or of all of them (OpenACC 3.3, section 2.16 and the wait directive).
+-- Queued transfers are made: the first of a queue, or all of one queue or of all of them (OpenACC 3.3, section 2.16 and
+-- the wait directive).
 use Rattle.std.specs.Prelude.{ℕ, suc, ◌&&◌, nat_le, List, [], ◌∷◌, ◌++◌, length, filter, replicate, Option, Some, None, is_none, option_map}
 use Rattle.std.specs.List.{flat_map}
 use Rattle.acc_base.specs.Words.{Block, Ended, Transfer}

@@ -1,4 +1,5 @@
--- What an event asked and did, and what it leaves of the records and the register. It reads the event alone, and no bytes.
+-- What an event asked and did, and what it leaves of the records and the register. It reads the event alone, and no
+-- bytes.
 use Rattle.std.specs.Prelude.{ℕ, ◌-◌, Bool, List, [], ◌∷◌, map, reverse, Option, Some, None, unwrap_or}
 use Rattle.acc_base.specs.Words.{Section, Item, RegionClause, EnterClause, ExitClause, UpdateClause, Transfer, Loan, Range, Holding, Task, Aim, Step}
 use Rattle.acc_base.specs.Words.{Did, Event}

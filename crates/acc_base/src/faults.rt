@@ -14,7 +14,7 @@ use std::fmt;
 /// name, and each field with its value, as `14 DeviceFull item 0 need 32`.
 #[derive(Clone, Copy, Debug, PartialEq, Eq)]
 pub enum Fault {
-    /// No memory could be had for the call.
+    /// There was no memory for the call.
     Memory,
     /// A limit of the configuration is out of its bounds.
     BadConfig,

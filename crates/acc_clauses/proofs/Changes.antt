@@ -1,4 +1,5 @@
--- The parts were changed so: the state that they come to, and the room that was taken. And two changes, one after the other.
+-- The parts were changed so: the state that they come to, and the room that was taken. And two changes, one after the
+-- other.
 use Rattle.std.proofs.lemmas.Bool.Decides.{nat_tests}
 use Rattle.std.proofs.Common.{ℕ, ◌≡◌, ◌+◌, ◌≤◌, refl, sym, ◌∙◌, ap, List, [], ◌++◌, length, arith, append_assoc, length-append, subst}
 use Rattle.acc_base.specs.Records.{State}

@@ -1,4 +1,5 @@
--- What the marks of blocks tell: how many queued transfers name each, and whether its mapping has ended. They do after each change.
+-- What the marks of blocks tell: how many queued transfers name each, and whether its mapping has ended. They do after
+-- each change.
 use Rattle.std.proofs.Common.{ℕ, ◌≡◌, ◌+◌, ◌*◌, ◌^◌, ◌<◌, ◌≤◌, refl, sym, ◌∙◌, ap, false, cond, List, [], ◌∷◌, ◌++◌, length, Option, Some, arith}
 use Rattle.std.specs.Prelude.{◌==◌, map, is_none, IsSome, option_map}
 use Rattle.std.specs.List.{AllByRecursion, AllZip}

@@ -50,6 +50,7 @@ aim_before (ExitRegion holding) step w = judge_release holding.aim w
 aim_before (ExitData finalize item queue) step w = detach_if finalize (pointer_aimed (ExitData finalize item queue) step) w
 aim_before _ step w = aims.None
 
--- neither the block in which a task detaches a pointer before its step, nor the one that the step needs is lent, and its queue has room
+-- neither the block in which a task detaches a pointer before its step, nor the one that the step needs is lent, and
+-- its queue has room
 abbrev pub step_free : Task → Step → Aim → ℕ → Records → Result ⊤ Fault
 step_free task step before queue_cap w = not_lent (block_aimed before) w.loans >> (not_lent (block_needed task step) w.loans >> room_for queue_cap (queue_of task) (transfer_of task step w.ranges) w.queues)

@@ -16,7 +16,8 @@ use Rattle.acc_queues.specs.Queued.{QueuesState}
 use Rattle.acc_clauses.specs.declared.environments.Environment.{Environment}
 use Rattle.acc_clauses.specs.declared.numbers.Numbers.{Numbers}
 
--- what can be taken in without memory: births of blocks of these lengths, in this order; so many ranges; so many regions; so many holdings of the next region; so many attachment counters; and so many transfers in each queue
+-- what can be added without allocating: births of blocks of these lengths, in this order; so many ranges; so many
+-- regions; so many holdings of the next region; so many attachment counters; and so many transfers in each queue
 pub record Room : Type 0 where
   pub births : List ℕ
   pub ranges : ℕ
@@ -89,7 +90,8 @@ pub record AreContentsSound (c : Contents) : Type 0 where
   pub records : AreRecordsSound c.limits c.state.records
   pub memories : AreMemoriesSized c.limits c.state
 
--- the limits lie within their bounds, the parts fit one another, what they come to is sound, and the blocks that are lent are counted: fewer than the number of the next loan
+-- the limits lie within their bounds, the parts fit one another, what they come to is sound, and the blocks that are
+-- lent are counted: fewer than the number of the next loan
 pub record ArePartsSound (l : Limits) (x : WithHost) (next : Numbers) : Type 0 where
   pub bounds : IsWithinBounds l
   pub sized : AreSizedBy l x

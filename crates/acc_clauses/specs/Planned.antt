@@ -32,7 +32,8 @@ abbrev pub in_written_order : Directive → List Did → List Did
 in_written_order (directives.Exit number) dids = reverse dids
 in_written_order _ dids = dids
 
--- the plan is what judging the directive in this state found: what it asks, at most 64 tasks; that there is the queue that it names; what its tasks do; and that no transfer that it makes is of a block that is lent
+-- the plan is what judging the directive in this state found: what it asks, at most 64 tasks; that there is the queue
+-- that it names; what its tasks do; and that no transfer that it makes is of a block that is lent
 pub record IsPlanOf (l : Limits) (d : Directive) (s : State) (p : Planned) : Type 0 where
   pub asked : asked_of d s.register ≡ Ok p.tasks
   pub few : length p.tasks ≤ 64

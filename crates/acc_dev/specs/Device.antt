@@ -15,9 +15,9 @@ use Rattle.acc_base.specs.Accounts.{EachPair, AreBlocksApart}
 use Rattle.acc_dev.specs.declared.copying.SavedBlock.{SavedBlock}
 use Rattle.acc_dev.specs.Marks.{Mark, new_mark, is_ended_at, mark_changed, with_pin, without_pin, with_end, without_mark}
 
--- where device memory begins and how long it is, the blocks by rising number, the bytes and the mark of each in step with them, the
--- loans by rising block, how many blocks were ever born, and the lengths of births for which room was made, in the order
--- of its use
+-- where device memory begins and how long it is, the blocks by rising number, the bytes and the mark of each in step
+-- with them, the loans by rising block, how many blocks were ever born, and the lengths of births for which room was
+-- made, in the order of its use
 pub record DeviceState : Type 0 where
   pub memory : Section
   pub blocks : List Block
@@ -55,7 +55,8 @@ pub record IsUnchanged (old new : DeviceState) : Type 0 where
 abbrev pub birth_place : DeviceState → ℕ → Option ℕ
 birth_place d len = place_for d.memory d.blocks (rounded len)
 
--- the new device is the old one with a block more: it has the next number, lies at the least place, has these bytes, and no transfer names it
+-- the new device is the old one with a block more: it has the next number, lies at the least place, has these bytes,
+-- and no transfer names it
 pub record IsBornWith (old new : DeviceState) (len : ℕ) (bytes : List ℕ) (block : ℕ) : Type 0 where
   pub place : ℕ
   pub place_is : birth_place old len ≡ Some place
@@ -140,7 +141,7 @@ pub record IsTakenOut (old new : DeviceState) (loan : Loan) (keep : Bool) : Type
   pub births : new.births ≡ old.births
   pub room : new.room ≡ old.room
 
--- a loan is refused of a block that is lent, and else for want of memory for the copy that is to be kept
+-- a loan is refused of a block that is lent, and else for lack of memory for the copy that is to be kept
 abbrev pub IsLoanRefused : DeviceState → ℕ → Bool → Fault → Type 0
 IsLoanRefused d block keep fault = ((is_lent block d.loans ≡ true) × (fault ≡ Lent block)) ⊎ ((is_lent block d.loans ≡ false) × (keep ≡ true) × (fault ≡ OutOfMemory))
 

@@ -1,4 +1,5 @@
--- What keeps a block of a device: its mapping, and the queued transfers that name it (OpenACC 3.3, section 2.16, asynchronous behavior).
+-- What keeps a block of a device: its mapping, and the queued transfers that name it (OpenACC 3.3, section 2.16,
+-- asynchronous behavior).
 use Rattle.std.specs.Prelude.{ℕ, ◌+◌, ◌-◌, ◌^◌, ◌≡◌, ◌<◌, ◌≤◌, Bool, true, false, not, ◌&&◌, if◌then◌else◌, nat_le, ◌==◌, List, Option, filter, find, unwrap_or, option_map}
 use Rattle.acc_base.specs.declared.mappings.Block.{Block}
 use Rattle.acc_base.specs.declared.mappings.Ended.{Ended}

@@ -10,7 +10,7 @@ abbrev pub ◌>>=◌ : {A B : Type 0} → Result A ScriptFault → (A → Result
 (Ok x) >>= f = f x
 (Err kind) >>= f = Err kind
 
--- what a function that takes no memory returned, seen by a view, is what reading gives
+-- what a function that allocates nothing returned, seen by a view, is what reading gives
 abbrev pub Reads : {X Y : Type 0} → (X → Y) → Result X ScriptFault → Result Y ScriptFault → Type 0
 Reads view (Ok x) read = read ≡ Ok (view x)
 Reads view (Err kind) read = read ≡ Err kind
@@ -25,13 +25,13 @@ abbrev pub wants : {Y : Type 0} → (Y → Bool) → Result Y ScriptFault → Bo
 wants needs (Ok y) = needs y
 wants needs (Err kind) = false
 
--- a function that takes memory met the fault that reading meets, or want of memory where reading gives what needs
+-- a function that takes memory met the fault that reading meets, or lack of memory where reading gives what needs
 -- memory
 abbrev pub Meets : {Y : Type 0} → (Y → Bool) → Trouble → Result Y ScriptFault → Type 0
 Meets needs trouble.Memory read = wants needs read ≡ true
 Meets needs (trouble.Line kind) read = read ≡ Err kind
 
--- a function that takes memory returned, seen by a view, what reading gives, or want of memory where that needs memory
+-- a function that takes memory returned, seen by a view, what reading gives, or lack of memory where that needs memory
 abbrev pub Gives : {X Y : Type 0} → (Y → Bool) → (X → Y) → Result X Trouble → Result Y ScriptFault → Type 0
 Gives needs view (Ok x) read = read ≡ Ok (view x)
 Gives needs view (Err trouble) read = Meets needs trouble read

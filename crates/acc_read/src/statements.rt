@@ -70,7 +70,7 @@ pub enum Statement<'a> {
 ///
 /// # Errors
 ///
-/// The first fault of the line; want of memory where it has none, and its items or bytes found no memory.
+/// The first fault of the line; lack of memory where it has none, and its items or bytes found no memory.
 #[tactic(auto, unfolding(crate::specs::Statements::line_at))]
 pub fn line_at<'a>(
     alloc: Global,

@@ -1,5 +1,5 @@
-//! Two thousand turns in no order on two devices, with full traces: a replay of the stored events alone has the bytes of all
-//! memories.
+//! Two thousand turns in no order on two devices, with full traces: a replay of the stored events alone has the bytes
+//! of all memories.
 
 use crate::replay::Replay;
 use crate::same;

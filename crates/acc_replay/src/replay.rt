@@ -316,7 +316,8 @@ impl Replay {
         }
     }
 
-    /// A new block is filled, and gets the bytes of the host where the clause copies them. Then the pointer is attached.
+    /// A new block is filled, and gets the bytes of the host where the clause copies them. Then the pointer is
+    /// attached.
     fn enter(
         &mut self,
         alloc: Global,
@@ -358,8 +359,8 @@ impl Replay {
         Ok(())
     }
 
-    /// The pointer is detached. Then the bytes of a block whose mapping has ended go to the host where the clause copies
-    /// them.
+    /// The pointer is detached. Then the bytes of a block whose mapping has ended go to the host where the clause
+    /// copies them.
     fn leave(
         &mut self,
         section: Section,

@@ -36,8 +36,8 @@ pub enum Around {
     Region,
     /// All threads wait for the one of the number.
     Meeting(usize),
-    /// So they do, and the array is lent in a region of the caller's, so the first thread cannot exit. The counters are at
-    /// their limit then, so the other cannot enter.
+    /// So they do, and the array is lent in a region of the caller's, so the first thread cannot exit. The counters are
+    /// at their limit then, so the other cannot enter.
     Loan(usize),
     /// Nothing, and the trace of one thread that makes one round is read behind it.
     Trace,
@@ -240,8 +240,8 @@ impl<
         }
     }
 
-    /// A drill that memory was refused for ended there. What is not in its caller's allowance is open, and the caller made
-    /// all events.
+    /// A drill that memory was refused for ended there. What is not in its caller's allowance is open, and the caller
+    /// made all events.
     fn end_by_refusal(&mut self, whole: u64) -> Fault {
         let (regions, events, _) = self.state();
         let (allowance, _, made) = self.shares();

@@ -35,7 +35,8 @@ const COPY: Deed = Deed::Update(UpdateClause::ToSelf, false, Some(3));
 const QUEUED: &str =
     "Updated { device: 0, items: List { items: [Item { clause: ToSelf, section: Section { start: 4096, len: 16 }, pointer: None }] }, if_present: false, queue: Some(3), did: List { items: [Did { step: Moved { block: 1 }, aim: None }] } }";
 
-/// Two copies wait in a queue. One word makes both, though words before and behind it are of devices that are not there.
+/// Two copies wait in a queue. One word makes both, though words before and behind it are of devices that are not
+/// there.
 const ONE_DEVICE: [Service; 2] = [
     Service {
         before: &[

@@ -265,7 +265,7 @@ told w (Do (directives.Enter device items)) =
 told w (Do directive) = ticket_told w (Do directive) _ (other_told w (Do directive) (rest_of w (Do directive)) (rest_tells w (Do directive)))
 told w call = ticket_told w call _ (other_told w call (rest_of w call) (rest_tells w call))
 
--- where a call is refused for want of a ticket or a region, there are none left
+-- where a call is refused for lack of a ticket or a region, there are none left
 pub refused_short : (w : World) (call : Call Leased) (fault : Fault) → IsRefusal w call fault → is_shortage fault ≡ true → HasNoneLeft w call
 refused_short w call fault refusal short = by (judge w call) (told w call) refusal
   where

@@ -291,7 +291,7 @@ pub done_either : (l : Limits) (base : Base) {E : Type 0} (x : Devices) (new : C
 done_either l base x new call e trace longer (Ok reply) set on h m = made_done l base x new call e reply trace longer set on h m
 done_either l base x new call e trace longer (Err back) set on h m = tt
 
--- and may be refused for want of memory
+-- and may be refused for lack of memory
 pub made_wanted : (w : World) (call : Call Leased) (e : Event) → judge w call ≡ Ok (Makes e) → IsRefusal w call Memory
 made_wanted w call e h = rw h refl
 

@@ -80,7 +80,7 @@ IsLeaseJudged w lease result = MatchResult result (λ _. (gather_event (limits_o
 abbrev pub planned_verdict : Directive → Planned → Contents → Verdict
 planned_verdict d p c = verdict_of c.limits.number d c.state p.dids
 
--- the fault is what a judgement refuses, or want of memory where it refuses nothing and there is something to do
+-- the fault is what a judgement refuses, or lack of memory where it refuses nothing and there is something to do
 abbrev pub MayBeToldOf : Result Verdict Fault → Fault → Type 0
 MayBeToldOf judged fault = MatchResult judged (λ verdict. MayWantMemory verdict fault) (λ refusal. fault ≡ refusal)
 

@@ -48,7 +48,7 @@ pub record IsReadSoFar {C : Type 0} (rest whole : Result (List (Item C)) Refusal
 pub refused_so : {C : Type 0} (r : Result (List (Item C)) Refusal) (refusal : Refusal) → Err refusal ≡ r → IsRead r (Err refusal)
 refused_so r refusal is = subst (λ x. IsRead x (Err refusal)) is refl
 
--- where none is refused, memory may be wanted
+-- where none is refused, memory may be lacking
 pub wanted_so : {C : Type 0} (r : Result (List (Item C)) Refusal) (items : List (Item C)) → Ok items ≡ r → IsRead r (Err (OfTable Memory))
 wanted_so r items is = subst (λ x. IsRead x (Err (OfTable Memory))) is (inr refl)
 

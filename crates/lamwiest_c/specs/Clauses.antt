@@ -74,7 +74,7 @@ abbrev pub items_from : {C : Type 0} → (ℕ → Option C) → ℕ → List Raw
 items_from numbered place [] = Ok []
 items_from numbered place (item ∷ items) = item_then (numbered item.clause) place item (items_from numbered (place + 1) items)
 
--- they were read so; where none is refused, memory may be wanted for their list
+-- they were read so; where none is refused, memory may be lacking for their list
 abbrev pub IsRead : {C : Type 0} → Result (List (Item C)) Refusal → Result (List (Item C)) Refusal → Type 0
 IsRead (Err refusal) result = result ≡ Err refusal
 IsRead (Ok items) result = (result ≡ Ok items) ⊎ (result ≡ Err (OfTable Memory))

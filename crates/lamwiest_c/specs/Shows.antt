@@ -15,7 +15,7 @@ IsPut text old new T =
     (T (Ok (length text)) × (new ≡ text ++ drop (length text) old))
     (T (Err (BadLength (length text))) × (new ≡ old))
 
--- the same, where memory may be wanted for the text before that
+-- the same, where memory may be lacking for the text before that
 abbrev pub IsShown : List ℕ → List ℕ → List ℕ → Told → Type 0
 IsShown text old new T = (T (Err (OfTable Memory)) × (new ≡ old)) ⊎ IsPut text old new T
 

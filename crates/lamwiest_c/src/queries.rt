@@ -1,4 +1,4 @@
-//! What a table tells of itself. No query takes memory, changes anything or is refused; where there is nothing to find,
+//! What a table tells of itself. No query allocates, changes anything or is refused; where there is nothing to find,
 //! what stands in the place of the answer stays. What is asked of a device is asked of the one that a table of C has.
 
 ghost use Rattle.std.specs.Prelude.{◌≡◌, Some, length, option_map};
@@ -75,7 +75,7 @@ fn raw_mapped(mapped: Mapped) -> RawMapped
     }
 }
 
-/// Puts what was found into its place, and answers the status.
+/// Puts what was found into its place, and returns the status.
 pub fn found<T: Copy + Drop>(answer: Option<T>, place: &mut T) -> u32
     ensures { IsFoundOrAbsent answer result place.old place.new }
 {

@@ -32,7 +32,7 @@ pub enum Refusal {
         /// The place of the item in the array, counted from 0.
         item: u64,
     },
-    /// The length of a buffer is not the one that is wanted.
+    /// The length of a buffer is not the one that is expected.
     BadLength {
         /// The length that is wanted, in bytes.
         len: u64,

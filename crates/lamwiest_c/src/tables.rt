@@ -83,8 +83,8 @@ pub extern "C" fn lw_limits_default(limits: &mut RawLimits)
     };
 }
 
-/// Puts a new table into a handle: nothing is mapped, no region is open, and host memory is zero. What the handle had is
-/// ended. Where it is refused, the handle stays as it is.
+/// Puts a new table into a handle: nothing is mapped, no region is open, and host memory is zero. What the handle had
+/// is ended. Where it is refused, the handle stays as it is.
 #[unsafe(no_mangle)]
 pub extern "C" fn lw_table_new(
     alloc: Global,

@@ -196,7 +196,7 @@ fn run_twice(rt: &(impl Abort + AllocGlobal), play: &mut Play, ask: Ask) -> Resu
     }
 }
 
-/// Makes a call, and answers what a turn would be answered.
+/// Makes a call, and returns what a turn would be answered.
 fn make(rt: &impl Abort, play: &mut Play, call: Call, spares: bool) -> Answer {
     let answer = if spares {
         play.table.apply(call)

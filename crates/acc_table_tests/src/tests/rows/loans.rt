@@ -27,7 +27,8 @@ const REGION: Ask = Enter(&[]);
 
 const LEND_MIDDLE: Ask = Lend(1, (A + 4, 8));
 
-/// What another table does. Its lease is of the same loan, a longer block, a second loan, a second block, the first bytes, or the last ones.
+/// What another table does. Its lease is of the same loan, a longer block, a second loan, a second block, the first
+/// bytes, or the last ones.
 const OF_THE_BLOCK: &[Ask] = &[ARRAY, REGION, Lend(1, (A, 16))];
 
 const OF_A_LONGER_BLOCK: &[Ask] = &[EnterData(&[(Copyin, A, 32)]), REGION, Lend(1, (A, 16))];

@@ -1,5 +1,5 @@
--- What contracts see of the attachment counters of a device, and what a detachment leaves of one (OpenACC 3.3, sections
--- 2.6.8 and 2.7.2).
+-- What contracts see of the attachment counters of a device, and what a detachment leaves of one (OpenACC 3.3, 2.6.8
+-- and 2.7.2).
 use Rattle.std.specs.Prelude.{ℕ, ◌^◌, ◌<◌, ◌≤◌, Bool, ◌||◌, if◌then◌else◌, ◌==◌, List}
 use Rattle.std.specs.List.{AllByRecursion}
 use Rattle.acc_base.specs.declared.attachments.Attachment.{Attachment}

@@ -1,4 +1,4 @@
--- What holds of every world that accepted calls lead to: on each device ranges and blocks are apart and account for
+-- What holds of every world that accepted calls lead to. On each device ranges and blocks are apart and account for
 -- every used byte, and every counter is what the history gives.
 use Rattle.std.specs.Prelude.{ℕ, ◌+◌, ◌%◌, ◌≡◌, ◌<◌, ◌≤◌, ◌⊎◌, true, false, List, [], ◌∷◌, length, Some, IsSome, Ok, ⊤}
 use Rattle.std.specs.List.{AllByRecursion, AllZip}
@@ -199,7 +199,7 @@ pub record IsReplay (l : Limits) (events : List Event) (from to : Whole) : Type 
   pub made : AreMadeIn l events from
   pub leads : replayed events from ≡ to
 
--- some legal events, as many as the base says, lead to it from a new table, on each device its own events alone, and
+-- some legal events, as many as the base says, lead to it from a new table. On each device its own events alone do, and
 -- with full traces bytes included
 pub record IsFounded (l : Limits) (base : Base) : Type 0 where
   pub events : List Event
@@ -228,7 +228,7 @@ IsReplayed w = w.limits.full ≡ true → IsReplay w.limits w.history.trace w.hi
 
 -- ---- what holds of a device, and of a world
 
--- a device's view is sound, its counters are those of its past, and it has what its own events alone lead to, whatever
+-- a device's view is sound, and its counters are those of its past. It has what its own events alone lead to, whatever
 -- happened on other devices
 pub record IsAccountedOn (l : Limits) (h : History) (d : ℕ) (w : Whole) : Type 0 where
   pub sound : IsSound (limits_on d l) (view d w)

@@ -1,5 +1,5 @@
--- Pointers: what one holds, what it is to be aimed at, what attaching it does, and what attaching and detaching leave
--- of the bytes (OpenACC 3.3, sections 2.6.8 and 2.7.2).
+-- Pointers (OpenACC 3.3, sections 2.6.8 and 2.7.2): what one holds, what it is to be aimed at, and what attaching it
+-- does. And what attaching and detaching leave of the bytes.
 use Rattle.std.specs.Prelude.{ℕ, ◌+◌, ◌-◌, if◌then◌else◌, ◌==◌, List, map, take, drop, Option, Some, None, unwrap_or, option_map, slice_index, Result, Ok}
 use Rattle.std.specs.Int.{to_le_bytes, from_le_bytes, w64}
 use Rattle.acc_base.specs.Words.{Block, Found, Aim, Fault}
@@ -40,7 +40,7 @@ address_in _ blocks = None
 abbrev pub device_address_of : ℕ → Records → Option ℕ
 device_address_of address w = address_in (where_is (only address) w.ranges) w.blocks
 
--- what a pointer is to be aimed at: the device address of the address that the host's pointer holds; no range has the
+-- what a pointer is to be aimed at: the device address of the address that the host's pointer holds. No range has the
 -- address of a null pointer
 abbrev pub target_of : ℕ → State → Option ℕ
 target_of pointer s = device_address_of (host_pointer pointer s) s.records

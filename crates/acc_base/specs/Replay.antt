@@ -1,4 +1,4 @@
--- The bytes that a call brought, as its stored event tells them: full traces have all of them.
+-- The bytes that a call brought, from its stored event: full traces have all of them.
 use Rattle.std.specs.Prelude.{ℕ, List, [], unwrap_or, option_map}
 use Rattle.acc_base.specs.Words.{Loan, Event}
 use Rattle.acc_base.specs.declared.events.Event.TheVariants.{HostWritten, Gathered}

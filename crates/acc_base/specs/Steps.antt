@@ -25,8 +25,8 @@ abbrev pub is_action : Step → Bool
 is_action Nothing = false
 is_action _ = true
 
--- the pointer that an item attaches or detaches beside its step: the one that it names, where the step did something or
--- the clause names a pointer alone
+-- the pointer that an item attaches or detaches beside its step. It is the one that the item names, where the step did
+-- something or the clause names a pointer alone
 abbrev pub pointer_aimed : Task → Step → Option ℕ
 pointer_aimed (Enter counter item queue) step = if is_attach item.clause || is_action step then pointer_of (Enter counter item queue) else None
 pointer_aimed (ExitData finalize item queue) step = if is_detach item.clause || is_action step then pointer_of (ExitData finalize item queue) else None
@@ -55,7 +55,7 @@ judge_row l n (ExitRegion holding) w = leave_row holding.block (recounted (ExitR
 judge_row l n (ExitData finalize item queue) w = checked l n (ExitData finalize item queue) >> exit_row (where_is (section_of (ExitData finalize item queue)) w.ranges) (recounted (ExitData finalize item queue)) n w
 judge_row l n (Move if_present item queue) w = in_host l n item.section >> move_row (where_is item.section w.ranges) if_present n
 
--- then what it needs is not lent, first for its pointer and then for its step, and the queue of its transfer, if it has
+-- then what it needs is not lent, first for its pointer and then for its step. And the queue of its transfer, if it has
 -- one, has room for it
 unfoldable pub judge_step : Limits → ℕ → Task → Records → Result Step Fault
 judge_step l n task w = do

@@ -77,8 +77,8 @@ pub record CanCount (counter_max : ℕ) (task : Task) (block : ℕ) (ranges : Li
   pub there : IsSome (range_of block ranges)
   pub below : IsBelowLimit counter_max task block ranges
 
--- the section can be copied between host memory and a block: it lies in host memory, which is not too large, and in the
--- range that is mapped to the block, which is there and, unless it is lent, as long as that range
+-- the section can be copied between host memory and a block. It lies in host memory, which is not too large, and in the
+-- range that is mapped to the block. The block is there and, unless it is lent, as long as that range
 pub record CanMove (section : Section) (block : ℕ) (s : State) : Type 0 where
   pub in_host : is_within section (host_memory (length s.host)) ≡ true
   pub end : end_of section ≤ 2 ^ 40
@@ -89,7 +89,7 @@ pub record CanMove (section : Section) (block : ℕ) (s : State) : Type 0 where
   pub len : is_lent block s.records.loans ≡ false → length (bytes_of block s.memories) ≡ range.section.len
 
 -- the section can be copied between host memory and a block that is not lent, whose bytes are those from a host address
--- on: it lies in host memory, and among them
+-- on. It lies in host memory, and among them
 pub record CanCopy (section : Section) (block start : ℕ) (s : State) : Type 0 where
   pub in_host : is_within section (host_memory (length s.host)) ≡ true
   pub end : end_of section ≤ 2 ^ 40
@@ -139,8 +139,8 @@ pub record CanBear (counter_max : ℕ) (memory section : Section) (block place :
   pub no_loan : is_lent block s.records.loans ≡ false
   pub counted : 0 < counter_max
 
--- a counter of the block's range can fall, for which no task that enters asks; and the mapping ends by it exactly if
--- the step says so
+-- a counter of the block's range can fall, which no task that enters asks. The mapping ends by it exactly if the step
+-- says so
 pub record CanDrop (task : Task) (block : ℕ) (ended : Bool) (s : State) : Type 0 where
   pub move : CanMove (section_of task) block s
   pub not_entry : IsEnter task → ⊥
@@ -151,7 +151,7 @@ pub record CanAttach (pointer block : ℕ) (s : State) : Type 0 where
   pub move : CanMove (pointer_at pointer) block s
   pub free : is_lent block s.records.loans ≡ false
 
--- the counter of a pointer in a block can fall: it is above zero, and the block, which is not lent, has the pointer's
+-- the counter of a pointer in a block can fall. It is above zero, and the block, which is not lent, has the pointer's
 -- eight bytes
 pub record CanDetach (pointer block : ℕ) (s : State) : Type 0 where
   pub some : 0 < count_at block pointer s.records.attached
@@ -343,8 +343,8 @@ pub record CanOpen (holdings : ℕ) (c : Contents) : Type 0 where
   pub new : region_at c.state.register.next c.state.register.regions ≡ None
   pub room : HasRegionRoom 1 holdings c.room
 
--- what a directive needs of the register and its room, where a region that it enters has so many holdings, and of the
--- transfers that it makes
+-- what a directive needs of the register and its room, and of the transfers that it makes. A region that it enters has
+-- so many holdings
 abbrev pub CanFinish : Directive → ℕ → Contents → Type 0
 CanFinish (directives.Enter device items) holdings c = CanOpen holdings c
 CanFinish (directives.Exit number) holdings c = IsSome (region_at number c.state.register.regions)

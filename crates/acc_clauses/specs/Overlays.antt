@@ -1,4 +1,4 @@
--- What a plan knows of the records after its tasks: what each look-up answers then, from what it answers before them.
+-- What a plan knows of the records after its tasks: what each look-up returns then, from what it returns before them.
 use Rattle.std.specs.Prelude.{ℕ, ◌+◌, ◌-◌, ◌≡◌, ◌⊎◌, Bool, true, false, if◌then◌else◌, ◌==◌, ◌&&◌, ◌≤◌, length, List, [], ◌∷◌, ◌++◌, map, fold, Option, Some, None, Ok}
 use Rattle.std.specs.List.{AllByRecursion, list_all, list_any}
 use Rattle.acc_clauses.specs.Words.{Section, Range, Counters, Found, Task, Step, Did, Aim}

@@ -57,7 +57,7 @@ without_mark block marks = filter (λ m. not (m.block == block)) marks
 abbrev pub ended_blocks_from : ℕ → List Mark → List Block → List Block
 ended_blocks_from from marks blocks = filter (λ b. is_ended_at b.number marks && nat_le from b.place) blocks
 
--- what is told of one
+-- what a query says of one
 abbrev pub ended_told : List Mark → Block → Ended
 ended_told marks b = record { place = b.place; size = size_of b; pins = pins_at b.number marks }
 

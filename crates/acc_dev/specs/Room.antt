@@ -9,7 +9,7 @@ use Rattle.acc_dev.specs.declared.devices.Device.TheInside.{Inside}
 abbrev pub room_ready : Inside → List ℕ
 room_ready d = map (λ v. vec_capacity v) d.ready.items
 
--- there are not too many, each vector is empty, and for each there is room in the holes, the slots, the index and the
+-- there are not too many, and each vector is empty. For each there is room in the holes, the slots, the index and the
 -- tree of the blocks that have ended
 pub record HasRoom (d : Inside) : Type 0 where
   pub few : length d.ready.items ≤ 2 ^ 16

@@ -26,7 +26,7 @@ pub trait Subject: Drop {
     fn answers(&mut self, alloc: Global, row: &Self::Row) -> Result<bool, Fault>;
 }
 
-/// Whether an answer is the one wanted. A refusal for lack of memory is handed on.
+/// Whether an answer is the expected one. A refusal for lack of memory is handed on.
 pub fn is_as_wanted<T: PartialEq + Copy>(
     answer: Result<T, Fault>,
     wanted: Result<T, Fault>,
@@ -86,7 +86,7 @@ fn each_call_answers_its_row(rt: HostRuntime) -> Result<(), Fail> {
     Ok(())
 }
 
-/// Where a growth is refused the call is made once more, and returns its row then.
+/// Where a growth is refused the call is made once more, and answers its row then.
 #[test]
 fn each_call_answers_its_row_after_a_refused_growth(rt: HostRuntime) -> Result<(), Fail> {
     play_all(&rt, rt.alloc(), 1)?;

@@ -58,7 +58,7 @@ pub const STRUCTURED: u64 = 234;
 /// Where the dynamic counter of a row of host memory begins.
 pub const DYNAMIC: u64 = 313;
 
-/// Where a row of the device tells that its block is lent, or its mapping has ended.
+/// Where a row of the device says that its block is lent, or its mapping has ended.
 pub const STATE: u64 = 97;
 
 /// Where the address of a row of the device begins.

@@ -49,7 +49,7 @@ struct Attached {
     count: u64,
 }
 
-/// All memories, as events told one after the other give them.
+/// All memories, as events give them one after the other.
 #[derive(Drop)]
 pub struct Replay {
     /// The bytes of host memory.
@@ -64,7 +64,7 @@ pub struct Replay {
     attached: Vec<Attached>,
     /// How often a pointer was aimed at a new target; at the same one again; detached once; and at once.
     pub aims: [u64; 4],
-    // The device of the event that is told.
+    // The device of the event that is replayed.
     device: u64,
 }
 
@@ -495,7 +495,7 @@ impl Replay {
         self.loans.retain(|loan| loan.block != block);
     }
 
-    /// Does what an event tells.
+    /// Does what an event says.
     pub fn tell(&mut self, alloc: Global, event: &Event) -> Result<(), AllocError> {
         self.device = event.device();
         match event {

@@ -14,7 +14,7 @@ use std::sync::ledger::Ledger;
 use std::test::Fail;
 use std::thread::Threads;
 
-/// A call, what it answers, and what the trace ends with then where that is a new event. In a counted trace the lists
+/// A call, what it returns, and what the trace ends with then where that is a new event. In a counted trace the lists
 /// of bytes are empty.
 pub type Row = (Deed, Result<u64, Fault>, &'static str);
 

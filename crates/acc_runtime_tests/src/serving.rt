@@ -1,4 +1,4 @@
-//! A worker that is told which queues to serve.
+//! A worker that receives which queues to serve.
 
 use crate::actors::{Actor, Deed};
 use crate::gates::Watch;
@@ -13,7 +13,7 @@ use std::sync::Wait;
 use std::sync::ledger::Ledger;
 use std::test::Fail;
 
-/// What a worker is told and does.
+/// What a worker receives and does.
 #[derive(Clone, Copy)]
 pub struct Service {
     /// What is done before.

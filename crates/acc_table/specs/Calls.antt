@@ -1,4 +1,4 @@
--- What a call may do, and what it answers.
+-- What a call may do, and the reply to it.
 use Rattle.std.specs.Prelude.{◌≡◌, MatchResult}
 use Rattle.acc_clauses.specs.Words.{Call, Event, Fault}
 use Rattle.acc_base.specs.declared.events.Event.TheVariants as events
@@ -12,7 +12,7 @@ use Rattle.acc_base.specs.Judge.{Verdict, Makes, Idle, leased}
 use Rattle.acc_table.specs.declared.calls.Reply.{Reply}
 use Rattle.acc_table.specs.declared.calls.Reply.TheVariants as replies
 
--- the answer to an event, by its device's view before: a region's number, a wait's count, or a lease with the block's
+-- the reply to an event, by its device's view before: a region's number, a wait's count, or a lease with the block's
 -- bytes
 abbrev pub reply_of : Event → State → Reply
 reply_of (events.Entered device number items did) s = replies.Entered number

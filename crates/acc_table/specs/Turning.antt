@@ -39,7 +39,7 @@ pub record IsTurnRefused (w : World) (leases : List Leased) (turn : Turn) (fault
   pub same : next ≡ w
   pub same_leases : kept ≡ leases
 
--- what comes of a turn before it is answered
+-- the outcome of a turn before its answer is listed
 abbrev pub IsTurnTaken : World → List Leased → Turn → Result Reply Fault → World → List Leased → Type 0
 IsTurnTaken w leases turn (Ok reply) next kept = IsTurnMade w leases turn reply next kept
 IsTurnTaken w leases turn (Err fault) next kept = IsTurnRefused w leases turn fault next kept

@@ -142,7 +142,7 @@ pub enum Check {
 pub enum Line {
     /// The call is done, with nothing more to say.
     Does(Ask),
-    /// The call is done, and wants no memory: it is not made once more where memory is refused.
+    /// The call is done, and needs no memory: it is not made once more where memory is refused.
     Spares(Ask),
     /// The call is done, and returns the number of the region that it enters, or of the loan that it makes.
     Gives(Ask, u64),

@@ -63,7 +63,7 @@ queue_of queue = if queue == NO_QUEUE_GIVEN then None else Some queue
 abbrev pub item_of : {C : Type 0} → C → RawItem → Item C
 item_of clause item = record { clause = clause; section = record { start = item.start; len = item.len }; pointer = pointer_of item.pointer }
 
--- an item before others, if its number is that of a clause; its place is told where it is not
+-- an item before others, if its number is that of a clause; where it is not, the refusal has its place
 abbrev pub item_then : {C : Type 0} → Option C → ℕ → RawItem → Result (List (Item C)) Refusal → Result (List (Item C)) Refusal
 item_then None place item others = Err (BadClause place)
 item_then (Some clause) place item (Err refusal) = Err refusal

@@ -1,5 +1,5 @@
-//! What a table tells of itself. No query allocates, changes anything or is refused; where there is nothing to find,
-//! what stands in the place of the answer stays. What is asked of a device is asked of the one that a table of C has.
+//! The queries of a table. None allocates, changes anything or is refused. Where there is nothing to find, the place of
+//! the result keeps what it has. A query of a device is for the one that a table of C has.
 
 ghost use Rattle.std.specs.Prelude.{◌≡◌, Some, length, option_map};
 ghost use Rattle.acc_base.specs.Blocks.{used_bytes};

@@ -112,7 +112,7 @@ pub extern "C" fn lw_table_end(alloc: Global, table: &mut Handle)
 }
 
 /// Makes what the table has its base, and empties the stored trace, so that there is room in it again. It is no event,
-/// and every query answers as before. Where it is done, `folded` is how many events the trace had.
+/// and every query returns what it did before. Where it is done, `folded` is how many events the trace had.
 #[unsafe(no_mangle)]
 pub extern "C" fn lw_rebase(
     alloc: Global,

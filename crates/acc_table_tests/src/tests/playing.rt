@@ -153,7 +153,7 @@ fn keep(rt: &impl Abort, leases: &mut Vec<Lease>, lease: Lease) {
     }
 }
 
-/// The answer of a turn whose call is answered so.
+/// The answer to a turn whose call has this outcome.
 fn answer_of(rt: &impl Abort, reply: Reply, leases: &mut Vec<Lease>) -> Answer {
     let (number, count) = match reply {
         Reply::Done => (0, 0),
@@ -196,7 +196,7 @@ fn run_twice(rt: &(impl Abort + AllocGlobal), play: &mut Play, ask: Ask) -> Resu
     }
 }
 
-/// Makes a call, and returns what a turn would be answered.
+/// Makes a call, and returns what the answer to a turn would be.
 fn make(rt: &impl Abort, play: &mut Play, call: Call, spares: bool) -> Answer {
     let answer = if spares {
         play.table.apply(call)

@@ -1,4 +1,4 @@
-//! The life of an array, and what the queries tell of it.
+//! The life of an array, and what the queries return of it.
 
 use crate::language::Ask::{EnterData, ExitData, Update, UpdateIfPresent, Write};
 use crate::language::Check::{

@@ -165,7 +165,7 @@ pub const ROWS: &[Row] = &[
     },
 ];
 
-/// What is counted over all devices, and what is told of one that is not there.
+/// What is counted over all devices, and what queries return of one that is not there.
 pub const MANY_ROWS: &[Row] = &[
     Row {
         name: "a device that is not there is told behind too many items, and before an unknown queue and each item",

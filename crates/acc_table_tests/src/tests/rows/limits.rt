@@ -1,4 +1,4 @@
-//! Limits: each holds to the last, and a refusal of the limit is told in its turn.
+//! Limits: each holds to the last, and its refusal comes in its turn.
 
 use crate::language::Ask::{Back, Enter, EnterData, Exit, ExitData, Lend, Update, Write};
 use crate::language::Check::{Counted, Events, Host, Present, TicketBook, Used};

@@ -18,7 +18,7 @@ const SHORT: Limits = Limits {
     ..WIDE
 };
 
-/// A write of no bytes wants no memory but room in the trace.
+/// A write of no bytes needs no memory but room in the trace.
 const NO_BYTES: Ask = Write(A, &[]);
 
 /// The rows.

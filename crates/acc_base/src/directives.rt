@@ -14,7 +14,7 @@ pub enum Directive {
     Enter {
         /// The number of the device, from 0 on.
         device: u64,
-        /// The items of its clauses.
+        /// The items of its data clauses, in written order.
         items: List<Item<RegionClause>>,
     },
     /// Exit from an open data region: the end of its `data` construct (OpenACC 3.3, section 2.6.5). It acts on the
@@ -27,7 +27,7 @@ pub enum Directive {
     EnterData {
         /// The number of the device, from 0 on.
         device: u64,
-        /// The items of its clauses.
+        /// The items of its data clauses, in written order.
         items: List<Item<EnterClause>>,
         /// The `async` clause (OpenACC 3.3, section 2.16): the number of the queue into which the copies of its items
         /// are put. `None` where each is made at once. Counters, mappings and pointers change at once in any case.
@@ -37,7 +37,7 @@ pub enum Directive {
     ExitData {
         /// The number of the device, from 0 on.
         device: u64,
-        /// The items of its clauses.
+        /// The items of its data clauses, in written order.
         items: List<Item<ExitClause>>,
         /// The `finalize` clause: the dynamic counter of each range that an item names becomes zero, and does not fall
         /// by one.
@@ -49,7 +49,7 @@ pub enum Directive {
     Update {
         /// The number of the device, from 0 on.
         device: u64,
-        /// The items of its clauses.
+        /// The items of its data clauses, in written order.
         items: List<Item<UpdateClause>>,
         /// The `if_present` clause: a section that is absent is passed over, and not refused.
         if_present: bool,

@@ -114,7 +114,7 @@ impl Lease {
         &self.bytes[self.offset..self.offset + self.len]
     }
 
-    /// All the bytes of the block.
+    /// All the bytes of the block, those outside of the section too.
     pub fn block_bytes(&self) -> &[u8]
         ensures value { result.now ≡ self.now.bytes }
         ensures laws { IsLoan self.now }

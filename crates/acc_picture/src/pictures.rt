@@ -26,7 +26,7 @@ pub enum Caption<'a> {
     End,
     /// Behind the line of a number, with its statement.
     Line {
-        /// The number.
+        /// The line's number in the script, from 1.
         number: u64,
         /// The statement.
         text: &'a [u8],

@@ -13,16 +13,16 @@ pub const WIDTH: u64 = 830;
 /// The left edge of the bars.
 pub const BAR_X: u64 = 130;
 
-/// The width of a bar.
+/// The width of a bar, in pixels: that of the whole memory.
 pub const BAR_WIDTH: u64 = 690;
 
-/// The height of a bar.
+/// The height of a bar, in pixels.
 pub const BAR_HEIGHT: u64 = 16;
 
 /// The upper edge of the first row.
 pub const ROWS_Y: u64 = 116;
 
-/// The height of a row.
+/// The height of a row, in pixels.
 pub const ROW_HEIGHT: u64 = 18;
 
 /// How far a row stands below the one before.

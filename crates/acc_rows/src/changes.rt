@@ -288,7 +288,7 @@ pub fn take_out<T: Copy>(
     }
 }
 
-/// Writes the value of the entry at a place.
+/// Gives the entry at a place another value. Its key stays, so no entry moves.
 pub fn write<T: Copy>(rows: &mut Vec<Vec<Entry<T>>>, place: Place, value: T)
     requires { IsTaken rows.old.items place }
     ensures entries { (entry : Entry T) → slice_get (side_by_side rows.old.items) (index_of rows.old.items place) ≡ Some entry → side_by_side rows.new.items ≡ set (side_by_side rows.old.items) (index_of rows.old.items place) (record entry { value = value }) }

@@ -30,7 +30,7 @@ pub type Drilling = (
 /// What goes on around the work of a drill's threads.
 #[derive(Clone, Copy)]
 pub enum Around {
-    /// Nothing.
+    /// The drill is alone on its runtime.
     Nothing,
     /// The array is mapped before, and the caller is in a region over it.
     Region,

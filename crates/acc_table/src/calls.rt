@@ -72,7 +72,7 @@ pub enum Turn {
     HostWrite {
         /// The first host address.
         addr: u64,
-        /// The bytes.
+        /// The bytes to write from there on.
         bytes: List<u8>,
     },
     /// Lend the block of a section in an open data region (OpenACC 3.3, section 2.5, compute constructs).

@@ -46,7 +46,7 @@ pub struct RawMapped {
     pub lent: u64,
 }
 
-/// A truth as a number.
+/// 1 for yes and 0 for no, as C reads them.
 fn number_of_bool(truth: bool) -> u64
     ensures { result ≡ number_of_bool truth }
 {

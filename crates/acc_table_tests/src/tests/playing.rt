@@ -19,7 +19,7 @@ pub struct Play {
     pub limits: Limits,
     /// The number of the line that is played, counted from 1.
     pub line: usize,
-    /// Its table.
+    /// The table on which the lines are played.
     pub table: Box<Table>,
     /// The leases that are out.
     pub leases: Vec<Lease>,
@@ -288,7 +288,7 @@ pub fn play_other(
     Ok(())
 }
 
-/// Plays a line.
+/// Makes the call of a line, or asks its queries, and compares.
 fn play_line(rt: &(impl Abort + AllocGlobal), play: &mut Play, line: Line) -> Result<(), Fault> {
     play.line = play.line.saturating_add(1);
     match asked(line) {

@@ -37,7 +37,7 @@ const MANY: &[(EnterClause, u64, u64)] = &[(Copyin, A, 1); 65];
 /// What another table does, which lends the first block of a device.
 const LENDING: &[Ask] = &[EnterData(&[(Copyin, A, 16)]), Enter(&[]), Lend(1, (A, 16))];
 
-/// The rows.
+/// Each shows what devices have alone or together.
 pub const ROWS: &[Row] = &[
     Row {
         name: "an array is mapped on each device by itself, at addresses of that device",

@@ -14,7 +14,7 @@ const NO_TICKET: Fault = Fault::NoTickets { left: 0 };
 
 const NO_ROOM: Fault = Fault::TraceFull { len: 1 };
 
-/// The rows.
+/// Each shows one limit, met and passed.
 pub const ROWS: &[Row] = &[
     Row {
         name: "one ticket makes one event, and is told before the items are counted",

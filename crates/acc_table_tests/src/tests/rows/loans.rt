@@ -55,7 +55,7 @@ const OF_ITS_END: &[Ask] = &[ARRAY, REGION, Lend(1, (A + 1, 15))];
 /// Two sections of 16 bytes side by side.
 const TWO: &[(EnterClause, u64, u64)] = &[(Copyin, A, 16), (Copyin, A + 16, 16)];
 
-/// The rows.
+/// Each shows what a lent block is refused, or how it comes back.
 pub const ROWS: &[Row] = &[
     Row {
         name: "a block that is lent is neither copied nor let go, and can be entered; its bytes come back with the lease",

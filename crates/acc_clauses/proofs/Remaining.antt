@@ -83,6 +83,6 @@ lens_each l n [] [] w bounds judged = tt
 lens_each l n (t ∷ ts) (d ∷ ds) w bounds judged = grind (arith, nat_tests, lens_each l (suc n) ts ds (act t d w) bounds judged.2, task_says l n t w d.step judged.0)
 lens_each l n _ _ w bounds judged = tt
 
--- and so is none of those that tasks are judged to bear
+-- and so is none of those to which tasks are judged to give birth
 pub lens_fit : (l : Limits) (n : ℕ) (tasks : List Task) (dids : List Did) (w : Records) → IsWithinBounds l → AreJudged l n tasks dids w → All (IsFromOne MEMORY_MAX) (lens_born tasks dids)
 lens_fit l n tasks dids w bounds judged = All-from_recursion (IsFromOne MEMORY_MAX) (lens_born tasks dids) (lens_each l n tasks dids w bounds judged)

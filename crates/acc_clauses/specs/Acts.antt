@@ -67,7 +67,7 @@ abbrev pub IsBelowLimit : ℕ → Task → ℕ → List Range → Type 0
 IsBelowLimit counter_max (Enter counter item queue) block ranges = counter_of counter block ranges < counter_max
 IsBelowLimit counter_max _ block ranges = ⊤
 
--- entry is the one task that bears a block
+-- entry is the one task that gives birth to a block
 abbrev pub IsEnter : Task → Type 0
 IsEnter (Enter counter item queue) = ⊤
 IsEnter _ = ⊥
@@ -200,12 +200,12 @@ CanDo x (Move if_present item queue) did = CanLeave x (Move if_present item queu
 
 -- ---- what a task takes of the room
 
--- the length of the block that a step bears, if it bears one
+-- the length of the block that a step gives birth to, if it does
 abbrev pub birth_of : Task → Step → List ℕ
 birth_of task (Born block place) = (section_of task).len ∷ []
 birth_of task _ = []
 
--- the lengths of the blocks that tasks bear, one after the other
+-- the lengths of the blocks that tasks give birth to, one after the other
 abbrev pub lens_born : List Task → List Did → List ℕ
 lens_born (task ∷ tasks) (did ∷ dids) = birth_of task did.step ++ lens_born tasks dids
 lens_born _ _ = []
@@ -373,7 +373,7 @@ LacksPlanRoom d p room = LacksRoom (lens_born p.tasks p.dids) (regions_entered d
 
 -- ---- what a plan notes
 
--- beside the tasks of a plan stand the lengths of the blocks that they bear, and what a region holds that they enter
+-- beside the tasks of a plan stand the lengths of their new blocks, and what a region holds that they enter
 pub record IsNoted (tasks : List Task) (dids : List Did) (lens : List ℕ) (holdings : List Holding) : Type 0 where
   pub lens_are : lens ≡ lens_born tasks dids
   pub holdings_are : holdings ≡ holdings_by tasks dids

@@ -296,7 +296,7 @@ refused_other w call fault ticket region refusal = go (is_shortage fault) refl
     go false is = refl
     go true is = absurd (some (refused_short w call fault refusal is))
 
--- a call for which a table wants memory is one that makes an event
+-- a call for which a table needs memory is one that makes an event
 pub memory_made : (w : World) (call : Call Leased) → IsRefusal w call Memory → (e : Event) × (judge w call ≡ Ok (Makes e))
 memory_made w call refusal = by (judge w call) refl (told w call) refusal
   where

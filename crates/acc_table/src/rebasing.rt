@@ -39,7 +39,7 @@ impl Table {
     /// Makes what the table has its base, empties the stored trace, and returns how many events that had. So a program
     /// that runs for long need not keep every event. Counts over the history begin at the base's values, and there is
     /// room in the trace again. It is no event and takes no ticket, and every query but [`Table::base`] and
-    /// [`Table::trace`] answers as before. The memory of the trace is kept for the events to come. The base allocates
+    /// [`Table::trace`] returns what it did. The memory of the trace is kept for the events to come. The base allocates
     /// for each range, block, attached pointer, queued transfer, loan and open region. With full traces it also
     /// allocates for the bytes of all memories.
     ///

@@ -38,7 +38,7 @@ fn place_of(leases: &[Lease], serial: u64, bytes: &List<u8>) -> Option<usize>
         .position(|lease| lease.serial() == serial && lease.len() == len)
 }
 
-/// The answer to a turn whose call was replied to so. A lease goes to the end of the list, where there is room for it.
+/// The answer to a turn whose call got this reply. A lease goes to the end of the list, where there is room for it.
 fn answer_to(reply: Reply, leases: &mut Vec<Lease>) -> Answer
     requires room { vec_len leases.old + length (lent_by reply) ≤ vec_capacity leases.old }
     ensures value { result ≡ answer_to reply }

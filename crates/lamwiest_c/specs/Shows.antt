@@ -8,7 +8,7 @@ use Rattle.lamwiest_c.specs.declared.statuses.Refusal.TheVariants.{Ended, BadCla
 use Rattle.lamwiest_c.specs.Answers.{Told}
 
 -- the text is at the front of a buffer that has room for it, and the other bytes stay. A shorter one stays whole. The
--- length of the text is told
+-- text's length goes to C
 abbrev pub IsPut : List ℕ → List ℕ → List ℕ → Told → Type 0
 IsPut text old new T =
     MatchBool (nat_le (length text) (length old))

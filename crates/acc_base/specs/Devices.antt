@@ -140,7 +140,8 @@ unfoldable pub replayed : List Event → Whole → Whole
 replayed [] w = w
 replayed (e ∷ events) w = replayed events (after_told e w)
 
--- what an event leaves of its device, whatever the numbers of the next region and the next loan are: it has its own
+-- what an event leaves of its device, whatever the numbers of the next region and the next loan are, since the event
+-- has its own
 abbrev pub device_layout_left : DeviceLayout → Event → DeviceLayout
 device_layout_left x e =
     let lay : Layout = walk e (record { records = x.records; register = record { regions = x.regions; next = 0; serial = 0 } }) in

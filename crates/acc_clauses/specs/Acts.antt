@@ -139,7 +139,7 @@ pub record CanBear (counter_max : ℕ) (memory section : Section) (block place :
   pub no_loan : is_lent block s.records.loans ≡ false
   pub counted : 0 < counter_max
 
--- a counter of the block's range can fall, which no task that enters asks. The mapping ends by it exactly if the step
+-- a counter of the block's range can fall, by a task that does not enter. The mapping ends by it exactly if the step
 -- says so
 pub record CanDrop (task : Task) (block : ℕ) (ended : Bool) (s : State) : Type 0 where
   pub move : CanMove (section_of task) block s

@@ -61,7 +61,7 @@ pub(crate) fn start_of(present: &Present, block: u64, hint: Hint) -> u64
 }
 
 /// The end of the run of bytes, from the host address `at` on, that are of no attached pointer of the block. It is
-/// where the next such pointer begins, up to seven bytes below `at`, or `end`.
+/// `end`, or where the next attached pointer begins, which may be up to seven bytes below `at`.
 fn run_end(attached: &Attached, block: u64, at: u64, end: u64) -> u64
     requires { at < end }
     ensures { IsRunEnd block attached.now.attached at end result }

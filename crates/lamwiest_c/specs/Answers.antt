@@ -1,4 +1,4 @@
--- The outcome of a call. Each definition is given how C gets it: by the result of a function, or by a status and the
+-- The outcome of a call. Each definition is given how the caller gets it: by the result of a function, or by a status and the
 -- fields of a refusal.
 use Rattle.std.specs.Prelude.{ℕ, ◌≡◌, ◌⊎◌, ◌==◌, Bool, List, [], ◌++◌, length, find, Option, Some, None, Result, Ok, Err, MatchOption}
 use Rattle.std.specs.List.{remove, position_or_len}
@@ -23,7 +23,7 @@ use Rattle.lamwiest_c.specs.Environments.{DataEnvironment}
 abbrev pub section_at : ℕ → ℕ → Section
 section_at start len = record { start = start; len = len }
 
--- how C gets the outcome of a call
+-- how the caller gets the outcome of a call
 abbrev pub Told : Type 1
 Told = Result ℕ Refusal → Type 0
 
@@ -37,7 +37,7 @@ number_in replies.Idle = 0
 
 -- ---- calls that move no lease
 
--- C gets a refusal, and nothing changed; or C gets the number of the reply, and the world is that after the event.
+-- the caller gets a refusal, and nothing changed; or the number of the reply, and the world is that after the event.
 -- Memory may be lacking where there is something to do
 abbrev pub CameOf : World → Call Leased → Result Verdict Fault → Told → World → Type 0
 CameOf w call (Err fault) T v = T (Err (OfTable fault)) × (v ≡ w)
@@ -61,7 +61,7 @@ abbrev pub IsDirected : DataEnvironment → Result Directive Refusal → Told �
 IsDirected e (Err refusal) T v = IsAsked e (Err refusal) T v
 IsDirected e (Ok directive) T v = IsAsked e (Ok (Do directive)) T v
 
--- the world's base is what it had, and C gets how many events that folded; or memory was lacking
+-- the world's base is what it had, and the caller gets how many events that folded; or memory was lacking
 abbrev pub IsRebased : DataEnvironment → Told → DataEnvironment → Type 0
 IsRebased e T v =
     (T (Err (OfTable Memory)) × (v ≡ e))

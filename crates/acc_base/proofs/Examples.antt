@@ -283,7 +283,7 @@ two_leased : leased 0 (loan 1 1 1 2) (view 0 (ran_with limits (HostWrite 0x1000 
 unfolding ran_with
 two_leased = refl
 
--- ---- a full trace stores the bytes of a write and of a section that comes back; a lease differs from the copy in the
+-- ---- a full trace stores the bytes of a write and of a section that comes back. A lease differs from the copy in the
 -- section alone
 
 abbrev full_trace : Limits

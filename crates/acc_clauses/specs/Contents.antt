@@ -16,8 +16,8 @@ use Rattle.acc_queues.specs.Queued.{QueuesState}
 use Rattle.acc_clauses.specs.declared.environments.Environment.{Environment}
 use Rattle.acc_clauses.specs.declared.numbers.Numbers.{Numbers}
 
--- what can be added without allocating. These are births of blocks of these lengths, in this order; so many ranges,
--- regions and attachment counters; so many holdings of the next region; so many transfers in each queue
+-- what can be added without allocating: births of blocks of these lengths, in this order; so many ranges, regions and
+-- attachment counters. And so many holdings of the next region, and so many transfers in each queue
 pub record Room : Type 0 where
   pub births : List ℕ
   pub ranges : ℕ

@@ -18,8 +18,8 @@ use std::marker::Model;
 #[derive(Drop)]
 pub struct Plan {
     pub(crate) draft: Draft,
-    // What was noted of its tasks, in written order: the lengths of new blocks, the holdings of a region that they
-    // enter, and what they do.
+    // What was noted of its tasks, in written order: lengths of new blocks, holdings of a region that they enter, and
+    // what they do.
     pub(crate) lens: ArrayVec<u64, 64>,
     pub(crate) holdings: ArrayVec<Holding, 64>,
     pub(crate) written: ArrayVec<Did, 64>,

@@ -1,5 +1,5 @@
--- The outcome of a call. Each definition is given how the caller gets it: by the result of a function, or by a status and the
--- fields of a refusal.
+-- The outcome of a call. Each definition is given how the caller gets it: as the result of a function, or as a status
+-- and the fields of a refusal.
 use Rattle.std.specs.Prelude.{ℕ, ◌≡◌, ◌⊎◌, ◌==◌, Bool, List, [], ◌++◌, length, find, Option, Some, None, Result, Ok, Err, MatchOption}
 use Rattle.std.specs.List.{remove, position_or_len}
 use Rattle.acc_base.specs.declared.items.Section.{Section}

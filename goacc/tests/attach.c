@@ -1,4 +1,5 @@
-/* Sections 2.6.8 and 2.7.2: an attached pointer leads to the device's bytes, and copies leave it as it is. */
+/* Sections 2.6.8 and 2.7.2: an attached pointer leads to the device's bytes. Copies leave it as it is: OpenACC leaves
+   that open. */
 #include "show.h"
 
 typedef struct list {

@@ -22,7 +22,7 @@ count_left immediate block pointer xs = count_at-attached_by block pointer (deta
     go false e true = rw its_own
     go false e false = rw its_own
 
--- the answer that the counter is zero now is told only where it is
+-- the answer is that the counter is zero now only where it is
 pub zero_left : (immediate : Bool) (block pointer : ℕ) (xs : List Attachment) → left_of immediate (count_at block pointer xs) ≡ left.Zero → count_at block pointer (attached_by (detach immediate block pointer xs) xs) ≡ 0
 zero_left immediate block pointer xs e = count_left immediate block pointer xs ∙ go immediate (count_at block pointer xs == 0) (count_at block pointer xs == 1) refl e
   where

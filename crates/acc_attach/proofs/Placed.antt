@@ -193,11 +193,11 @@ any_found test (x ∷ xs) = go (any_found test xs) (test x)
     go rest true = refl
     go rest false = rest
 
--- so that one alone tells whether an address is skipped
+-- so that one alone decides whether an address is skipped
 skipped_found : (block address : ℕ) (xs : List Attachment) → EachPair IsBefore xs → is_skipped block xs address ≡ is_some (passed (skips block address) (find (is_from block (address - 7)) xs))
 skipped_found block address xs h = any_found (skips block address) xs ∙ ap (λ (o : Option Attachment). is_some o) (find_first block (address - 7) (skips block address) (not_skipped_below block address) (not_skipped_behind block address) xs h)
 
--- the first counter from seven bytes below on tells whether an address is skipped
+-- the first counter from seven bytes below on decides whether an address is skipped
 pub skipped_first : (block address : ℕ) (xs : List Attachment) (a : Attachment) → EachPair IsBefore xs → Some a ≡ find (is_from block (address - 7)) xs → (a.block == block && nat_le a.pointer address) ≡ is_skipped block xs address
 skipped_first block address xs a h e = sym (skipped_found block address xs h ∙ ap (λ o. is_some (passed (skips block address) o)) (sym e) ∙ go (skips block address a) ∙ skips_test block address a (at_or_behind block (address - 7) a (found_first block (address - 7) xs a e)))
   where

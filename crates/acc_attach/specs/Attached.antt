@@ -1,4 +1,5 @@
--- What contracts see of the attachment counters of a device, and what a detachment leaves of one (OpenACC 3.3, sections 2.6.8 and 2.7.2).
+-- What contracts see of the attachment counters of a device, and what a detachment leaves of one (OpenACC 3.3, 2.6.8
+-- and 2.7.2).
 use Rattle.std.specs.Prelude.{ℕ, ◌^◌, ◌<◌, ◌≤◌, Bool, ◌||◌, if◌then◌else◌, ◌==◌, List}
 use Rattle.std.specs.List.{AllByRecursion}
 use Rattle.acc_base.specs.declared.attachments.Attachment.{Attachment}
@@ -7,7 +8,8 @@ use Rattle.acc_base.specs.Accounts.{EachPair}
 use Rattle.acc_attach.specs.declared.left.Left.{Left}
 use Rattle.acc_attach.specs.declared.left.Left.TheVariants as left
 
--- the limit of the counters, those above zero by rising block and pointer, and how many more can be taken in without memory
+-- the limit of the counters, those above zero by rising block and pointer, and how many more can be added without
+-- allocating
 pub record AttachedState : Type 0 where
   pub counter_max : ℕ
   pub attached : List Attachment

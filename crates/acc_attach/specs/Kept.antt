@@ -1,9 +1,10 @@
--- How the attachment counters are kept: each count under a key, which is its block and its pointer in one number. No public clause cites this module.
+-- How the attachment counters are kept: each count under a key, which is its block and its pointer in one number. No
+-- public clause cites this module.
 use Rattle.std.specs.Prelude.{ℕ, ◌+◌, ◌*◌, ◌/◌, ◌%◌, ◌^◌, Bool, not, ◌&&◌, ◌||◌, nat_lt, ◌==◌, List, map}
 use Rattle.acc_base.specs.declared.attachments.Attachment.{Attachment}
 use Rattle.acc_tree.specs.declared.entries.Entry.{Entry}
 
--- the counters, and how many more can be taken in without memory
+-- the counters, and how many more can be added without allocating
 pub record CountersState : Type 0 where
   pub counters : List Attachment
   pub room : ℕ

@@ -16,11 +16,10 @@ use std::marker::Model;
 /// counter is zero until the pointer is attached. Targets are device addresses.
 ///
 /// Contracts see the counters above zero, and beside them for how many more of them there is room. A refused call
-/// leaves the counters as they were. Only `attach` and `reserve` take memory for them, and `copy_counters` for its
-/// answer.
+/// leaves the counters as they were. Only `attach`, `reserve` and `copy_counters` allocate, the last for its result.
 ///
 /// Counters are searched for by halves, and stand in rows of up to 64. One that becomes one or zero moves others of its
-/// row. Where a full row is split, or a row becomes empty or is joined with the next, the list of rows moves too: that
+/// row. The list of rows moves too where a full row is split, or a row becomes empty or is joined with the next. That
 /// grows with the number of counters.
 #[derive(Drop)]
 pub struct Attached {
@@ -43,8 +42,8 @@ impl Model for Attached {
 }
 
 impl Attached {
-    /// No pointer is attached. `counter_max` is the greatest value of a counter, from 1 to 4,294,967,295. It takes no
-    /// memory.
+    /// No pointer is attached. `counter_max` is the greatest value of a counter, from 1 to 4,294,967,295. It allocates
+    /// nothing.
     pub fn new(alloc: Global, counter_max: u64) -> Attached
         requires some { 1 ≤ counter_max }
         requires limit { counter_max < 2 ^ 32 }
@@ -57,8 +56,8 @@ impl Attached {
         }
     }
 
-    /// What holds of the counters at all times: they stand by rising block and pointer, and each is from one to the
-    /// limit, which is below 2^32.
+    /// What holds of the counters at all times. They stand by rising block and pointer. Each is from one to the limit,
+    /// which is below 2^32.
     pub fn laws(&self)
         ensures { AreAttached self.now.counter_max self.now.attached }
     {
@@ -72,11 +71,11 @@ impl Attached {
         self.counters.count(block, pointer)
     }
 
-    /// Attaches a pointer of a block to a target (OpenACC 3.3, section 2.7.2): where it is attached and aimed there
-    /// already, its counter rises by one, and else its counter becomes one.
+    /// Attaches a pointer of a block to a target (OpenACC 3.3, section 2.7.2). Where it is attached and aimed there
+    /// already, its counter rises by one. Else its counter becomes one.
     ///
-    /// `pointer` is its host address, `target` is the device address to aim it at, and `now` is the device address that
-    /// its eight bytes on the device hold. Whoever calls this writes those bytes. It takes at most one from the room.
+    /// `pointer` is its host address, and `target` the device address to aim it at. `now` is the device address that
+    /// its eight bytes on the device hold. The caller writes those bytes. The call takes at most one from the room.
     ///
     /// # Errors
     ///
@@ -104,7 +103,7 @@ impl Attached {
     }
 
     /// As [`Attached::attach`], where the counter has not reached its limit and there is room for one more if it is
-    /// zero: it takes no memory and is not refused. It takes at most one from the room.
+    /// zero. So it allocates nothing and is not refused. It takes at most one from the room.
     pub fn attach_reserved(&mut self, block: u64, pointer: u64, target: u64, now: u64) -> Aim
         requires room { count_at block pointer self.old.attached ≡ 0 → 1 ≤ self.old.spare }
         requires not_full { IsOk (attach self.old.counter_max 0 block pointer target now self.old.attached) }
@@ -125,8 +124,8 @@ impl Attached {
         }
     }
 
-    /// The counter of a pointer of a block becomes one, as where it is aimed at another target, where there is room for
-    /// one more if the counter is zero. It takes no memory, and at most one from the room.
+    /// Sets the counter of a pointer of a block to one, as where it is aimed at another target. There is room for one
+    /// more if the counter is zero. It allocates nothing, and takes at most one from the room.
     pub fn aim_reserved(&mut self, block: u64, pointer: u64)
         requires room { count_at block pointer self.old.attached ≡ 0 → 1 ≤ self.old.spare }
         ensures attached { self.new.attached ≡ with_count block pointer 1 self.old.attached }
@@ -140,7 +139,7 @@ impl Attached {
         }
     }
 
-    /// The counter of an attached pointer of a block rises by one, where it has not reached its limit.
+    /// Raises the counter of an attached pointer of a block by one. It has not reached its limit.
     pub fn aim_again(&mut self, block: u64, pointer: u64)
         requires some { 0 < count_at block pointer self.old.attached }
         requires below { count_at block pointer self.old.attached < self.old.counter_max }
@@ -152,8 +151,8 @@ impl Attached {
         self.counters.set(block, pointer, count + 1);
     }
 
-    /// Detaches a pointer of a block (OpenACC 3.3, section 2.7.2): its counter falls by one, or stays zero. `pointer` is
-    /// its host address. Whoever calls this writes the pointer's bytes on the device where the counter became zero.
+    /// Detaches a pointer of a block (OpenACC 3.3, section 2.7.2): its counter falls by one, or stays zero. `pointer`
+    /// is its host address. The caller writes the pointer's bytes on the device where the counter became zero.
     pub fn detach(&mut self, block: u64, pointer: u64) -> Left
         ensures left { result ≡ left_of false (count_at block pointer self.old.attached) }
         ensures attached { self.new.attached ≡ attached_by (detach false block pointer self.old.attached) self.old.attached }
@@ -182,7 +181,7 @@ impl Attached {
         Left::Zero
     }
 
-    /// No pointer of a block is attached any longer, as where the block is freed.
+    /// Sets the counters of all pointers of a block to zero, as where the block is freed.
     pub fn forget(&mut self, block: u64)
         ensures attached { self.new.attached ≡ without_attachments block self.old.attached }
         ensures counter_max { self.new.counter_max ≡ self.old.counter_max }
@@ -193,16 +192,17 @@ impl Attached {
 
     // ---- transfers
 
-    /// Whether a host address is that of one of the eight bytes of an attached pointer of a block, which no transfer
-    /// touches. A pointer may reach past the last `u64`.
+    /// Whether a host address is that of one of the eight bytes of an attached pointer of a block. No transfer touches
+    /// these bytes: that is this project's rule, since OpenACC 3.3 leaves it undefined (end of section 2.6.8). A
+    /// pointer may reach past the last `u64`.
     pub fn is_skipped(&self, block: u64, address: u64) -> bool
         ensures { result ≡ is_skipped block self.now.attached address }
     {
         self.counters.skips(block, address)
     }
 
-    /// The least host address at or above `from` at which an attached pointer of a block begins, so that a transfer goes
-    /// from pointer to pointer. `None` where there is none.
+    /// The least host address at or above `from` at which an attached pointer of a block begins; `None` where there is
+    /// none. By it a transfer goes from pointer to pointer.
     pub fn next_pointer(&self, block: u64, from: u64) -> Option<u64>
         ensures { result ≡ next_pointer block from self.now.attached }
     {
@@ -213,7 +213,7 @@ impl Attached {
 
     /// The counters above zero in a vector of their own, by rising block and pointer. They stay as they are.
     ///
-    /// It takes memory for the answer alone, for exactly so many counters, and goes through them once.
+    /// It allocates for the result alone, exactly so many counters, and goes through them once.
     ///
     /// # Errors
     ///
@@ -227,7 +227,7 @@ impl Attached {
 
     // ---- room
 
-    /// Makes room for so many more counters above zero, so that [`Attached::attach_reserved`] takes no memory.
+    /// Makes room for so many more counters above zero, so that [`Attached::attach_reserved`] allocates nothing.
     ///
     /// # Errors
     ///

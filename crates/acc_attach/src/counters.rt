@@ -43,7 +43,7 @@ fn entry_from(rows: &Rows<u64>, key: u128) -> Option<Entry<u64>>
     }
 }
 
-/// The counter of an entry.
+/// The counter that an entry stands for: its key is the block and the pointer, its value how often that is attached.
 pub fn to_counter(entry: Entry<u64>) -> Attachment
     ensures { result ≡ counter_in entry }
 {

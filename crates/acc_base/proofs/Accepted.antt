@@ -1,4 +1,5 @@
--- What an accepted call finds: a ticket, places in the trace and the register, and a layout in which its event is legal.
+-- What an accepted call finds: a ticket, places in the trace and the register, and a layout in which its event is
+-- legal.
 use Rattle.std.proofs.Common.{ℕ, zero, suc, ◌≡◌, ◌<◌, ◌≤◌, refl, sym, subst, Bool, true, false, List, [], ◌∷◌, length, Option, Some, None, Result, Ok, arith}
 use Rattle.std.specs.Prelude.{nat_lt, IsSome, ⊤}
 use Rattle.std.proofs.lemmas.Bool.{true≢false}
@@ -29,7 +30,9 @@ abbrev pub IsEntryAllowed : ℕ → ℕ → Event → Type 0
 IsEntryAllowed most regions (Entered device number items did) = (length items ≤ 64) × (regions < most)
 IsEntryAllowed most regions _ = ⊤
 
--- what an accepted call's event finds: a ticket, a place in the trace, its device, and a place in the register beside the open regions of all devices; it is legal in the view of its device, the bytes that it brings back are as many as the block has, a full trace tells the bytes that it brought, and its items did what they are judged to do
+-- what an accepted call's event finds: a ticket, a place in the trace, its device, and a place among the open regions
+-- of all devices. It is legal in the view of its device. The bytes that it brings back are as many as the block has,
+-- and a full trace stores the bytes that it brought. Its items did what they are judged to do
 pub record IsAccepted (w : World) (brought : List ℕ) (e : Event) : Type 0 where
   pub tickets : event_count w.history < w.limits.tickets
   pub trace : length w.history.trace < w.limits.trace_cap
@@ -40,7 +43,7 @@ pub record IsAccepted (w : World) (brought : List ℕ) (e : Event) : Type 0 wher
   pub told : w.limits.full ≡ true → bytes_told e (view (device_in e) w.state) ≡ brought
   pub made : IsMadeIn (limits_on (device_in e) w.limits) e (view (device_in e) w.state)
 
--- what a directive, a write, a loan or a lease comes to on a device
+-- the verdict on a directive, a write, a loan or a lease on a device
 pub record IsFor (w : World) (d : ℕ) (brought : List ℕ) (e : Event) : Type 0 where
   pub on : device_in e ≡ d
   pub room : IsEntryAllowed w.limits.regions (open_regions w.state) e
@@ -64,7 +67,8 @@ accepted_for w d brought e tickets trace there h = record {
 at_most : (most n : ℕ) → nat_lt most n ≡ false → n ≤ most
 at_most most n e = grind (arith, nat_tests)
 
--- what the verdict on a directive tells of its event: its device, that an entry finds a place, and that it brings no bytes
+-- what the verdict on a directive says of its event: its device, that an entry finds a place, and that it brings no
+-- bytes
 record IsPlain (most regions d : ℕ) (e : Event) : Type 0 where
   on : device_in e ≡ d
   room : IsEntryAllowed most regions e
@@ -93,7 +97,7 @@ made r e h =
     let found : (x : Event) × (r ≡ Ok x) × (Ok (Makes x) ≡ Ok (Makes e)) = bind_ok r (λ x. Ok (Makes x)) (Makes e) h in
     subst (λ y. r ≡ Ok y) (made_same found.0 e found.2) found.1
 
--- a write tells its bytes
+-- the event of a write has its bytes
 written_told : (full : Bool) (addr : ℕ) (bytes : List ℕ) (s : State) → full ≡ true → bytes_told (written full addr bytes) s ≡ bytes
 written_told true addr bytes s set = refl
 written_told false addr bytes s set = absurd (true≢false (sym set))

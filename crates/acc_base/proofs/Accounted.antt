@@ -127,7 +127,7 @@ replay-append l events more from between to h k = record {
   leads = replayed-append events more from ∙ (ap (replayed more) h.leads ∙ k.leads);
 }
 
--- one event, which tells what its call brought
+-- one event, which stores what its call brought
 replayed-one : (full : Bool) (e : Event) (brought : List ℕ) (w : Whole) → full ≡ true → bytes_told e (view (device_in e) w) ≡ brought → replayed (e ∷ []) w ≡ after_on full e brought w
 unfolding replayed
 replayed-one true e brought w set told = ap (λ bytes. after_on true e bytes w) told

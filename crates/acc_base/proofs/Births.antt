@@ -7,7 +7,7 @@ use Rattle.acc_base.specs.Queues.{head_of}
 use Rattle.acc_base.specs.Steps.{released, act_row, act_step, records_after_birth, records_after_end, with_range_changed}
 use Rattle.acc_base.specs.Waits.{records_made, records_stepped, records_drained}
 
--- a step bears at most one
+-- a step gives birth to at most one
 pub births_most : (task : Task) (step : Step) (w : Records) → (act_step task step w).births ≤ w.births + 1
 unfolding act_step act_row records_after_birth records_after_end released with_range_changed
 births_most task (Dropped k true) w = omega arith
@@ -19,7 +19,7 @@ unfolding act_step act_row records_after_birth records_after_end released with_r
 births_least task (Dropped k true) w = omega arith
 births_least task _ w = omega arith
 
--- transfers that are made bear none
+-- transfers that are made give birth to none
 births-stepped : (q : ℕ) (w : Records) → (records_stepped q w).births ≡ w.births
 unfolding records_stepped released
 births-stepped q w = go (head_of q w.queues)

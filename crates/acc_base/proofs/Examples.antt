@@ -204,7 +204,8 @@ pointer_lives : (view 0 (ran_with limits attached_twice).world.state).records.at
 unfolding ran_with
 pointer_lives = (refl, refl, refl, refl)
 
--- a full trace in which a pointer is not attached whose target is mapped: it is legal apart from bytes, and not with them
+-- a full trace in which a pointer is not attached whose target is mapped: it is legal apart from bytes, and not with
+-- them
 abbrev left_unattached : List Event
 left_unattached = events.HostWritten 0x1008 8 (0x10 ∷ 0x10 ∷ replicate 6 0) ∷ events.EnteredData 0 (item enter.Copyin a ∷ item enter.Copyin b ∷ []) None (did_of (Born 1 0x1_0000_0000) ∷ did_of (Born 2 0x1_0000_0010) ∷ [])
     ∷ events.EnteredData 0 (pointer_item enter.Attach ∷ []) None (did_of Nothing ∷ []) ∷ []
@@ -282,7 +283,8 @@ two_leased : leased 0 (loan 1 1 1 2) (view 0 (ran_with limits (HostWrite 0x1000 
 unfolding ran_with
 two_leased = refl
 
--- ---- a full trace stores the bytes of a write and of a section that comes back; a lent block keeps a copy, from which its lease may differ in the section alone
+-- ---- a full trace stores the bytes of a write and of a section that comes back. A lease differs from the copy in the
+-- section alone
 
 abbrev full_trace : Limits
 full_trace = record limits { full = true }
@@ -306,7 +308,7 @@ full_tells : (view 0 (ran_with full_trace lending_calls).world.state).memories �
 unfolding ran_with
 full_tells = (refl, refl, refl, refl, refl)
 
--- ---- what is told before a block is found lent, and what after
+-- ---- which refusals come before that of a lent block, and which after
 
 -- `a` has a pointer at 0x1008, which the item of `b` attaches
 abbrev aimed_at_b : List (Call Leased)
@@ -317,10 +319,10 @@ abbrev full_queue_lent : List (Call Leased)
 full_queue_lent = point_to 0x20 ∷ enter_of [] ∷ enter_data_of (item enter.Copyin a ∷ []) ∷ update_later 4 (item ToSelf a ∷ item ToSelf a ∷ []) ∷ exit_later 4 (item exit.Copyout a ∷ []) ∷ Lend 1 a ∷ []
 
 refused_where_lent :
-    -- a wait makes the first transfer of its queue, which is of a free block, and the second one, of a lent block; a step only one
+    -- a wait would make both transfers of its queue, of a free and of a lent block; a step makes only the first
     refusals (enter_of [] ∷ enter_data_of (item enter.Copyin a ∷ item enter.Copyin b ∷ []) ∷ update_later 2 (item ToSelf b ∷ item ToSelf a ∷ []) ∷ Lend 1 a ∷ Do (Wait 0 (Some 2)) ∷ Do (Wait 0 None) ∷ Do (Step 0 2) ∷ Do (Step 0 2) ∷ gather 1 1 0 16 zeros ∷ Do (Wait 0 (Some 2)) ∷ [])
     ≡ fine 4 ++ Some (Lent 1) ∷ Some (Lent 1) ∷ None ∷ Some (Lent 1) ∷ None ∷ None ∷ []
-    -- where section and pointer lie is told before; that the queue is full after
+    -- where section and pointer lie is refused before it; a full queue after it
     × refusals (full_queue_lent ++ exit_later 4 (item exit.Copyout a ∷ []) ∷ Do (ExitData 0 (item exit.Copyout a ∷ []) true (Some 4)) ∷ exit_data_of (item exit.Delete (at 0x1008 16) ∷ [])
     ∷ exit_data_of (record { clause = exit.Delete; section = a; pointer = Some 0x1004 } ∷ []) ∷ exit_data_of (record { clause = exit.Delete; section = a; pointer = Some 0x103c } ∷ []) ∷ update_of (item ToSelf (at 0x103f 2) ∷ []) ∷ [])
     ≡ fine 4 ++ Some (QueueFull 4) ∷ None ∷ Some (Lent 1) ∷ Some (Lent 1) ∷ Some (PartlyPresent 0) ∷ Some (Misaligned 0) ∷ Some (OutOfHost 0) ∷ Some (OutOfHost 0) ∷ []
@@ -332,15 +334,15 @@ refused_where_lent :
     ≡ fine 3 ++ Some (Lent 1) ∷ None ∷ Some (Lent 1) ∷ None ∷ Some (Lent 2) ∷ []
     -- only the pointer's own block counts: what it is aimed at may be lent
     × refusals (aimed_at_b ++ Lend 1 b ∷ enter_data_of (pointer_item enter.Attach ∷ []) ∷ exit_data_of (pointer_item exit.Detach ∷ []) ∷ exit_data_of (via exit.Delete b ∷ []) ∷ []) ≡ fine 6 ++ Some (Lent 2) ∷ []
-    -- an item that enters attaches after its step, so a full queue is told before the lent block
+    -- an item that enters attaches after its step, so a full queue is refused before the lent block
     × refusals (full_queue_lent ++ enter_later 4 (via enter.Copyin c ∷ []) ∷ enter_later 5 (via enter.Copyin c ∷ []) ∷ []) ≡ fine 4 ++ Some (QueueFull 4) ∷ None ∷ Some (QueueFull 4) ∷ Some (Lent 1) ∷ []
     -- and so is a full device
     × (ran_with (record limits { device = 32 }) (point_to 0x10 ∷ enter_of [] ∷ enter_data_of (item enter.Copyin a ∷ []) ∷ Lend 1 a ∷ enter_data_of (via enter.Copyin (at 0x1010 17) ∷ []) ∷ enter_data_of (via enter.Copyin b ∷ []) ∷ [])).refused
     ≡ fine 4 ++ Some (DeviceFull 0 32) ∷ Some (Lent 1) ∷ []
-    -- an attachment counter at its limit is told after the lent block
+    -- an attachment counter at its limit is refused after the lent block
     × (ran_with twice_at_most (aimed_at_b ++ enter_data_of (pointer_item enter.Attach ∷ []) ∷ Lend 1 a ∷ enter_data_of (pointer_item enter.Attach ∷ []) ∷ gather 1 1 0 16 (replicate 8 0 ++ to_b) ∷ enter_data_of (pointer_item enter.Attach ∷ []) ∷ [])).refused
     ≡ fine 5 ++ Some (Lent 1) ∷ None ∷ Some (CounterFull 0) ∷ []
-    -- a reference counter at its limit is told before the lent block of the pointer, and without one
+    -- a reference counter at its limit is refused before the lent block of the pointer, and without one
     × (ran_with twice_at_most (point_to 0x00 ∷ enter_of [] ∷ enter_data_of (item enter.Copyin a ∷ item enter.Copyin a ∷ []) ∷ Lend 1 a ∷ enter_data_of (item enter.Copyin a ∷ []) ∷ enter_data_of (via enter.Copyin a ∷ []) ∷ enter_of (item Present a ∷ via Present a ∷ []) ∷ enter_of (item Present a ∷ item Present a ∷ via Present a ∷ []) ∷ [])).refused
     ≡ fine 4 ++ Some (CounterFull 0) ∷ Some (CounterFull 0) ∷ Some (Lent 1) ∷ Some (CounterFull 2) ∷ []
     -- what does nothing to a pointer passes: its target is absent, or it is not attached

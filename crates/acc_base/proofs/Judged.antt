@@ -191,7 +191,8 @@ pub record IsStepFree (l : Limits) (task : Task) (step : Step) (w : Records) : T
   pub needed : not_lent (block_needed task step) w.loans ≡ Ok tt
   pub room : room_for l.queue_cap (queue_of task) (transfer_of task step w.ranges) w.queues ≡ Ok tt
 
--- what the judgement of a step says of the clause tables, of the block in which it detaches a pointer, and of what it needs
+-- what the judgement of a step says of the clause tables, of the block in which it detaches a pointer, and of what it
+-- needs
 pub record IsJudgedStep (l : Limits) (n : ℕ) (task : Task) (w : Records) (step : Step) : Type 0 where
   pub row : judge_row l n task w ≡ Ok step
   pub detached : not_lent (block_detached task step w) w.loans ≡ Ok tt

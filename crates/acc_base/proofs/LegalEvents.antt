@@ -198,7 +198,7 @@ within_block l w loan sound there =
     let at : block_at loan.block w.blocks ≡ Some named.0.0 = subst (λ n. block_at n w.blocks ≡ Some named.0.0) (equal _ _ named.1) named.0.1 in
     rw at (omega (arith, is.within, named.0.2))
 
--- a lease brings a block back that is lent, with as many bytes as the block has, and a full trace tells all of them
+-- a lease brings a block back that is lent, with as many bytes as the block has, and a full trace gives all of them
 pub record IsGathered (l : Limits) (lease : Leased) (s : State) (e : Event) : Type 0 where
   pub event_is : gathered l.full lease ≡ e
   pub legal : IsLegal l e (layout_of s)
@@ -213,7 +213,7 @@ section_recorded : (lease : Leased) (full : Bool) → lease.offset + lease.len �
 section_recorded lease true within = length-section lease within
 section_recorded lease false within = refl
 
--- with a copy that differs in the section alone, its bytes tell those of the lease
+-- with a copy that differs in the section alone, the section's bytes determine those of the lease
 section_over : (lease : Leased) (copy : List ℕ) → lease.offset + lease.len ≤ length lease.bytes → is_kept_outside lease copy ≡ true → overwritten lease.offset (section_bytes lease) copy ≡ lease.bytes
 section_over lease copy within kept =
     let both = and_true _ _ kept in

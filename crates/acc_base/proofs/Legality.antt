@@ -1,4 +1,5 @@
--- What is judged in a state is legal in its records: whether an attachment acts, and what it writes, is all that bytes decide.
+-- What is judged in a state is legal in its records: whether an attachment acts, and what it writes, is all that bytes
+-- decide.
 use Rattle.std.proofs.Common.{ℕ, ◌≡◌, ◌<◌, refl, sym, subst, Bool, true, false, cond, Option, Some, None, Ok, arith}
 use Rattle.std.specs.Prelude.{◌==◌, ◌&&◌, not, nat_le}
 use Rattle.std.proofs.lemmas.Bool.Decides.{nat_tests}

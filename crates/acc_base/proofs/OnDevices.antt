@@ -1,4 +1,5 @@
--- Over every legal history of several devices: each device's records stay sound, and its counters are counts over its own events.
+-- Over every legal history of several devices: each device's records stay sound, and its counters are counts over its
+-- own events.
 use Rattle.std.proofs.Common.{ℕ, zero, suc, ◌≡◌, ◌+◌, ◌<◌, ◌≤◌, refl, sym, ◌∙◌, ap, subst, Bool, true, false, List, [], ◌∷◌, length, arith}
 use Rattle.std.specs.Prelude.{◌==◌, fold, sum_by, replicate, slice_index_or}
 use Rattle.std.proofs.lemmas.List.Sums.{sum_by-cons}
@@ -57,12 +58,12 @@ told_beside l g lay entries exits dynamics le h = record {
   dynamic = h.dynamic;
 }
 
--- what each device's layout was told, with the attachment counters
+-- a device's layout is sound, and its counters are what these functions say, the attachment counters too
 pub record IsToldOn (l : Limits) (lay : Layout) (entries exits dynamics : ℕ → ℕ) (pointers : ℕ → ℕ → ℕ) : Type 0 where
   pub told : IsTold l lay entries exits dynamics
   pub pointed : ArePointersTold pointers lay.records
 
--- it is told by so many events of its own more
+-- the same, where so many events of the device come after what the functions say
 abbrev pub IsToldBy : Limits → Layout → (ℕ → ℕ) → (ℕ → ℕ) → (ℕ → ℕ) → (ℕ → ℕ → ℕ) → List Event → Type 0
 IsToldBy l lay entries exits dynamics pointers events = IsToldOn l lay (λ b. entries b + sum_by (entries_of b) events) (λ b. exits b + sum_by (exits_of b) events) (λ b. fold (dynamic_after b) (dynamics b) events) (λ b pointer. fold (attached_after b pointer) (pointers b pointer) events)
 
@@ -143,7 +144,7 @@ new_is count d = ap (λ (x : DeviceLayout). record { records = x.records; regist
 new_on : (l : Limits) → IsToldOn l new_layout (λ b. 0) (λ b. 0) (λ b. 0) (λ b pointer. count_at b pointer new_layout.records.attached)
 new_on l = let told = new_told l in record { told = told; pointed = own_pointers_told l new_layout.records told.sound }
 
--- a device's layout that is told by its own counters
+-- a device's layout that agrees with its own counters
 abbrev IsToldItself : Limits → Layout → Type 0
 IsToldItself l lay = IsToldOn l lay (λ k. structured_of k lay.records.ranges) (λ k. 0) (λ k. dynamic_of k lay.records.ranges) (λ k pointer. count_at k pointer lay.records.attached)
 
@@ -174,7 +175,7 @@ told_since l h d lay all_of = record {
   pointers = all_of.pointed.there;
 }
 
--- a legal history of all devices leads to sound records on each, and its own events tell all three counters there
+-- a legal history of all devices leads to sound records on each, and its own events give all three counters there
 pub device_told : (l : Limits) (h : History) (w : WholeLayout) (d : ℕ) → IsWithinBounds l → IsHistoryLegal l h w → d < l.devices → d < length w.devices → IsDeviceTold l h d (layout_in d w)
 device_told l h w d bounds history known there =
     let start : WholeLayout = whole_layout_of h.base.state in

@@ -25,7 +25,7 @@ moved_by Dynamic (ExitData finalize item queue) n = if finalize then 0 else n - 
 moved_by counter (Move if_present item queue) n = n
 moved_by _ _ n = n
 
--- the step counts, bears or drops the block
+-- the step counts, gives birth to or drops the block
 abbrev pub names : ℕ → Step → Bool
 names block (Counted k) = k == block
 names block (Born k place) = k == block

@@ -1,4 +1,5 @@
--- A task that was judged keeps the records sound: ranges and blocks stay apart, each range has a block of its own, and no range has both counters zero.
+-- A task that was judged keeps the records sound. Ranges and blocks stay apart, each range has a block of its own, and
+-- no range has both counters zero.
 use Rattle.std.proofs.Common.{ℕ, zero, suc, ◌≡◌, ◌+◌, ◌%◌, ◌<◌, ◌≤◌, refl, sym, ◌∙◌, ap, subst, Bool, true, false, cond, List, [], ◌∷◌, ◌++◌, Option, Some, None, arith}
 use Rattle.std.specs.Prelude.{◌⊎◌, ◌==◌, ◌&&◌, ◌||◌, not, nat_le, unwrap_or, option_map, is_some, length, replicate, IsSome, IfSome, ⊤}
 use Rattle.std.specs.List.{AllByRecursion, list_all}

@@ -1,4 +1,5 @@
--- A legal event keeps the records of its device sound and the numbers of regions rising, and tells both counters of every block.
+-- A legal event keeps the records of its device sound and the numbers of regions rising, and gives both counters of
+-- every block.
 use Rattle.std.proofs.Common.{ℕ, ◌≡◌, ◌+◌, ◌-◌, ◌≤◌, ◌<◌, refl, sym, ◌∙◌, ap, subst, Bool, cond, List, [], ◌∷◌, Option, Some, None, arith}
 use Rattle.std.specs.Prelude.{reverse, unwrap_or, option_map, IsSome, IfSome}
 use Rattle.std.specs.List.{AllByRecursion}

@@ -202,7 +202,7 @@ loaned_told (Lent device region section block serial) w pointers h = record { th
 loaned_told (Gathered device serial block bytes) w pointers h = record { there = h.there; unborn = h.unborn }
 loaned_told _ w pointers h = h
 
--- an event tells the attachment counters of its device
+-- an event gives the attachment counters of its device
 pub event_pointed : (l : Limits) (e : Event) (lay : Layout) (pointers : ℕ → ℕ → ℕ) → IsWithinBounds l → AreRecordsSound l lay.records → IsLegal l e lay → ArePointersTold pointers lay.records
     → ArePointersTold (λ block pointer. attached_after block pointer (pointers block pointer) e) (walk e lay).records
 unfolding walk
@@ -214,7 +214,7 @@ event_pointed l e lay pointers bounds sound legal h =
     = drained_told qs v (λ block pointer. attached_after block pointer (pointers block pointer) e) (tasks_told l 0 tasks (done_in e) lay.records pointers bounds sound legal.judged h) in
     loaned_told e (records_drained qs v) (λ block pointer. attached_after block pointer (pointers block pointer) e) told
 
--- records are told by their own counters
+-- records agree with their own counters
 pub own_pointers_told : (l : Limits) (w : Records) → AreRecordsSound l w → ArePointersTold (λ block pointer. count_at block pointer w.attached) w
 own_pointers_told l w sound = record {
   there = λ block pointer there. refl;

@@ -47,7 +47,7 @@ not_clear s (r ∷ rs) p q e w = ⊎_elim
 in_none : (s : Section) (ranges : List Range) → 0 < s.len → range_around s ranges ≡ None → IsInNone s ranges
 in_none s ranges p e = AllByRecursion-weaker (λ r. is_within s r.section ≡ false) (λ r. ¬ IsWithin s r.section) ranges (λ r h. not_within s r.section p h) (find_none (λ r. is_within s r.section) ranges e)
 
--- a section that is not empty, by what the search for a range around it and the test of all ranges answered
+-- a section that is not empty, by what the search for a range around it and the test of all ranges returned
 placed_by : (s : Section) (ranges : List Range) → 0 < s.len → AllByRecursion (λ (r : Range). 0 < r.section.len) ranges
     → (found : Option Range) → range_around s ranges ≡ found → (is_clear : Bool) → list_all (λ r. is_apart s r.section) ranges ≡ is_clear
     → IsPlacedAt s ranges (found_in s found (cond is_clear Absent Partly))

@@ -1,4 +1,5 @@
--- What holds of every world that accepted calls lead to: on each device ranges and blocks are apart and account for every used byte, and every counter is what the history gives.
+-- What holds of every world that accepted calls lead to. On each device ranges and blocks are apart and account for
+-- every used byte, and every counter is what the history gives.
 use Rattle.std.specs.Prelude.{ℕ, ◌+◌, ◌%◌, ◌≡◌, ◌<◌, ◌≤◌, ◌⊎◌, true, false, List, [], ◌∷◌, length, Some, IsSome, Ok, ⊤}
 use Rattle.std.specs.List.{AllByRecursion, AllZip}
 use Rattle.acc_base.specs.Words.{Section, Range, Block, Attachment, Transfer, Loan, Event}
@@ -73,7 +74,8 @@ pub record HasOneBlockEach (w : Records) : Type 0 where
 
 -- ---- attachment counters
 
--- attachment counters stand by rising block and then by rising pointer, each from one to the limit, and their blocks are there
+-- attachment counters stand by rising block and then by rising pointer, each from one to the limit, and their blocks
+-- are there
 pub record AreAttachmentsSound (l : Limits) (blocks : List Block) (attached : List Attachment) : Type 0 where
   pub rising : EachPair IsBefore attached
   pub counted : AllByRecursion (IsCountWithin l.counter_max) attached
@@ -81,7 +83,8 @@ pub record AreAttachmentsSound (l : Limits) (blocks : List Block) (attached : Li
 
 -- ---- queued transfers
 
--- the section of a queued transfer is not empty, lies in host memory, and from the offset on in its block, which is there
+-- the section of a queued transfer is not empty, lies in host memory, and from the offset on in its block, which is
+-- there
 pub record IsTransferSound (l : Limits) (blocks : List Block) (t : Transfer) : Type 0 where
   pub block : Block
   pub there : block_at t.block blocks ≡ Some block
@@ -196,7 +199,8 @@ pub record IsReplay (l : Limits) (events : List Event) (from to : Whole) : Type 
   pub made : AreMadeIn l events from
   pub leads : replayed events from ≡ to
 
--- some legal events, as many as the base says, lead to it from a new table, on each device its own events alone, and with full traces bytes included
+-- some legal events, as many as the base says, lead to it from a new table. On each device its own events alone do, and
+-- with full traces bytes included
 pub record IsFounded (l : Limits) (base : Base) : Type 0 where
   pub events : List Event
   pub count : length events ≡ base.events
@@ -211,7 +215,8 @@ pub record IsHistoryLegal (l : Limits) (h : History) (w : WholeLayout) : Type 0 
   pub legal : AreLegal l h.trace (whole_layout_of h.base.state)
   pub leads : walk_all_on h.trace (whole_layout_of h.base.state) ≡ w
 
--- there are no more events than tickets and places in the trace, and no more open regions on all devices than the limit says
+-- there are no more events than tickets and places in the trace, and no more open regions on all devices than the limit
+-- says
 pub record AreBooksCounted (w : World) : Type 0 where
   pub tickets : event_count w.history ≤ w.limits.tickets
   pub trace : length w.history.trace ≤ w.limits.trace_cap
@@ -223,7 +228,8 @@ IsReplayed w = w.limits.full ≡ true → IsReplay w.limits w.history.trace w.hi
 
 -- ---- what holds of a device, and of a world
 
--- a device's view is sound, its counters are those of its past, and it has what its own events alone lead to, whatever happened on other devices
+-- a device's view is sound, and its counters are those of its past. It has what its own events alone lead to, whatever
+-- happened on other devices
 pub record IsAccountedOn (l : Limits) (h : History) (d : ℕ) (w : Whole) : Type 0 where
   pub sound : IsSound (limits_on d l) (view d w)
   pub counters_traced : AllByRecursion (IsTraced (past_on d h)) (view d w).records.ranges

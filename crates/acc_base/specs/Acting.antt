@@ -1,4 +1,5 @@
--- What an item does, its step and what becomes of its pointer: judged, and done. And what a directive and an event leave of the state.
+-- What an item does, its step and what becomes of its pointer: judged, and done. And what a directive and an event
+-- leave of the state.
 use Rattle.std.specs.Prelude.{ℕ, suc, Bool, List, [], ◌∷◌, map, Option, Some, None, Result, Ok}
 use Rattle.acc_base.specs.Words.{Aim, Task, Step, Did, Event, Fault}
 use Rattle.acc_base.specs.declared.attachments.Aim.TheVariants as aims
@@ -21,7 +22,8 @@ abbrev pub attach_if : Limits → ℕ → Option ℕ → State → Result Aim Fa
 attach_if l n None s = Ok aims.None
 attach_if l n (Some pointer) s = judge_attach l n pointer s
 
--- what becomes of the pointer of the item at place n, whose step is this: on entry it is attached in what the step left, on exit it is detached before the step
+-- what becomes of the pointer of the item at place n, whose step is this. On entry it is attached in what the step
+-- left; on exit it is detached before the step
 unfoldable pub judge_aim : Limits → ℕ → Task → Step → State → Result Aim Fault
 judge_aim l n (Enter counter item queue) step s = attach_if l n (pointer_aimed (Enter counter item queue) step) (step_state (Enter counter item queue) step s)
 judge_aim l n (ExitRegion holding) step s = Ok (judge_release holding.aim s.records)
@@ -63,7 +65,8 @@ abbrev pub host_after : Event → List ℕ → List ℕ → List ℕ
 host_after (HostWritten addr len bytes) brought host = host_after_write addr len brought host
 host_after _ brought host = host
 
--- what an event leaves of the blocks' bytes beside the transfers that it makes: those of a lent block are in its lease, until its call brings them back, and with full traces a copy of them stays
+-- what an event leaves of the blocks' bytes beside the transfers that it makes. Those of a lent block are in its lease
+-- until a call brings them back; with full traces a copy of them stays
 abbrev pub memories_after : Bool → Event → List ℕ → List Memory → List Memory
 memories_after full (Lent device region section block serial) brought memories = map (memory_changed block (recorded full)) memories
 memories_after full (Gathered device serial block bytes) brought memories = map (memory_changed block (λ _. brought)) memories

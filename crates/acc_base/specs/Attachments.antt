@@ -1,4 +1,6 @@
--- The attachment counters of pointers in blocks: what attaching and detaching makes of them (OpenACC 3.3, sections 2.6.8 and 2.7.2), and which bytes no transfer touches.
+-- The attachment counters of pointers in blocks, and what attaching and detaching makes of them (OpenACC 3.3, sections
+-- 2.6.8 and 2.7.2). And which bytes transfers leave out: those of attached pointers. That is this project's rule; the
+-- end of section 2.6.8 leaves an update of them undefined.
 use Rattle.std.specs.Prelude.{ℕ, ◌+◌, ◌-◌, ◌≡◌, ◌<◌, ◌≤◌, ◌⊎◌, Bool, not, ◌&&◌, ◌||◌, if◌then◌else◌, nat_le, nat_lt, ◌==◌, List, [], ◌∷◌, Option, find, filter, unwrap_or, option_map, Result, Ok}
 use Rattle.std.specs.List.{list_any}
 use Rattle.acc_base.specs.Words.{Section, Attachment, Aim, Fault}
@@ -56,7 +58,8 @@ without_attachments block attached = filter (λ a. not (a.block == block)) attac
 
 -- ---- attaching and detaching
 
--- a pointer that holds `now` on the device is aimed at a target: the counter rises where it is aimed there already, below the limit
+-- a pointer that holds `now` on the device is aimed at a target: the counter rises where it is aimed there already,
+-- below the limit
 abbrev pub attach : ℕ → ℕ → ℕ → ℕ → ℕ → ℕ → List Attachment → Result Aim Fault
 attach counter_max n block pointer target now attached =
     let count : ℕ = count_at block pointer attached in

@@ -36,7 +36,9 @@ memories_kept blocks memories = filter (λ m. list_any (λ b. b.number == m.bloc
 abbrev pub without_memory : ℕ → List Memory → List Memory
 without_memory block memories = filter (λ m. not (m.block == block)) memories
 
--- ---- transfers: they copy the section but for the bytes of attached pointers, and every other byte stays (the standard leaves attached pointers in a transfer undefined; here they stay)
+-- ---- transfers: they copy the section but for the bytes of attached pointers, and every other byte stays. That
+-- attached pointers stay is this project's rule: the end of section 2.6.8 of OpenACC 3.3 leaves an update of them
+-- undefined
 
 -- the address is one of those that are copied
 abbrev pub is_moved : Section → ℕ → List Attachment → ℕ → Bool

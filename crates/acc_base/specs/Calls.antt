@@ -1,4 +1,5 @@
--- A call on a table: its refusal, or its event with the world after it. A world is a history and what it led to on all devices.
+-- A call on a table: its refusal, or its event with the world after it. A world is a history and what it led to on all
+-- devices.
 use Rattle.std.specs.Prelude.{ℕ, ◌+◌, nat_le, Bool, List, [], ◌∷◌, ◌++◌, length, unwrap_or, Result, Ok, ⊤}
 use Rattle.acc_base.specs.Words.{Section, Directive, Call, Event, Fault}
 use Rattle.acc_base.specs.declared.directives.Directive.TheVariants.{Enter, Exit}
@@ -10,12 +11,13 @@ use Rattle.acc_base.specs.Loans.{Leased}
 use Rattle.acc_base.specs.Judge.{Verdict, Makes, few_items, device_named, directive_verdict, host_write_event, lend_event, gather_event}
 use Rattle.acc_base.specs.Devices.{Whole, view, new_whole, open_regions, device_of_region, after_on, recorded_whole}
 
--- what a table had when its trace was last made empty: everything but bytes, with full traces the bytes of all memories too, and how many events had led there
+-- what a table had when its trace was last made empty, and how many events had led there. That is everything but bytes;
+-- with full traces the bytes of all memories too
 pub record Base : Type 0 where
   pub state : Whole
   pub events : ℕ
 
--- what a table has as a base that so many events had led to
+-- what a table has, as a base to which so many events had led
 abbrev pub base_of : Bool → Whole → ℕ → Base
 base_of full w events = record { state = recorded_whole full w; events = events }
 
@@ -89,7 +91,7 @@ verdict_on w d directive = directive_verdict (limits_on d w.limits) d directive 
 abbrev pub loan_on : World → ℕ → ℕ → Section → Result Event Fault
 loan_on w d region section = lend_event (limits_on d w.limits) d region section (view d w.state)
 
--- the first refusal of a call in the order of refusals, or what it comes to
+-- the first refusal of a call in the order of refusals, or the verdict on it
 unfoldable pub judge : World → Call Leased → Result Verdict Fault
 judge w (Do directive) = do
   ticket w

@@ -1,4 +1,5 @@
--- The clause tables: which clause is which row, and what a row does by where its section lies (OpenACC 3.3, section 2.7).
+-- The clause tables: which clause is which row, and what a row does by where its section lies (OpenACC 3.3, section
+-- 2.7).
 use Rattle.std.specs.Prelude.{ℕ, ◌+◌, ◌%◌, Bool, true, false, not, ◌&&◌, if◌then◌else◌, nat_le, ◌==◌, Option, Some, None, Result, Ok, Err, ⊤}
 use Rattle.acc_base.specs.Words.{Section, RegionClause, EnterClause, ExitClause, UpdateClause, Counter, Range, Found, Step, Fault}
 use Rattle.acc_base.specs.declared.items.RegionClause.TheVariants as region

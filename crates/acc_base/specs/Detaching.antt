@@ -1,4 +1,5 @@
--- Where a pointer is present, and what detaching it does, which bytes have no part in (OpenACC 3.3, sections 2.6.8 and 2.7.2).
+-- Where a pointer is present, and what detaching it does, which bytes have no part in (OpenACC 3.3, sections 2.6.8 and
+-- 2.7.2).
 use Rattle.std.specs.Prelude.{ℕ, Bool, false, if◌then◌else◌, ◌==◌, List, Option, Some, None}
 use Rattle.acc_base.specs.Words.{Range, Found, Attachment, Aim}
 use Rattle.acc_base.specs.declared.mappings.Found.TheVariants.{Inside}

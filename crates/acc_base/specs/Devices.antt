@@ -1,4 +1,5 @@
--- The devices of a table: each has records, open regions and block memories of its own; host memory and the numbers of the next region and the next loan are there once. A directive sees one device's view, which is a state.
+-- The devices of a table. Each has records, open regions and block memories of its own. Host memory and the numbers of
+-- the next region and the next loan exist once. A directive sees one device's view, which is a state.
 use Rattle.std.specs.Prelude.{ℕ, ◌==◌, List, [], ◌∷◌, map, filter, fold, replicate, sum_by, slice_index_or, slice_set, length, Bool, true, is_some, unwrap_or, position}
 use Rattle.acc_base.specs.Words.{Event}
 use Rattle.acc_base.specs.declared.events.Event.TheVariants.{Entered, Left, EnteredData, ExitedData, Updated, Waited, Stepped, HostWritten, Lent, Gathered}
@@ -139,7 +140,8 @@ unfoldable pub replayed : List Event → Whole → Whole
 replayed [] w = w
 replayed (e ∷ events) w = replayed events (after_told e w)
 
--- what an event leaves of its device, whatever the numbers of the next region and the next loan are: it tells its own
+-- what an event leaves of its device, whatever the numbers of the next region and the next loan are, since the event
+-- has its own
 abbrev pub device_layout_left : DeviceLayout → Event → DeviceLayout
 device_layout_left x e =
     let lay : Layout = walk e (record { records = x.records; register = record { regions = x.regions; next = 0; serial = 0 } }) in

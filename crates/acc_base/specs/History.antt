@@ -1,4 +1,5 @@
--- The counters of a device as counts over its events since a base, from its own values on; and which lists of events are legal.
+-- The counters of a device as counts over its events since a base, from its own values on; and which lists of events
+-- are legal.
 use Rattle.std.specs.Prelude.{ℕ, suc, ◌+◌, ◌-◌, ◌≡◌, ◌<◌, Bool, false, if◌then◌else◌, ◌==◌, List, [], ◌∷◌, length, Option, option_map, Some, Ok, count_by, sum_by, fold, IsSome, ⊤}
 use Rattle.acc_base.specs.Words.{Step, Did, Event, Aim, Task, Loan}
 use Rattle.acc_base.specs.declared.events.Step.TheVariants.{Counted, Born, Dropped}
@@ -64,7 +65,8 @@ entries_in block h = structured_of block h.records.ranges + sum_by (entries_of b
 abbrev pub exits_in : ℕ → Past → ℕ
 exits_in block h = sum_by (exits_of block) h.trace
 
--- ---- the dynamic counter (OpenACC 3.3, section 2.6.7): `enter data` adds, `exit data` takes away, `finalize` gives zero
+-- ---- the dynamic counter (OpenACC 3.3, section 2.6.7): `enter data` adds, `exit data` takes away, `finalize` gives
+-- zero
 
 -- after an item of `exit data`
 abbrev pub dynamic_dropped : Bool → ℕ → ℕ → Did → ℕ
@@ -79,7 +81,8 @@ dynamic_after block n _ = n
 abbrev pub dynamic_in : ℕ → Past → ℕ
 dynamic_in block h = fold (dynamic_after block) (dynamic_of block h.records.ranges) h.trace
 
--- ---- the attachment counter of a pointer in a block (OpenACC 3.3, section 2.6.7): what attaching and detaching makes of it
+-- ---- the attachment counter of a pointer in a block (OpenACC 3.3, section 2.6.8): what attaching and detaching makes
+-- of it
 
 -- after an event
 abbrev pub attached_after : ℕ → ℕ → ℕ → Event → ℕ
@@ -88,13 +91,14 @@ attached_after block pointer n e = fold (λ m d. count_after block pointer d.aim
 abbrev pub attached_in : ℕ → ℕ → Past → ℕ
 attached_in block pointer h = fold (attached_after block pointer) (count_at block pointer h.records.attached) h.trace
 
--- ---- legal events: of bytes, an event tells alone whether an attachment acts, and the target that it writes
+-- ---- legal events: of bytes, an event has only whether an attachment acts, and the target that it writes
 
 -- some mapped host address has this device address
 abbrev pub IsTarget : ℕ → Records → Type 0
 IsTarget target w = (address : ℕ) × (device_address_of address w ≡ Some target)
 
--- the pointer can have been attached so: it is present in the block, which is not lent, the target is the device address of a mapped address, and it is attached again only where it is attached, below the limit
+-- the pointer can have been attached so. It is present in the block, which is not lent. The target is the device
+-- address of a mapped address. It is attached again only where it is attached, below the limit
 abbrev pub IsAttachLegal : Limits → Option ℕ → Aim → Records → Type 0
 IsAttachLegal l named aims.None w = ⊤
 IsAttachLegal l named (aims.New pointer block target) w = (named ≡ Some pointer) × (block_with pointer w.ranges ≡ Some block) × (is_lent block w.loans ≡ false) × IsTarget target w
@@ -118,7 +122,11 @@ AreJudged l n _ _ w = ⊥
 abbrev pub HasRecorded : Limits → ℕ → List ℕ → Type 0
 HasRecorded l len bytes = length bytes ≡ (if l.full then len else 0)
 
--- what an event names is so: a new region has the next number, a region that is left is open, there is the queue, a wait makes as many transfers as wait there, a step makes the first one, none of them of a lent block, a write lies in host memory and its bytes are stored, a loan is of a section inside a range whose block is not lent, in an open region and under the next serial number, and a block comes back that is lent under that number, and the bytes of its section are stored
+-- what an event names is so. A new region has the next number, and a region that is left is open. There is the queue. A
+-- wait makes as many transfers as wait there, and a step makes the first one; none of them is of a lent block. A write
+-- lies in host memory, and its bytes are stored. A loan is of a section inside a range whose block is not lent, in an
+-- open region and under the next serial number. A block comes back that is lent under its serial number, and the bytes
+-- of its section are stored
 abbrev pub NamesRight : Limits → Event → Layout → Type 0
 NamesRight l (Entered device number items did) lay = number ≡ lay.register.next
 NamesRight l (Left device number did) lay = IsSome (holdings_at number lay.register.regions)

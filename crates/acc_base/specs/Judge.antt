@@ -69,7 +69,7 @@ transfers_in (Wait device queue) queues = transfers_of queue queues
 transfers_in (Step device queue) queues = take 1 (queue_at queue queues)
 transfers_in _ queues = []
 
--- what an accepted call comes to: an event, or nothing to do
+-- the verdict on an accepted call: an event, or nothing to do
 pub data Verdict : Type 0 where
   Makes : Event → Verdict
   Idle : Verdict
@@ -79,7 +79,7 @@ abbrev pub step_verdict : ℕ → ℕ → Option Transfer → Verdict
 step_verdict d queue None = Idle
 step_verdict d queue (Some t) = Makes (events.Stepped d queue t.block)
 
--- what a directive comes to on a device where its tasks did this, in the order in which they acted
+-- the verdict on a directive on a device where its tasks did this, in the order in which they acted
 abbrev pub verdict_of : ℕ → Directive → State → List Did → Verdict
 verdict_of d (Enter device items) s dids = Makes (events.Entered d s.register.next items dids)
 verdict_of d (Exit number) s dids = Makes (events.Left d number (reverse dids))
@@ -89,7 +89,8 @@ verdict_of d (Update device items if_present queue) s dids = Makes (events.Updat
 verdict_of d (Wait device queue) s dids = Makes (events.Waited d queue (length (steps_of queue s.records.queues)))
 verdict_of d (Step device queue) s dids = step_verdict d queue (head_of queue s.records.queues)
 
--- the first refusal of a directive on a device, in that device's view, or what it comes to: an unknown region is told first, then an unknown queue, and then its items, or the transfers that it makes, in the order in which they act
+-- the first refusal of a directive on a device, in that device's view, or the verdict on it. An unknown region comes
+-- first, then an unknown queue. Then come its items, or the transfers that it makes, in the order in which they act
 unfoldable pub directive_verdict : Limits → ℕ → Directive → State → Result Verdict Fault
 directive_verdict l d directive s = do
   tasks ← tasks_of directive s.register
@@ -113,7 +114,8 @@ abbrev pub own_device : ℕ → Option ℕ → Result ⊤ Fault
 own_device d None = Ok tt
 own_device d (Some named) = refuse_if (not (named == d)) (NoDevice named)
 
--- what planning a directive for the device of these limits answers: too many items are told first, and then another device
+-- the result of planning a directive for the device of these limits: too many items are refused first, and then another
+-- device
 unfoldable pub plan_of : Limits → Directive → State → Result Verdict Fault
 plan_of l directive s = do
   few_items directive

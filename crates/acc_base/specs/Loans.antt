@@ -1,11 +1,13 @@
--- Loans: the blocks whose bytes are out in a lease, and which lease brings one back (OpenACC 3.3, sections 2.5, compute constructs, and 2.6, data environment).
+-- Loans: the blocks whose bytes are out in a lease, and which lease brings one back (OpenACC 3.3, sections 2.5 and
+-- 2.6).
 use Rattle.std.specs.Prelude.{ℕ, Bool, false, not, ◌&&◌, if◌then◌else◌, nat_lt, ◌==◌, List, [], ◌∷◌, Option, None, Some, find, filter, is_some, option_map, unwrap_or, Result, Ok, ⊤}
 use Rattle.acc_base.specs.Words.{Loan, Block, Transfer, Fault}
 use Rattle.acc_base.specs.declared.faults.Fault.TheVariants.{Lent}
 use Rattle.acc_base.specs.Results.{◌>>◌, refuse_if}
 use Rattle.acc_base.specs.Blocks.{block_at}
 
--- what a lease holds: the device of its loan and the loan's serial number, the number of the block, the place of the section's first byte in the block, the section's length, and the bytes of the whole block
+-- what a lease holds: the device and the serial number of its loan, the number of the block, and the bytes of the whole
+-- block. And the place of the section's first byte in the block, and the section's length
 pub record Leased : Type 0 where
   pub device : ℕ
   pub serial : ℕ
@@ -39,7 +41,7 @@ abbrev pub not_lent : Option ℕ → List Loan → Result ⊤ Fault
 not_lent None loans = Ok tt
 not_lent (Some block) loans = refuse_if (is_lent block loans) (Lent block)
 
--- no block of these transfers is lent; the first that is is told
+-- no block of these transfers is lent; the refusal names the first that is
 abbrev pub none_lent : List Transfer → List Loan → Result ⊤ Fault
 none_lent [] loans = Ok tt
 none_lent (t ∷ ts) loans = not_lent (Some t.block) loans >> none_lent ts loans

@@ -1,4 +1,5 @@
--- Pointers: what one holds, what it is to be aimed at, what attaching it does, and what attaching and detaching leave of the bytes (OpenACC 3.3, sections 2.6.8 and 2.7.2).
+-- Pointers (OpenACC 3.3, sections 2.6.8 and 2.7.2): what one holds, what it is to be aimed at, and what attaching it
+-- does. And what attaching and detaching leave of the bytes.
 use Rattle.std.specs.Prelude.{ℕ, ◌+◌, ◌-◌, if◌then◌else◌, ◌==◌, List, map, take, drop, Option, Some, None, unwrap_or, option_map, slice_index, Result, Ok}
 use Rattle.std.specs.Int.{to_le_bytes, from_le_bytes, w64}
 use Rattle.acc_base.specs.Words.{Block, Found, Aim, Fault}
@@ -39,7 +40,8 @@ address_in _ blocks = None
 abbrev pub device_address_of : ℕ → Records → Option ℕ
 device_address_of address w = address_in (where_is (only address) w.ranges) w.blocks
 
--- what a pointer is to be aimed at: the device address of the address that the host's pointer holds; no range has the address of a null pointer
+-- what a pointer is to be aimed at: the device address of the address that the host's pointer holds. No range has the
+-- address of a null pointer
 abbrev pub target_of : ℕ → State → Option ℕ
 target_of pointer s = device_address_of (host_pointer pointer s) s.records
 
@@ -49,7 +51,8 @@ attachment_of pointer w = unwrap_or (option_map (λ block. count_at block pointe
 
 -- ---- attaching
 
--- a pointer that lies in a block, which is not lent, is aimed at a target; where pointer or target is missing, nothing is done
+-- a pointer that lies in a block, which is not lent, is aimed at a target; where pointer or target is missing, nothing
+-- is done
 abbrev pub attach_there : Limits → ℕ → ℕ → Option ℕ → Option ℕ → State → Result Aim Fault
 attach_there l n pointer (Some block) (Some target) s = not_lent (Some block) s.records.loans >> attach l.counter_max n block pointer target (device_pointer block pointer s) s.records.attached
 attach_there l n pointer _ _ s = Ok aims.None

@@ -5,7 +5,8 @@ use Rattle.acc_base.specs.declared.transfers.TheConstants.{QUEUE_COUNT}
 use Rattle.acc_base.specs.declared.faults.Fault.TheVariants.{NoQueue, QueueFull}
 use Rattle.acc_base.specs.Results.{refuse_if}
 
--- the queues by number, from 0 on: in each the transfers that were put into it and not yet made, the one that was put first at the front
+-- the queues by number, from 0 on. Each has the transfers that were put into it and not yet made, the oldest at the
+-- front
 abbrev pub new_queues : List (List Transfer)
 new_queues = replicate QUEUE_COUNT []
 

@@ -4,7 +4,9 @@ use Rattle.acc_base.specs.Words.{Range, Block, Attachment, Transfer, Loan}
 use Rattle.acc_base.specs.Queues.{new_queues}
 use Rattle.acc_base.specs.Register.{Register, new_register}
 
--- everything of a device but bytes: the mapped ranges by rising start, the blocks by rising number, the attachment counters above zero by rising block and pointer, how many blocks were ever born, the queued transfers, and the loans by rising block
+-- everything of a device but bytes: the mapped ranges by rising start, the blocks by rising number, and how many blocks
+-- were ever born. And the attachment counters above zero by rising block and pointer, the queued transfers, and the
+-- loans by rising block
 pub record Records : Type 0 where
   pub ranges : List Range
   pub blocks : List Block

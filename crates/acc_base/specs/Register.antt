@@ -1,4 +1,5 @@
--- What there is once, whatever the device: the open data regions, each with what its own entry counted (OpenACC 3.3, sections 2.6.5 and 2.6.7), and the numbers of the next region and the next loan.
+-- The register: the open data regions, each with what its own entry counted (OpenACC 3.3, sections 2.6.5 and 2.6.7).
+-- And the numbers of the next region and the next loan, which exist once for all devices.
 use Rattle.std.specs.Prelude.{ℕ, ◌+◌, Bool, false, not, if◌then◌else◌, nat_lt, ◌==◌, List, [], ◌∷◌, Option, Some, None, find, filter, option_map, sum_by, count_by}
 use Rattle.acc_base.specs.declared.regions.Holding.{Holding}
 

@@ -1,4 +1,4 @@
--- Results in a row: the first refusal is the answer.
+-- Results in a row: the first refusal is the result.
 use Rattle.std.specs.Prelude.{Bool, if◌then◌else◌, Result, Ok, Err, ⊤}
 use Rattle.acc_base.specs.declared.faults.Fault.{Fault}
 

@@ -1,4 +1,5 @@
--- Lists in which the elements that pass a test stand first, where a search by halves ends: of the crates that keep sorted lists.
+-- Lists in which the elements that pass a test stand first, where a search by halves ends: of the crates that keep
+-- sorted lists.
 use Rattle.std.specs.Prelude.{ℕ, ◌≡◌, ◌≤◌, Bool, true, false, List, length, take, drop}
 use Rattle.std.specs.List.{AllByRecursion}
 

@@ -1,4 +1,5 @@
--- The step of an item: its refusal, or what it does to mappings and counters, and to the queues. And what its pointer leaves of the records.
+-- The step of an item: its refusal, or what it does to mappings and counters, and to the queues. And what its pointer
+-- leaves of the records.
 use Rattle.std.specs.Prelude.{ℕ, ◌+◌, Bool, true, false, not, ◌||◌, if◌then◌else◌, ◌==◌, List, [], ◌∷◌, ◌++◌, Option, None, Some, is_none, is_some, Result, Ok}
 use Rattle.acc_base.specs.Words.{Range, Task, Step, Did, Aim, Fault}
 use Rattle.acc_base.specs.declared.tasks.Task.TheVariants.{Enter, ExitRegion, ExitData, Move}
@@ -24,7 +25,8 @@ abbrev pub is_action : Step → Bool
 is_action Nothing = false
 is_action _ = true
 
--- the pointer that an item attaches or detaches beside its step: the one that it names, where the step did something or the clause names a pointer alone
+-- the pointer that an item attaches or detaches beside its step. It is the one that the item names, where the step did
+-- something or the clause names a pointer alone
 abbrev pub pointer_aimed : Task → Step → Option ℕ
 pointer_aimed (Enter counter item queue) step = if is_attach item.clause || is_action step then pointer_of (Enter counter item queue) else None
 pointer_aimed (ExitData finalize item queue) step = if is_detach item.clause || is_action step then pointer_of (ExitData finalize item queue) else None
@@ -53,7 +55,8 @@ judge_row l n (ExitRegion holding) w = leave_row holding.block (recounted (ExitR
 judge_row l n (ExitData finalize item queue) w = checked l n (ExitData finalize item queue) >> exit_row (where_is (section_of (ExitData finalize item queue)) w.ranges) (recounted (ExitData finalize item queue)) n w
 judge_row l n (Move if_present item queue) w = in_host l n item.section >> move_row (where_is item.section w.ranges) if_present n
 
--- then what it needs is not lent, first for its pointer and then for its step, and the queue of its transfer, if it has one, has room for it
+-- then what it needs is not lent, first for its pointer and then for its step. And the queue of its transfer, if it has
+-- one, has room for it
 unfoldable pub judge_step : Limits → ℕ → Task → Records → Result Step Fault
 judge_step l n task w = do
   step ← judge_row l n task w
@@ -113,7 +116,8 @@ act_step task step w = act_row task step (with_put task step w)
 abbrev pub records_aimed : Aim → Records → Records
 records_aimed aim w = record w { attached = attached_by aim w.attached }
 
--- ---- what both leave of the records: an item that enters attaches after its step, and one that leaves detaches before it
+-- ---- what both leave of the records: an item that enters attaches after its step, and one that leaves detaches before
+-- it
 
 unfoldable pub act : Task → Did → Records → Records
 act (Enter counter item queue) did w = records_aimed did.aim (act_step (Enter counter item queue) did.step w)

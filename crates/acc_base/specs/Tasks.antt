@@ -1,4 +1,5 @@
--- What one item asks, whatever directive it stands in: which section, which pointer, which queue, and what it does to counters.
+-- What one item asks, whatever directive it stands in: which section, which pointer, which queue, and what it does to
+-- counters.
 use Rattle.std.specs.Prelude.{ℕ, if◌then◌else◌, Option, None, Result, ⊤}
 use Rattle.acc_base.specs.Words.{Section, Range, Task, Fault}
 use Rattle.acc_base.specs.declared.mappings.Counter.TheVariants.{Structured, Dynamic}

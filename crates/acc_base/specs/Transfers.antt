@@ -1,4 +1,4 @@
--- The transfer of an item's step, which is made at once or put into a queue (OpenACC 3.3, sections 2.7 and 2.16, and the update directive).
+-- The transfer of an item's step, made at once or put into a queue (OpenACC 3.3, sections 2.7, 2.14.4 and 2.16).
 use Rattle.std.specs.Prelude.{ℕ, ◌-◌, Bool, true, false, if◌then◌else◌, List, Option, Some, None, Result, Ok, ⊤}
 use Rattle.acc_base.specs.Words.{Range, Task, Transfer, Step, Fault}
 use Rattle.acc_base.specs.declared.tasks.Task.TheVariants.{Enter, ExitRegion, ExitData, Move}

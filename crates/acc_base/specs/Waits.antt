@@ -1,4 +1,4 @@
--- Queued transfers are made: the first of a queue, or all of one queue or of all of them (OpenACC 3.3, section 2.16 and the wait directive).
+-- Making queued transfers (OpenACC 3.3, section 2.16): the first of a queue, or all of one queue or of all of them.
 use Rattle.std.specs.Prelude.{ℕ, suc, ◌&&◌, nat_le, List, [], ◌∷◌, ◌++◌, length, filter, replicate, Option, Some, None, is_none, option_map}
 use Rattle.std.specs.List.{flat_map}
 use Rattle.acc_base.specs.Words.{Block, Ended, Transfer}
@@ -63,7 +63,7 @@ transfers_of None queues = flat_map (λ transfers. transfers) queues
 abbrev pub ended_blocks : ℕ → Records → List Block
 ended_blocks from w = filter (λ b. is_none (range_of b.number w.ranges) && nat_le from b.place) w.blocks
 
--- what is told of one
+-- what a query says of one
 abbrev pub told_ended : List (List Transfer) → Block → Ended
 told_ended queues b = record { place = b.place; size = size_of b; pins = pins_of b.number queues }
 

@@ -1,4 +1,5 @@
--- What an event asked and did, and what it leaves of the records and the register. It reads the event alone, and no bytes.
+-- What an event asked and did, and what it leaves of the records and the register. It reads the event alone, and no
+-- bytes.
 use Rattle.std.specs.Prelude.{ℕ, ◌-◌, Bool, List, [], ◌∷◌, map, reverse, Option, Some, None, unwrap_or}
 use Rattle.acc_base.specs.Words.{Section, Item, RegionClause, EnterClause, ExitClause, UpdateClause, Transfer, Loan, Range, Holding, Task, Aim, Step}
 use Rattle.acc_base.specs.Words.{Did, Event}
@@ -84,7 +85,7 @@ abbrev pub holdings_of : List (Item RegionClause) → List Did → List Holding
 holdings_of (item ∷ items) (did ∷ dids) = record { item = item; block = block_counted did.step; aim = pointer_attached did.aim } ∷ holdings_of items dids
 holdings_of _ _ = []
 
--- entry to a region, exit from one and a loan alone change the register; a region has the number that its event tells
+-- entry to a region, exit from one and a loan alone change the register; a region has the number of its event
 abbrev pub register_after : Event → Register → Register
 register_after (Entered device number items did) g = opened number (holdings_of items did) g
 register_after (Left device number did) g = closed number g

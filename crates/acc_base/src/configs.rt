@@ -95,19 +95,19 @@ impl Config {
         }
     }
 
-    /// The same limits, of tables whose traces are full: an event then stores the bytes that its call brought, a base the
-    /// bytes of all memories, and a lent block keeps a copy of its bytes. So all memories can be had again from a base
-    /// and the events since. A counted trace stores none of these.
+    /// The same limits, of tables whose traces are full. An event then stores the bytes that its call brought, and a
+    /// base the bytes of all memories. A lent block keeps a copy of its bytes. So a base and the events since give all
+    /// memories. A counted trace stores none of these.
     pub fn with_full_trace(self) -> Config
         ensures { result ≡ record self { full = true } }
     {
         Config { full: true, ..self }
     }
 
-    /// The same limits, of tables of so many devices, 1 to 4 (OpenACC 3.3, section 3.2, `acc_set_device_num`). Each device
-    /// has a memory of the size that the configuration says, and mapped ranges, counters, open regions and queues of its
-    /// own. Host memory, the trace and the numbers of regions are there once, and the limits of open regions and of events
-    /// are those of all devices together.
+    /// The same limits, of tables of so many devices, 1 to 4 (OpenACC 3.3, section 3.2, `acc_set_device_num`). Each
+    /// device has a memory of the size that the configuration says, and mapped ranges, counters, open regions and
+    /// queues of its own. Host memory, the trace and the numbers of regions exist once. The limits of open regions and
+    /// of events are those of all devices together.
     ///
     /// # Errors
     ///
@@ -124,8 +124,8 @@ impl Config {
         }
     }
 
-    /// Each limit is within the bounds that [`Config::new`] and [`Config::with_devices`] state, and the limits are those of
-    /// the first device. Nothing is done.
+    /// Each limit is within the bounds that [`Config::new`] and [`Config::with_devices`] state, and the limits are
+    /// those of the first device. Nothing is done.
     pub fn laws(&self)
         ensures bounds { IsWithinBounds self.now }
         ensures first { self.now.number ≡ 0 }

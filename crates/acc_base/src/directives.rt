@@ -5,39 +5,39 @@ ghost use Rattle.acc_base.specs.Judge.{item_count};
 
 use crate::{EnterClause, ExitClause, Item, List, RegionClause, UpdateClause};
 
-/// A directive, with the items of its data clauses in written order. They act in that order; on a region's exit they act
-/// in reverse. Each names the device on which it acts, as `acc_set_device_num` chooses it (OpenACC 3.3, section 3.2), but
-/// for the exit from a region, whose device is that of its entry.
+/// A directive, with the items of its data clauses in written order. They act in that order, and on a region's exit in
+/// reverse. A directive names the device on which it acts, as `acc_set_device_num` chooses it (OpenACC 3.3, section
+/// 3.2). The exit from a region names none: its device is that of its entry.
 #[derive(Debug, Drop)]
 pub enum Directive {
     /// Entry to a structured data region: the start of a `data` construct (OpenACC 3.3, section 2.6.5).
     Enter {
         /// The number of the device, from 0 on.
         device: u64,
-        /// The items of its clauses.
+        /// The items of its data clauses, in written order.
         items: List<Item<RegionClause>>,
     },
-    /// Exit from an open data region: the end of its `data` construct (OpenACC 3.3, section 2.6.5). It acts on the device
-    /// on which the region was entered.
+    /// Exit from an open data region: the end of its `data` construct (OpenACC 3.3, section 2.6.5). It acts on the
+    /// device on which the region was entered.
     Exit {
-        /// The number that the region's entry was answered.
+        /// The number of the region, which its entry returned.
         number: u64,
     },
     /// The `enter data` directive (OpenACC 3.3, section 2.6.6).
     EnterData {
         /// The number of the device, from 0 on.
         device: u64,
-        /// The items of its clauses.
+        /// The items of its data clauses, in written order.
         items: List<Item<EnterClause>>,
-        /// The `async` clause: the number of the queue into which the copies of its items are put, or `None` where each is
-        /// made at once (OpenACC 3.3, section 2.16). Counters, mappings and pointers change at once in any case.
+        /// The `async` clause (OpenACC 3.3, section 2.16): the number of the queue into which the copies of its items
+        /// are put. `None` where each is made at once. Counters, mappings and pointers change at once in any case.
         queue: Option<u64>,
     },
     /// The `exit data` directive (OpenACC 3.3, section 2.6.6).
     ExitData {
         /// The number of the device, from 0 on.
         device: u64,
-        /// The items of its clauses.
+        /// The items of its data clauses, in written order.
         items: List<Item<ExitClause>>,
         /// The `finalize` clause: the dynamic counter of each range that an item names becomes zero, and does not fall
         /// by one.
@@ -49,22 +49,22 @@ pub enum Directive {
     Update {
         /// The number of the device, from 0 on.
         device: u64,
-        /// The items of its clauses.
+        /// The items of its data clauses, in written order.
         items: List<Item<UpdateClause>>,
         /// The `if_present` clause: a section that is absent is passed over, and not refused.
         if_present: bool,
         /// The `async` clause, as that of `enter data`.
         queue: Option<u64>,
     },
-    /// The `wait` directive (OpenACC 3.3, the wait directive): the transfers of a queue are made in the order in which
-    /// they were put into it, or those of all queues, from the first queue to the last.
+    /// The `wait` directive (OpenACC 3.3, section 2.16): makes the transfers of a queue in the order in which they were
+    /// put into it. Or makes those of all queues, from the first queue to the last.
     Wait {
         /// The number of the device, from 0 on.
         device: u64,
         /// The number of the queue, or `None` for all.
         queue: Option<u64>,
     },
-    /// The next transfer of a queue is made, as the device does while the host goes on (OpenACC 3.3, section 2.16).
+    /// Makes the next transfer of a queue, as the device does while the host goes on (OpenACC 3.3, section 2.16).
     Step {
         /// The number of the device, from 0 on.
         device: u64,

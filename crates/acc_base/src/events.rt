@@ -54,7 +54,7 @@ pub enum Event {
     Entered {
         /// The number of the device on which it was entered.
         device: u64,
-        /// The number of the region.
+        /// The number that the region got: one more than that of the region before it.
         number: u64,
         /// The items that it named.
         items: List<Item<RegionClause>>,

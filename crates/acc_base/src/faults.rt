@@ -14,7 +14,7 @@ use std::fmt;
 /// name, and each field with its value, as `14 DeviceFull item 0 need 32`.
 #[derive(Clone, Copy, Debug, PartialEq, Eq)]
 pub enum Fault {
-    /// No memory could be had for the call.
+    /// There was no memory for the call.
     Memory,
     /// A limit of the configuration is out of its bounds.
     BadConfig,
@@ -40,12 +40,12 @@ pub enum Fault {
     },
     /// A section that is not empty, or a pointer's eight bytes, are not in host memory.
     OutOfHost {
-        /// The item.
+        /// The item's place in the written list, from 0.
         item: u64,
     },
     /// The address of a pointer is not a multiple of 8.
     Misaligned {
-        /// The item.
+        /// The item's place in the written list, from 0.
         item: u64,
     },
     /// There is no such queue.
@@ -55,17 +55,17 @@ pub enum Fault {
     },
     /// Some addresses of the section are mapped, but no one mapped range has them all.
     PartlyPresent {
-        /// The item.
+        /// The item's place in the written list, from 0.
         item: u64,
     },
     /// The section has to be present and is not.
     NotPresent {
-        /// The item.
+        /// The item's place in the written list, from 0.
         item: u64,
     },
     /// A reference or attachment counter is at its limit.
     CounterFull {
-        /// The item.
+        /// The item's place in the written list, from 0.
         item: u64,
     },
     /// The block is out on loan to a kernel.
@@ -75,7 +75,7 @@ pub enum Fault {
     },
     /// No free part of device memory is large enough for a new block.
     DeviceFull {
-        /// The item.
+        /// The item's place in the written list, from 0.
         item: u64,
         /// The length of the block in bytes, rounded up to a multiple of 16.
         need: u64,

@@ -16,12 +16,12 @@ pub struct Section {
 pub struct Item<C> {
     /// The clause in which the item stands.
     pub clause: C,
-    /// The section of host memory that it names. In an item of `attach` or `detach` its start is the host address of the
-    /// pointer, and its length is not read.
+    /// The section of host memory that it names. In an item of `attach` or `detach` its start is the host address of
+    /// the pointer, and its length is not read.
     pub section: Section,
-    /// The host address of the pointer to the section's data, which is attached after the item was counted on entry and
-    /// detached before it is dropped on exit. It is not read with an empty section, nor in an item of `attach`, `detach`
-    /// or `update`.
+    /// The host address of the pointer to the section's data. It is attached after the item was counted on entry, and
+    /// detached before the item is dropped on exit. It is not read with an empty section, nor in an item of `attach`,
+    /// `detach` or `update`.
     pub pointer: Option<u64>,
 }
 
@@ -32,7 +32,7 @@ pub enum RegionClause {
     Copy,
     /// The `copyin` clause: where the section is absent on entry, it is mapped to a new block, which gets its bytes.
     Copyin,
-    /// The `copyout` clause: where the section is absent on entry, it is mapped to a new block; where the mapping ends
+    /// The `copyout` clause: where the section is absent on entry, it is mapped to a new block. Where the mapping ends
     /// on exit, the bytes of the section are first copied to host memory.
     Copyout {
         /// The `zero` modifier: each byte of a new block is 0, and not 0xA5.
@@ -54,7 +54,7 @@ pub enum RegionClause {
 /// The clauses of the `enter data` directive (OpenACC 3.3, sections 2.6.6 and 2.7).
 #[derive(Clone, Copy, Debug, PartialEq, Eq)]
 pub enum EnterClause {
-    /// The `copyin` clause: where the section is inside a mapped range, its dynamic counter rises; where it is absent,
+    /// The `copyin` clause: where the section is inside a mapped range, its dynamic counter rises. Where it is absent,
     /// it is mapped to a new block, which gets its bytes.
     Copyin,
     /// The `create` clause: as `copyin`, but no byte is copied. Each byte of a new block is 0xA5.
@@ -69,8 +69,8 @@ pub enum EnterClause {
 /// The clauses of the `exit data` directive (OpenACC 3.3, sections 2.6.6 and 2.7).
 #[derive(Clone, Copy, Debug, PartialEq, Eq)]
 pub enum ExitClause {
-    /// The `delete` clause: where the section is inside a mapped range, its dynamic counter falls, if it is above zero;
-    /// at the end of the mapping nothing is copied.
+    /// The `delete` clause: where the section is inside a mapped range, its dynamic counter falls, if it is above zero.
+    /// At the end of the mapping nothing is copied.
     Delete,
     /// The `copyout` clause: as `delete`, but where the mapping ends, the bytes of the section are first copied to host
     /// memory.

@@ -1,4 +1,4 @@
-//! The words of an OpenACC 3.3 data runtime: sections, data clause items, directives, events, faults and limits, and
+//! The words of an OpenACC 3.3 data runtime: sections, data clause items, directives, events, faults and limits. And
 //! the definitions that the contracts of every crate cite.
 //!
 //! `specs/` says what a directive does, in OpenACC's words and apart from any code; `docs/MODEL.md` says the same in

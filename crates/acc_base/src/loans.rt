@@ -1,7 +1,7 @@
 //! Blocks of device memory that are out on loan.
 
-/// A block of device memory that is out on loan, and the section of it that a kernel may read and write (OpenACC 3.3,
-/// sections 2.5, compute constructs, and 2.6, data environment). The bytes of the block are in its lease.
+/// A block of device memory that is out on loan (OpenACC 3.3, sections 2.5 and 2.6). And the section of it that a
+/// kernel may read and write. The bytes of the block are in its lease.
 #[derive(Clone, Copy, Debug, PartialEq, Eq)]
 pub struct Loan {
     /// The serial number: one more than that of the loan before it.

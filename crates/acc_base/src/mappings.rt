@@ -38,8 +38,8 @@ pub struct Ended {
     pub pins: u64,
 }
 
-/// Free addresses of device memory that lie side by side, as many as there are: what lies beside them is taken by blocks
-/// or not on the device.
+/// Free addresses of device memory that lie side by side, as many as there are. What lies beside them is taken by
+/// blocks or not on the device.
 #[derive(Clone, Copy, Debug, PartialEq, Eq)]
 pub struct Hole {
     /// The device address of its first byte.

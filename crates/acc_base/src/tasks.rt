@@ -21,18 +21,18 @@ pub enum Task {
     },
     /// An item of `exit data`.
     ExitData {
-        /// The `finalize` clause.
+        /// Whether the directive has the `finalize` clause.
         finalize: bool,
-        /// The item.
+        /// The clause with its section, and the pointer to that if one is named.
         item: Item<ExitClause>,
         /// The queue into which its copy is put, or `None` where the copy is made at once.
         queue: Option<u64>,
     },
     /// An item of `update`.
     Move {
-        /// The `if_present` clause.
+        /// Whether the directive has the `if_present` clause.
         if_present: bool,
-        /// The item.
+        /// The clause with its section. A pointer is not read.
         item: Item<UpdateClause>,
         /// The queue into which its copy is put, or `None` where the copy is made at once.
         queue: Option<u64>,

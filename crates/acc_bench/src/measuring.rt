@@ -30,7 +30,7 @@ pub trait Subject: Drop {
     fn round(&mut self, alloc: Global, work: &Self::Work, number: u64) -> Result<u64, Fault>;
 }
 
-/// How often rounds are timed. The least time is told, since a list that grows moves all that it has.
+/// How often rounds are timed. The least time is printed, since a list that grows moves all that it has.
 const TRIES: u32 = 3;
 
 /// The limits of all that is measured: as much memory as there may be on both sides.

@@ -27,7 +27,7 @@ pub after_plan : (full : Bool) (d : Directive) (p : Planned) (s : State) (e : Ev
 unfolding after
 after_plan full d p s e is = grind (arith, nat_tests, register-act_all_state)
 
--- it is the state after what the directive comes to
+-- it is the state after the verdict on the directive
 pub finished_verdict : (l : Limits) (n : ℕ) (d : Directive) (s : State) (p : Planned) → IsPlanOf l d s p → finished d p (act_all_state p.tasks p.dids s) ≡ state_by l.full (verdict_of n d s p.dids) s
 finished_verdict l n d s p h = go (verdict_of n d s p.dids) refl
   where
@@ -37,7 +37,7 @@ finished_verdict l n d s p h = go (verdict_of n d s p.dids) refl
 
 -- ---- the layout
 
--- a layout that is sound, told by its own counters
+-- a layout that is sound agrees with its own counters
 told_now : (l : Limits) (lay : Layout) → IsLayoutSound l lay → IsTold l lay (λ b. structured_of b lay.records.ranges) (λ b. 0) (λ b. dynamic_of b lay.records.ranges)
 told_now l lay h = grind (arith, nat_tests)
 

@@ -72,7 +72,7 @@ cleared_aims pointer block x y b can e attached limit spare marked =
     rw e (aims_by (aims.Cleared pointer block) x (pointer_written block pointer (host_byte x.host) (bare_state x)) b (λ next. refl)
     (first ∙ ap (λ a. attached_by a x.attached.attached) (detached true block pointer x.attached.attached can.some)) second (omega (arith, third)) marked)
 
--- what is left of a counter tells whether it was one
+-- what is left of a counter says whether it was one
 was_one : (n : ℕ) → left.Zero ≡ left_of false n → (n == 1) ≡ true
 was_one n e = grind (arith, nat_tests)
 

@@ -1,4 +1,5 @@
--- The attachment counter of a pointer after tasks is what the fold over them gives, where the pointer lies in a block then.
+-- The attachment counter of a pointer after tasks is what the fold over them gives, where the pointer lies in a block
+-- then.
 use Rattle.std.proofs.Common.{ℕ, ◌≡◌, ◌≤◌, refl, sym, ap, ◌∙◌, subst, Bool, true, false, cond, List, [], ◌∷◌, suc, Some, None, arith}
 use Rattle.std.specs.Prelude.{◌==◌}
 use Rattle.std.proofs.lemmas.Bool.Decides.{nat_tests}

@@ -1,4 +1,4 @@
--- What a directive asks, and the verdict that it comes to.
+-- What a directive asks, and the verdict on it.
 use Rattle.std.proofs.Common.{ℕ, zero, suc, ◌≡◌, ◌-◌, ◌<◌, ◌≤◌, refl, ap, subst, ◌∙◌, true, false, List, [], ◌∷◌, length, get_or, arith, Option, None, Result, Ok, Err, inl, inr}
 use Rattle.std.specs.Prelude.{nat_lt, map, reverse, ⊤, MatchResult}
 use Rattle.std.proofs.lemmas.Bool.Decides.{nat_tests}
@@ -106,7 +106,7 @@ verdict_free n d s dids = none_lent (transfers_in d s.records.queues) s.records.
 abbrev IsOwn : Limits → Directive → Type 0
 IsOwn l d = own_device l.number (device_named d) ≡ Ok tt
 
--- too many items are told before all else
+-- too many items are refused before all else
 pub plan_many : (l : Limits) (d : Directive) (s : State) (fault : Fault) → few_items d ≡ Err fault → plan_of l d s ≡ Err fault
 unfolding plan_of
 plan_many l d s fault few = rw few refl

@@ -1,4 +1,5 @@
--- The parts were changed so: the state that they come to, and the room that was taken. And two changes, one after the other.
+-- The parts were changed so: the state that they stand for, and the room that was taken. And two changes, one after the
+-- other.
 use Rattle.std.proofs.lemmas.Bool.Decides.{nat_tests}
 use Rattle.std.proofs.Common.{ℕ, ◌≡◌, ◌+◌, ◌≤◌, refl, sym, ◌∙◌, ap, List, [], ◌++◌, length, arith, append_assoc, length-append, subst}
 use Rattle.acc_base.specs.Records.{State}
@@ -15,7 +16,7 @@ use Rattle.acc_base.specs.Accounts.{AreRecordsSound, AreMemoriesSized}
 pub beside_both : {x y : Environment} {g h : List ℕ} → x ≡ y → g ≡ h → beside x g ≡ beside y h
 beside_both e f = rw (e, f) refl
 
--- the parts come to a state that has the same fields
+-- the parts stand for a state that has the same fields
 pub state_from_parts : (x : WithHost) (next : Numbers) (s : State) → x.present.table.ranges ≡ s.records.ranges → x.device.blocks ≡ s.records.blocks → x.attached.attached ≡ s.records.attached → x.device.births ≡ s.records.births → x.queues.queues ≡ s.records.queues → x.device.loans ≡ s.records.loans
     → x.present.table.regions ≡ s.register.regions → next.region ≡ s.register.next → next.serial ≡ s.register.serial → x.host ≡ s.host → x.device.memories ≡ s.memories → state_of x next ≡ s
 state_from_parts x next s a b p c d i e f j g h = rw (a, b, p, c, d, i, e, f, j, g, h) refl
@@ -33,7 +34,7 @@ none_taken r = record { ranges = omega arith; regions = omega arith; holdings = 
 pub kept_twice : (a b c : present.Room) → present.IsRoomKept a b → present.IsRoomKept b c → present.IsRoomKept a c
 kept_twice a b c h k = record { ranges = omega (arith, h.ranges, k.ranges); regions = omega (arith, h.regions, k.regions); holdings = omega (arith, h.holdings, k.holdings) }
 
--- a change that comes to the same, and takes no more room
+-- a change that leads to the same, and takes no more room
 pub changed_to : (f g : State → State) (bs : List ℕ) (m : ℕ) (u v : ℕ → ℕ) (x y : WithHost) → ((next : Numbers) → f (state_of x next) ≡ g (state_of x next)) → ((q : ℕ) → u q ≤ v q) → IsChangedBy f bs m u x y → IsChangedBy g bs m v x y
 changed_to f g bs m u v x y same less a = grind (arith, nat_tests)
 

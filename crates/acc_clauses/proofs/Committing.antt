@@ -1,4 +1,5 @@
--- Before the tasks of a plan each that leaves a region finds what it held, and the register is ready for its directive; after them the store is sound.
+-- Before the tasks of a plan each that leaves a region finds what it held, and the register is ready for its directive.
+-- After them the store is sound.
 use Rattle.std.proofs.Common.{ℕ, ◌≡◌, ◌<◌, ◌≤◌, ◌^◌, refl, sym, ◌∙◌, ap, subst, false, cond, List, [], ◌∷◌, map, length, Option, Some, Ok, arith}
 use Rattle.std.specs.Prelude.{◌==◌, reverse, option_map, IsSome, not}
 use Rattle.std.specs.List.{AllByRecursion}

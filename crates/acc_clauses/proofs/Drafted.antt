@@ -27,7 +27,7 @@ length-birth_by task step = grind (arith, nat_tests)
 length-end_by : (step : Step) → length (end_by step) ≤ 1
 length-end_by step = grind (arith, nat_tests)
 
--- a task bears one block at most
+-- a task gives birth to one block at most
 pub length-births_of : (xs : List Acted) → length (births_of xs) ≤ length xs
 length-births_of [] = omega arith
 length-births_of (x ∷ xs) = omega (arith, length-births_of xs, length-birth_by x.task x.did.step, length-append (birth_by x.task x.did.step) (births_of xs))

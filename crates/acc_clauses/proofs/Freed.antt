@@ -1,4 +1,4 @@
--- Whether a step needs a block that is lent, and whether queued transfers are of one, told by the first that is.
+-- Whether a step needs a block that is lent, and whether queued transfers are of one, with the first such block.
 use Rattle.std.proofs.lemmas.Bool.Decides.{nat_tests}
 use Rattle.std.proofs.Common.{ℕ, zero, suc, ◌≡◌, ◌+◌, refl, sym, ◌∙◌, ap, List, [], ◌∷◌, ◌++◌, drop, add-one, Option, Result, Ok, Err, length, arith}
 use Rattle.std.specs.Prelude.{⊤, option_map, slice_get}
@@ -20,11 +20,11 @@ use Rattle.acc_clauses.specs.Aims.{step_free}
 
 -- ---- tests in a row
 
--- the first that refuses is told
+-- the first that refuses decides
 pub first_refused : (a b all : Result ⊤ Fault) (fault : Fault) → (a >> b) ≡ all → Err fault ≡ a → Err fault ≡ all
 first_refused a b all fault e h = grind (arith, nat_tests)
 
--- where it passes, the rest is told
+-- where it passes, the rest decides
 pub first_passed : (a b all : Result ⊤ Fault) (x : ⊤) → (a >> b) ≡ all → Ok x ≡ a → b ≡ all
 first_passed a b all x e h = grind (arith, nat_tests)
 
@@ -48,7 +48,7 @@ places-split (suc place) (t ∷ ts) loans = places-split place ts loans
 places-split _ _ loans = refl
 
 module _ (place : ℕ) (ts : List Transfer) (loans : List Loan) (all : Result ⊤ Fault) (block : Option ℕ) (named : block ≡ option_map (λ (t : Transfer). t.block) (slice_get ts place)) (left : none_lent (drop place ts) loans ≡ all) where
-  -- the one at the place, and then those behind it, tell what all tell
+  -- the one at the place, and then those behind it, decide as all do
   here : (not_lent block loans >> none_lent (drop (suc place) ts) loans) ≡ all
   here = ap (λ o. not_lent o loans >> none_lent (drop (suc place) ts) loans) named ∙ (sym (places-split place ts loans) ∙ left)
 
@@ -87,7 +87,7 @@ queues-split (suc q) [] loans = refl
 queues-split (suc q) (ts ∷ queues) loans = queues-split q queues loans
 
 module _ (q : ℕ) (queues : List (List Transfer)) (loans : List Loan) (all : Result ⊤ Fault) (left : none_lent (all_of (drop q queues)) loans ≡ all) where
-  -- those of the queue, and then those of the queues behind it, tell what all tell
+  -- those of the queue, and then those of the queues behind it, decide as all do
   own : (none_lent (queue_at q queues) loans >> none_lent (all_of (drop (suc q) queues)) loans) ≡ all
   own = sym (queues-split q queues loans) ∙ left
 

@@ -39,7 +39,7 @@ pub step_puts : (task : Task) (step : Step) (q : ℕ) (t : Transfer) (x y : With
     → y.queues ≡ x.queues → IsSome (block_at t.block y.device.blocks) → CanPut q t y.queues y.device
 step_puts task step q t x y named is moving can puts same there = grind (arith, nat_tests)
 
--- a copy of the section of a task to or from the block that it is mapped to can be made at once, or be put into the queue that the task names
+-- a copy of a task's section to or from its block can be made at once, or put into the queue that the task names
 pub can_move_bytes : (task : Task) (step : Step) (k : ℕ) (x : WithHost) (queue : Option ℕ) (t : Transfer) → CanMove (section_of task) k (bare_state x) → queue ≡ queue_of task → t ≡ transfer_at task k x.present.table.ranges
     → transfer_of task step x.present.table.ranges ≡ Some (transfer_at task k x.present.table.ranges) → moves task step ≡ true → (queue_of task ≡ None → is_lent k x.device.loans ≡ false) → CanQueue task step x → HasPutRoom (λ q. puts_by q task step) (room_of x) → CanMoveBytes queue t x
 can_move_bytes task step k x queue t can named is moves_so moving free room puts = grind (arith, nat_tests)

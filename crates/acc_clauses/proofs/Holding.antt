@@ -1,4 +1,5 @@
--- What is held stays within the range of its block, whatever step is done; and each task that leaves finds what it held.
+-- What is held stays within the range of its block, whatever step is done; and each task that leaves finds what it
+-- held.
 use Rattle.std.proofs.Common.{ℕ, suc, ◌≡◌, ◌+◌, ◌-◌, ◌≤◌, refl, sym, ◌∙◌, ap, subst, Bool, true, false, cond, List, [], ◌∷◌, map, Option, Some, arith}
 use Rattle.std.specs.Prelude.{◌==◌}
 use Rattle.std.specs.List.{AllByRecursion}

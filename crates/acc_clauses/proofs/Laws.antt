@@ -93,7 +93,7 @@ takes : (l : Limits) (n : ℕ) (xs : List Acted) (w : Records) → IsWithinBound
 takes l n [] w bounds judged = tt
 takes l n (x ∷ xs) w bounds judged = grind (arith, nat_tests, takes l (suc n) xs (act x.task x.did w) bounds judged.2, birth_entry, birth_len, place_below, task_says l n x.task w x.did.step judged.0)
 
--- each block that the tasks bear ends on the device
+-- each block that the tasks give birth to ends on the device
 pub takes-planned : (l : Limits) (xs : List Acted) (w : Records) → IsPlanned l xs w → All (IsTakeBelow (end_of (device_memory l))) (births_of xs)
 takes-planned l xs w p = All-from_recursion (IsTakeBelow (end_of (device_memory l))) (births_of xs) (takes l 0 xs w p.bounds p.judged)
 

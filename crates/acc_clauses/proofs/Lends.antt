@@ -57,7 +57,7 @@ lend_within l x n loan parts sound = grind (arith, nat_tests, loan_there l (stat
 
 -- ---- the number of the device
 
--- the number of a device is told by where its memory begins
+-- where the memory of a device begins determines its number
 number_of_base : (n : ℕ) → number_at (base_on n) ≡ n
 number_of_base n = omega arith
 

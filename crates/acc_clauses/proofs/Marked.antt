@@ -1,4 +1,5 @@
--- What the marks of blocks tell: how many queued transfers name each, and whether its mapping has ended. They do after each change.
+-- The marks of blocks: how many queued transfers name each, and whether its mapping has ended. They are right after
+-- each change.
 use Rattle.std.proofs.Common.{ℕ, ◌≡◌, ◌+◌, ◌*◌, ◌^◌, ◌<◌, ◌≤◌, refl, sym, ◌∙◌, ap, false, cond, List, [], ◌∷◌, ◌++◌, length, Option, Some, arith}
 use Rattle.std.specs.Prelude.{◌==◌, map, is_none, IsSome, option_map}
 use Rattle.std.specs.List.{AllByRecursion, AllZip}
@@ -32,7 +33,7 @@ marks_without : (P Q : Mark → Type 0) (k : ℕ) (ms : List Mark) → ((m : Mar
 marks_without P Q k [] other h = tt
 marks_without P Q k (m ∷ ms) other h = grind (arith, nat_tests, marks_without P Q k ms other h.1)
 
--- ---- what the mark of a block tells
+-- ---- what the mark of a block says
 
 -- the mark of a block that is there, which is right
 pub record IsMarkAt (ranges : List Range) (queues : List (List Transfer)) (marks : List Mark) (k : ℕ) : Type 0 where
@@ -52,7 +53,7 @@ pins-few : (k : ℕ) (queues : List (List Transfer)) → AllByRecursion (λ (ts 
 pins-few k [] h = omega arith
 pins-few k (ts ∷ queues) h = grind (arith, nat_tests, pins-few k queues h.1, sum_by-cons (pins_in k) ts queues, count_by-le-length (λ (t : Transfer). t.block == k) ts)
 
--- no mark tells of more
+-- no mark says more
 pins_at-le : (ranges : List Range) (queues : List (List Transfer)) (k : ℕ) (marks : List Mark) → AllByRecursion (IsMarkRight ranges queues) marks → pins_at k marks ≤ pins_of k queues
 pins_at-le ranges queues k [] h = omega arith
 pins_at-le ranges queues k (m ∷ ms) h = grind (arith, nat_tests, pins_at-le ranges queues k ms h.1)

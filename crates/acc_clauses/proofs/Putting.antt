@@ -1,4 +1,4 @@
--- What a transfer leaves of the parts that is made at once, that is put into a queue, or that is the first one of a queue.
+-- What a transfer leaves of the parts: one made at once, one put into a queue, or the first of a queue.
 use Rattle.std.proofs.Common.{ℕ, ◌≡◌, ◌<◌, ◌≤◌, true, false, List, length, Some, None, arith}
 use Rattle.std.specs.Prelude.{is_none, IsSome}
 use Rattle.std.specs.List.{AllZip}

@@ -58,7 +58,7 @@ rest_can l task tasks did dids c e h limits state room = grind (arith, nat_tests
 pub births_next : (task : Task) (did : Did) (c e : Contents) → e.state ≡ act_state task did c.state → e.state.records.births ≤ c.state.records.births + 1
 births_next task did c e state = grind (arith, nat_tests, records-act_state, mapping-act, births_most)
 
--- what the tasks come to is what the first comes to, and then the others
+-- what the tasks lead to is what the first leads to, and then the others
 pub rest_state : (task : Task) (tasks : List Task) (did : Did) (dids : List Did) (s t u : State) → t ≡ act_state task did s → act_all_state (task ∷ tasks) (did ∷ dids) s ≡ u → act_all_state tasks dids t ≡ u
 unfolding act_all_state
 rest_state task tasks did dids s t u e h = ap (act_all_state tasks dids) e ∙ h
@@ -83,6 +83,6 @@ lens_each l n [] [] w bounds judged = tt
 lens_each l n (t ∷ ts) (d ∷ ds) w bounds judged = grind (arith, nat_tests, lens_each l (suc n) ts ds (act t d w) bounds judged.2, task_says l n t w d.step judged.0)
 lens_each l n _ _ w bounds judged = tt
 
--- and so is none of those that tasks are judged to bear
+-- and so is none of those to which tasks are judged to give birth
 pub lens_fit : (l : Limits) (n : ℕ) (tasks : List Task) (dids : List Did) (w : Records) → IsWithinBounds l → AreJudged l n tasks dids w → All (IsFromOne MEMORY_MAX) (lens_born tasks dids)
 lens_fit l n tasks dids w bounds judged = All-from_recursion (IsFromOne MEMORY_MAX) (lens_born tasks dids) (lens_each l n tasks dids w bounds judged)

@@ -1,4 +1,5 @@
--- What one device has keeps its soundness beside other bytes of host memory, and beside greater numbers of the next region and the next loan.
+-- What one device has keeps its soundness beside other bytes of host memory, and beside greater numbers of the next
+-- region and the next loan.
 use Rattle.std.proofs.Common.{ℕ, ◌≡◌, ◌≤◌, ◌<◌, ◌∙◌, List, [], length, arith}
 use Rattle.acc_base.specs.Limits.{Limits}
 use Rattle.acc_base.specs.Register.{Region}

@@ -1,4 +1,4 @@
--- Which blocks have a range, and which have ended and are kept by queued transfers, as the marks of the device tell it.
+-- Which blocks have a range, and which have ended and are kept by queued transfers, as the marks of the device say.
 use Rattle.std.proofs.lemmas.Bool.Decides.{nat_tests}
 use Rattle.std.proofs.Common.{ℕ, ◌≡◌, ◌<◌, ◌∙◌, ap, Bool, List, [], ◌∷◌, Option, Some, arith}
 use Rattle.std.specs.Prelude.{◌&&◌, nat_le, filter, is_none, option_map, IfSome, IsSome}

@@ -67,7 +67,7 @@ abbrev pub IsBelowLimit : ℕ → Task → ℕ → List Range → Type 0
 IsBelowLimit counter_max (Enter counter item queue) block ranges = counter_of counter block ranges < counter_max
 IsBelowLimit counter_max _ block ranges = ⊤
 
--- entry is the one task that bears a block
+-- entry is the one task that gives birth to a block
 abbrev pub IsEnter : Task → Type 0
 IsEnter (Enter counter item queue) = ⊤
 IsEnter _ = ⊥
@@ -77,7 +77,8 @@ pub record CanCount (counter_max : ℕ) (task : Task) (block : ℕ) (ranges : Li
   pub there : IsSome (range_of block ranges)
   pub below : IsBelowLimit counter_max task block ranges
 
--- the section can be copied between host memory and a block: it lies in host memory, which is not too large, and in the range that is mapped to the block, which is there and, unless it is lent, as long as that range
+-- the section can be copied between host memory and a block. It lies in host memory, which is not too large, and in the
+-- range that is mapped to the block. The block is there and, unless it is lent, as long as that range
 pub record CanMove (section : Section) (block : ℕ) (s : State) : Type 0 where
   pub in_host : is_within section (host_memory (length s.host)) ≡ true
   pub end : end_of section ≤ 2 ^ 40
@@ -87,7 +88,8 @@ pub record CanMove (section : Section) (block : ℕ) (s : State) : Type 0 where
   pub there : IsSome (block_at block s.records.blocks)
   pub len : is_lent block s.records.loans ≡ false → length (bytes_of block s.memories) ≡ range.section.len
 
--- the section can be copied between host memory and a block that is not lent, whose bytes are those from a host address on: it lies in host memory, and among them
+-- the section can be copied between host memory and a block that is not lent, whose bytes are those from a host address
+-- on. It lies in host memory, and among them
 pub record CanCopy (section : Section) (block start : ℕ) (s : State) : Type 0 where
   pub in_host : is_within section (host_memory (length s.host)) ≡ true
   pub end : end_of section ≤ 2 ^ 40
@@ -137,7 +139,8 @@ pub record CanBear (counter_max : ℕ) (memory section : Section) (block place :
   pub no_loan : is_lent block s.records.loans ≡ false
   pub counted : 0 < counter_max
 
--- a counter of the block's range can fall, for which no task that enters asks; and the mapping ends by it exactly if the step says so
+-- a counter of the block's range can fall, by a task that does not enter. The mapping ends by it exactly if the step
+-- says so
 pub record CanDrop (task : Task) (block : ℕ) (ended : Bool) (s : State) : Type 0 where
   pub move : CanMove (section_of task) block s
   pub not_entry : IsEnter task → ⊥
@@ -148,7 +151,8 @@ pub record CanAttach (pointer block : ℕ) (s : State) : Type 0 where
   pub move : CanMove (pointer_at pointer) block s
   pub free : is_lent block s.records.loans ≡ false
 
--- the counter of a pointer in a block can fall: it is above zero, and the block, which is not lent, has the pointer's eight bytes
+-- the counter of a pointer in a block can fall. It is above zero, and the block, which is not lent, has the pointer's
+-- eight bytes
 pub record CanDetach (pointer block : ℕ) (s : State) : Type 0 where
   pub some : 0 < count_at block pointer s.records.attached
   pub move : CanMove (pointer_at pointer) block s
@@ -196,12 +200,12 @@ CanDo x (Move if_present item queue) did = CanLeave x (Move if_present item queu
 
 -- ---- what a task takes of the room
 
--- the length of the block that a step bears, if it bears one
+-- the length of the block that a step gives birth to, if it does
 abbrev pub birth_of : Task → Step → List ℕ
 birth_of task (Born block place) = (section_of task).len ∷ []
 birth_of task _ = []
 
--- the lengths of the blocks that tasks bear, one after the other
+-- the lengths of the blocks that tasks give birth to, one after the other
 abbrev pub lens_born : List Task → List Did → List ℕ
 lens_born (task ∷ tasks) (did ∷ dids) = birth_of task did.step ++ lens_born tasks dids
 lens_born _ _ = []
@@ -231,7 +235,8 @@ pub record HasRegionRoom (regions holdings : ℕ) (room : Room) : Type 0 where
   pub regions_fit : regions ≤ room.regions
   pub holdings_fit : holdings ≤ room.holdings
 
--- births of these lengths, so many attachment counters and so many transfers in each queue took their room, and nothing else was taken
+-- births of these lengths, so many attachment counters and so many transfers in each queue took their room, and nothing
+-- else was taken
 pub record IsRoomLeft (births : List ℕ) (pointers : ℕ) (put : ℕ → ℕ) (old new : Room) : Type 0 where
   pub births_are : old.births ≡ births ++ new.births
   pub ranges : old.ranges ≤ new.ranges + length births
@@ -338,7 +343,8 @@ pub record CanOpen (holdings : ℕ) (c : Contents) : Type 0 where
   pub new : region_at c.state.register.next c.state.register.regions ≡ None
   pub room : HasRegionRoom 1 holdings c.room
 
--- what a directive needs of the register and its room, where a region that it enters has so many holdings, and of the transfers that it makes
+-- what a directive needs of the register and its room, and of the transfers that it makes. A region that it enters has
+-- so many holdings
 abbrev pub CanFinish : Directive → ℕ → Contents → Type 0
 CanFinish (directives.Enter device items) holdings c = CanOpen holdings c
 CanFinish (directives.Exit number) holdings c = IsSome (region_at number c.state.register.regions)
@@ -356,7 +362,8 @@ pub record HasPlanRoom (d : Directive) (p : Planned) (room : Room) : Type 0 wher
   pub pointers : pointers_in p.dids ≤ room.attachments
   pub puts : HasPutRoom (λ q. puts_in q p.tasks p.dids) room
 
--- a birth always takes memory, for its bytes; else room is missing for so many regions, for so many holdings, or for so many attachment counters
+-- a birth always allocates, for its bytes; else room is missing for so many regions, for so many holdings, or for so
+-- many attachment counters
 abbrev pub LacksRoom : List ℕ → ℕ → ℕ → ℕ → Room → Type 0
 LacksRoom lens regions holdings pointers room = (0 < length lens) ⊎ (room.regions < regions) ⊎ (room.holdings < holdings) ⊎ (room.attachments < pointers)
 
@@ -366,7 +373,7 @@ LacksPlanRoom d p room = LacksRoom (lens_born p.tasks p.dids) (regions_entered d
 
 -- ---- what a plan notes
 
--- beside the tasks of a plan stand the lengths of the blocks that they bear, and what a region holds that they enter
+-- beside the tasks of a plan stand the lengths of their new blocks, and what a region holds that they enter
 pub record IsNoted (tasks : List Task) (dids : List Did) (lens : List ℕ) (holdings : List Holding) : Type 0 where
   pub lens_are : lens ≡ lens_born tasks dids
   pub holdings_are : holdings ≡ holdings_by tasks dids

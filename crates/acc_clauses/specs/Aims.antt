@@ -1,4 +1,4 @@
--- What a plan knows of pointers after its tasks: what each look-up answers then, from what it answers before them.
+-- What a plan knows of pointers after its tasks: what each look-up returns then, from what it returns before them.
 use Rattle.std.specs.Prelude.{ℕ, if◌then◌else◌, ◌==◌, ◌&&◌, List, fold, Result, ⊤}
 use Rattle.acc_clauses.specs.Words.{Task, Aim, Step, Fault}
 use Rattle.acc_base.specs.declared.tasks.Task.TheVariants.{ExitRegion, ExitData}
@@ -50,6 +50,7 @@ aim_before (ExitRegion holding) step w = judge_release holding.aim w
 aim_before (ExitData finalize item queue) step w = detach_if finalize (pointer_aimed (ExitData finalize item queue) step) w
 aim_before _ step w = aims.None
 
--- neither the block in which a task detaches a pointer before its step, nor the one that the step needs is lent, and its queue has room
+-- neither the block in which a task detaches a pointer before its step is lent, nor the one that the step needs. And
+-- its queue has room
 abbrev pub step_free : Task → Step → Aim → ℕ → Records → Result ⊤ Fault
 step_free task step before queue_cap w = not_lent (block_aimed before) w.loans >> (not_lent (block_needed task step) w.loans >> room_for queue_cap (queue_of task) (transfer_of task step w.ranges) w.queues)

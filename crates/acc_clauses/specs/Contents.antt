@@ -16,7 +16,8 @@ use Rattle.acc_queues.specs.Queued.{QueuesState}
 use Rattle.acc_clauses.specs.declared.environments.Environment.{Environment}
 use Rattle.acc_clauses.specs.declared.numbers.Numbers.{Numbers}
 
--- what can be taken in without memory: births of blocks of these lengths, in this order; so many ranges; so many regions; so many holdings of the next region; so many attachment counters; and so many transfers in each queue
+-- what can be added without allocating: births of blocks of these lengths, in this order; so many ranges, regions and
+-- attachment counters. And so many holdings of the next region, and so many transfers in each queue
 pub record Room : Type 0 where
   pub births : List ℕ
   pub ranges : ℕ
@@ -31,7 +32,7 @@ pub record Contents : Type 0 where
   pub state : State
   pub room : Room
 
--- ---- what the parts come to
+-- ---- the state that the parts stand for
 
 -- what one device has, and the bytes of host memory, which are not its own
 pub record WithHost : Type 0 where
@@ -45,7 +46,7 @@ pub record WithHost : Type 0 where
 abbrev pub beside : Environment → List ℕ → WithHost
 beside x host = record { present = x.present; device = x.device; host = host; attached = x.attached; queues = x.queues }
 
--- the state that the parts come to, with the numbers of the next region and the next loan
+-- the state of the parts, with the numbers of the next region and the next loan
 abbrev pub state_of : WithHost → Numbers → State
 state_of x next = record {
   records = record { ranges = x.present.table.ranges; blocks = x.device.blocks; attached = x.attached.attached; births = x.device.births; queues = x.queues.queues; loans = x.device.loans };
@@ -54,7 +55,7 @@ state_of x next = record {
   memories = x.device.memories;
 }
 
--- the state that the parts come to, whatever region or loan comes next
+-- the state of the parts, whatever region or loan comes next
 abbrev pub bare_numbers : Numbers
 bare_numbers = record { region = 0; serial = 0; lent = 0 }
 
@@ -75,7 +76,7 @@ pub record AreSizedBy (l : Limits) (x : WithHost) : Type 0 where
   pub pointers : x.attached.counter_max ≡ l.counter_max
   pub queues : x.queues.cap ≡ l.queue_cap
 
--- the mark of a block tells how many queued transfers name it, and whether its mapping has ended
+-- the mark of a block says how many queued transfers name it, and whether its mapping has ended
 pub record IsMarkRight (ranges : List Range) (queues : List (List Transfer)) (m : Mark) : Type 0 where
   pub pins : m.pins ≡ pins_of m.block queues
   pub ended : m.ended ≡ is_none (range_of m.block ranges)
@@ -89,7 +90,8 @@ pub record AreContentsSound (c : Contents) : Type 0 where
   pub records : AreRecordsSound c.limits c.state.records
   pub memories : AreMemoriesSized c.limits c.state
 
--- the limits lie within their bounds, the parts fit one another, what they come to is sound, and the blocks that are lent are counted: fewer than the number of the next loan
+-- the limits lie within their bounds, the parts fit one another, and the state is sound. The lent blocks are counted:
+-- they are fewer than the number of the next loan
 pub record ArePartsSound (l : Limits) (x : WithHost) (next : Numbers) : Type 0 where
   pub bounds : IsWithinBounds l
   pub sized : AreSizedBy l x

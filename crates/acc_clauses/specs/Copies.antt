@@ -8,7 +8,8 @@ use Rattle.acc_base.specs.Bytes.{is_moved}
 abbrev pub moved_below : Section → ℕ → List Attachment → ℕ → ℕ → Bool
 moved_below section block attached at address = is_moved section block attached address && nat_lt address at
 
--- the run from an address on ends here: no byte of it is an attached pointer's, and the eight bytes behind it are one's, or the section has ended
+-- the run from an address on ends here. No byte of it is an attached pointer's, and the eight bytes behind it are
+-- one's, or the section has ended
 pub record IsRunEnd (block : ℕ) (attached : List Attachment) (at end stop : ℕ) : Type 0 where
   pub most : stop ≤ end
   pub more : at < stop + 8

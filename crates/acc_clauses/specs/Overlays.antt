@@ -1,4 +1,4 @@
--- What a plan knows of the records after its tasks: what each look-up answers then, from what it answers before them.
+-- What a plan knows of the records after its tasks: what each look-up returns then, from what it returns before them.
 use Rattle.std.specs.Prelude.{ℕ, ◌+◌, ◌-◌, ◌≡◌, ◌⊎◌, Bool, true, false, if◌then◌else◌, ◌==◌, ◌&&◌, ◌≤◌, length, List, [], ◌∷◌, ◌++◌, map, fold, Option, Some, None, Ok}
 use Rattle.std.specs.List.{AllByRecursion, list_all, list_any}
 use Rattle.acc_clauses.specs.Words.{Section, Range, Counters, Found, Task, Step, Did, Aim}
@@ -62,12 +62,12 @@ AreUnmixed tasks = (list_all enters tasks ≡ true) ⊎ (list_any enters tasks �
 
 -- ---- births and ends
 
--- the place and the length of the block that the task bears, if it does
+-- the place and the length of the block that the task gives birth to, if it does
 abbrev pub birth_by : Task → Step → List (ℕ × ℕ)
 birth_by task (Born block place) = (place, (section_of task).len) ∷ []
 birth_by task _ = []
 
--- the places and lengths of the blocks that these tasks bear
+-- the places and lengths of the blocks that these tasks give birth to
 abbrev pub births_of : List Acted → List (ℕ × ℕ)
 births_of [] = []
 births_of (x ∷ xs) = birth_by x.task x.did.step ++ births_of xs

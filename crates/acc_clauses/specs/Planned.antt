@@ -23,7 +23,7 @@ pub record Planned : Type 0 where
   pub dids : List Did
   pub written : List Did
 
--- what a directive asks, in the order in which it acts; too many items are told before all else
+-- what a directive asks, in the order in which it acts; too many items are refused before all else
 abbrev pub asked_of : Directive → Register → Result (List Task) Fault
 asked_of d g = few_items d >> tasks_of d g
 
@@ -32,7 +32,8 @@ abbrev pub in_written_order : Directive → List Did → List Did
 in_written_order (directives.Exit number) dids = reverse dids
 in_written_order _ dids = dids
 
--- the plan is what judging the directive in this state found: what it asks, at most 64 tasks; that there is the queue that it names; what its tasks do; and that no transfer that it makes is of a block that is lent
+-- the plan is what judging the directive in this state found. The directive asks at most 64 tasks, and the plan has
+-- what they do. There is the queue that it names. No transfer that it makes is of a block that is lent
 pub record IsPlanOf (l : Limits) (d : Directive) (s : State) (p : Planned) : Type 0 where
   pub asked : asked_of d s.register ≡ Ok p.tasks
   pub few : length p.tasks ≤ 64
@@ -79,7 +80,7 @@ steps_by _ queues = []
 abbrev pub finished : Directive → Planned → State → State
 finished d p s = record (drained (steps_by d s.records.queues) s) { register = register_by d (holdings_by p.tasks p.dids) s.register }
 
--- the state after what a directive comes to
+-- the state after the verdict on a directive
 abbrev pub state_by : Bool → Verdict → State → State
 state_by full (Makes e) s = after full e [] s
 state_by full Idle s = s

@@ -33,7 +33,8 @@ pub record IsSpareSound (x : Apart) : Type 0 where
   pub parts : ArePartsSound (limits_of_apart x) (with_zeros x) x.numbers
   pub store : IsStoreSound (contents_of (limits_of_apart x) (with_zeros x) x.numbers)
 
--- what contracts see of it: the limits of the device, what it has, and the numbers of the next region and the next loan when it was set apart
+-- what contracts see of it: the limits of the device, and what it has. And the numbers of the next region and the next
+-- loan when it was set apart
 pub record Parked : Type 0 where
   pub limits : Limits
   pub device : OneDevice

@@ -12,7 +12,7 @@ pub record Seen : Type 0 where
   pub limits : Limits
   pub device : OneDevice
 
--- what the parts of an environment come to
+-- the state that the parts of an environment stand for
 abbrev pub device_of : Environment → OneDevice
 device_of x = record {
   records = record { ranges = x.present.table.ranges; blocks = x.device.blocks; attached = x.attached.attached; births = x.device.births; queues = x.queues.queues; loans = x.device.loans };

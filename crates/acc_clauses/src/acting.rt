@@ -1,4 +1,4 @@
-//! What a step changes. Nothing is judged here, no memory is taken, and nothing is refused.
+//! What a step changes. Nothing is judged here, nothing is allocated, and nothing is refused.
 
 ghost use Rattle.std.specs.Prelude.{◌≡◌, ◌++◌, ◌∷◌, ◌<◌, ◌≤◌, [], ℕ, IsSome, Some, true, false, length};
 ghost use Rattle.acc_base.specs.Ranges.{range_of, start_of, counter_of, changed_at, risen};

@@ -1,4 +1,4 @@
-//! What look-ups of pointers answer after tasks that are only judged yet.
+//! What look-ups of pointers return after tasks that were judged and not done yet.
 
 ghost use Rattle.std.specs.Prelude.{◌≡◌, ◌+◌, ◌<◌, ◌≤◌, ◌^◌, length};
 ghost use Rattle.acc_base.specs.Attachments.{count_after};

@@ -1,4 +1,5 @@
-//! What becomes of an item's pointer after the tasks that were judged before it (OpenACC 3.3, sections 2.6.8 and 2.7.2).
+//! What becomes of an item's pointer after the tasks that were judged before it (OpenACC 3.3, sections 2.6.8 and
+//! 2.7.2).
 
 ghost use Rattle.std.specs.Prelude.{◌≡◌, Ok, Some, true};
 ghost use Rattle.std.specs.List.{list_all};

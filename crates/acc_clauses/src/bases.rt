@@ -89,8 +89,8 @@ impl DeviceBase {
         &self.regions
     }
 
-    /// The bytes of each block by rising number, where traces are full: of a block that was lent, as they were before. None
-    /// where traces are counted.
+    /// The bytes of each block by rising number, where traces are full: of a block that was lent, as they were before.
+    /// None where traces are counted.
     pub fn memories(&self) -> &[SavedBlock]
         ensures { map memory_saved result.now ≡ self.now.memories }
     {
@@ -121,7 +121,7 @@ impl Model for Base {
 }
 
 impl Base {
-    /// A base of these devices, numbers and bytes of host memory, which so many events had led to.
+    /// A base of these devices, numbers and bytes of host memory, to which so many events had led.
     pub fn of(
         devices: Vec<DeviceBase>,
         next_region: u64,

@@ -60,8 +60,8 @@ pub(crate) fn start_of(present: &Present, block: u64, hint: Hint) -> u64
     }
 }
 
-/// Where the run of bytes from the host address `at` on ends that no attached pointer of the block has: at the next such
-/// pointer, which may begin up to seven bytes below `at`, or at `end`.
+/// The end of the run of bytes, from the host address `at` on, that are of no attached pointer of the block. It is
+/// `end`, or where the next attached pointer begins, which may be up to seven bytes below `at`.
 fn run_end(attached: &Attached, block: u64, at: u64, end: u64) -> u64
     requires { at < end }
     ensures { IsRunEnd block attached.now.attached at end result }
@@ -84,8 +84,8 @@ fn run_from(at: u64, stop: u64) -> Section
     }
 }
 
-/// Copies a section to host memory from a block whose bytes are those from the host address `start` on, but for the bytes
-/// of attached pointers.
+/// Copies a section to host memory from a block whose bytes are those from the host address `start` on. The bytes of
+/// attached pointers are left out.
 pub(crate) fn copy_out(
     environment: &Environment,
     host: &mut HostMem,
@@ -105,8 +105,8 @@ pub(crate) fn copy_out(
     }
 }
 
-/// Copies a section of host memory to a block whose bytes are those from the host address `start` on, but for the bytes
-/// of attached pointers.
+/// Copies a section of host memory to a block whose bytes are those from the host address `start` on. The bytes of
+/// attached pointers are left out.
 pub(crate) fn copy_in(
     environment: &mut Environment,
     host: &HostMem,

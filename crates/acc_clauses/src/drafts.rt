@@ -15,7 +15,7 @@ use std::marker::Model;
 #[derive(Drop)]
 pub(crate) struct Draft {
     acts: ArrayVec<Acted, 64>,
-    // The place and the length of each block that they bear.
+    // The place and the length of each block that they give birth to.
     births: ArrayVec<(u64, u64), 64>,
     // The blocks whose mappings they end.
     ended: ArrayVec<u64, 64>,
@@ -119,7 +119,7 @@ impl Draft {
         &self.hints
     }
 
-    /// The place and the length of each block that they bear.
+    /// The place and the length of each block that they give birth to.
     pub(crate) fn births(&self) -> &[(u64, u64)]
         ensures value { result.now ≡ births_of self.now }
         ensures few { length result.now ≤ 64 }

@@ -20,8 +20,8 @@ fn drain_queue(parts: &mut Parts, q: u64)
     }
 }
 
-/// Makes the transfers of a queue, or those of all queues from the first to the last. None is of a block that is lent. It
-/// takes no memory.
+/// Makes the transfers of a queue, or those of all queues from the first to the last. None is of a block that is lent.
+/// It allocates nothing.
 pub fn drain(parts: &mut Parts, queue: Option<u64>)
     requires free { none_lent (transfers_of queue parts.old.state.records.queues) parts.old.state.records.loans ≡ Ok tt }
     ensures limits { parts.new.limits ≡ parts.old.limits }

@@ -1,4 +1,4 @@
-//! What look-ups answer after tasks that are only judged yet.
+//! What look-ups return after tasks that were judged and not done yet.
 
 ghost use Rattle.std.specs.Prelude.{◌≡◌, ◌+◌, ◌<◌, ◌≤◌, ◌^◌, length};
 ghost use Rattle.acc_clauses.specs.Overlays.{recount, are_zero, counters_by, counters_over, found_beside, found_by, found_over, tasks_in, dids_in, puts_by, puts_in};

@@ -13,8 +13,8 @@ use acc_present::Present;
 use acc_queues::Queues;
 use std::alloc::Global;
 
-/// What one device has: the present table, the blocks of its memory, the attachment counters and the queues, side by side.
-/// How they fit one another, and host memory, is said by what holds them.
+/// What one device has: the present table, the blocks of its memory, the attachment counters and the queues, side by
+/// side. How they fit one another, and host memory, is said by what holds them.
 #[derive(Drop)]
 pub(crate) struct Environment {
     /// The mapped ranges and the open regions.
@@ -27,8 +27,8 @@ pub(crate) struct Environment {
     pub(crate) queues: Queues,
 }
 
-/// An environment apart from host memory, with the limits of its table, the number of its device, and the numbers of the
-/// next region and the next loan when it was set apart.
+/// An environment apart from host memory, with the limits of its table and the number of its device. Beside these it
+/// has the numbers of the next region and the next loan when it was set apart.
 #[derive(Drop)]
 pub(crate) struct Apart {
     pub(crate) config: Config,

@@ -9,8 +9,8 @@ use crate::parts::Parts;
 use crate::plans::Plan;
 use acc_base::Directive;
 
-/// Does what a directive says of the register and the queues, where there is room for it. It takes no memory and is never
-/// refused.
+/// Does what a directive says of the register and the queues, where there is room for it. It allocates nothing and is
+/// never refused.
 pub(crate) fn finish(parts: &mut Parts, directive: &Directive, plan: &Plan)
     requires { CanFinish directive.now (length (holdings_by plan.now.tasks plan.now.dids)) parts.old }
     ensures limits { parts.new.limits ≡ parts.old.limits }

@@ -344,8 +344,8 @@ fn block_aimed(aim: Aim) -> Option<u64>
     }
 }
 
-/// What the tables say of a task can be done: neither the block in which it detaches a pointer before its step, nor the
-/// one that the step needs is lent, and its queue has room.
+/// What the tables say of a task can be done. Neither the block in which it detaches a pointer before its step is lent,
+/// nor the one that the step needs. And its queue has room.
 pub(crate) fn step_free(
     parts: &Parts,
     draft: &Draft,

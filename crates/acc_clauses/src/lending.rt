@@ -34,7 +34,7 @@ fn queue_free(parts: &Parts, q: u64) -> Result<(), Fault>
     Ok(())
 }
 
-// No transfer of a queue, or of all queues, names a block that is lent; the first that does is told.
+// No transfer of a queue, or of all queues, names a block that is lent. The refusal names the first such block.
 fn wait_free(parts: &Parts, queue: Option<u64>) -> Result<(), Fault>
     ensures { result ≡ none_lent (transfers_of queue parts.now.state.records.queues) parts.now.state.records.loans }
 {
@@ -54,7 +54,7 @@ fn wait_free(parts: &Parts, queue: Option<u64>) -> Result<(), Fault>
     }
 }
 
-/// No queued transfer that a directive makes names a block that is lent; the first that does is told.
+/// No queued transfer that a directive makes names a block that is lent. The refusal names the first such block.
 pub(crate) fn transfers_free(parts: &Parts, directive: &Directive) -> Result<(), Fault>
     ensures { result ≡ none_lent (transfers_in directive.now parts.now.state.records.queues) parts.now.state.records.loans }
 {

@@ -1,8 +1,8 @@
-//! The clauses of data directives, and their queues, on one device at a time: a directive is judged whole, then all room is
-//! made, and then it is done.
+//! The clauses of data directives, and their queues, on one device at a time. A directive is judged whole, then all
+//! room is made, and then it is done.
 //!
-//! Judging takes no memory and changes nothing; making room changes nothing else; and doing takes no memory and is never
-//! refused.
+//! Judging allocates nothing and changes nothing. Making room changes nothing else. Doing allocates nothing and is
+//! never refused.
 #![tactic(auto)]
 
 mod acted;

@@ -25,7 +25,7 @@ pub fn note_written(written: &mut ArrayVec<Did, 64>, directive: &Directive, acts
     }
 }
 
-// Notes the length of the block that a task bears, if it bears one.
+// Notes the length of the block that a task gives birth to, if it does.
 fn note_birth(lens: &mut ArrayVec<u64, 64>, x: &Acted)
     requires { length lens.old.items < 64 }
     ensures lens { lens.new.items ≡ lens.old.items ++ birth_of x.now.task x.now.did.step }
@@ -36,7 +36,7 @@ fn note_birth(lens: &mut ArrayVec<u64, 64>, x: &Acted)
     }
 }
 
-/// The lengths of the blocks that these tasks bear, one after the other.
+/// The lengths of the blocks that these tasks give birth to, one after the other.
 pub fn note_births(lens: &mut ArrayVec<u64, 64>, acts: &[Acted])
     requires { length acts.now ≤ 64 }
     ensures { lens.new.items ≡ lens_born (tasks_in acts.now) (dids_in acts.now) }

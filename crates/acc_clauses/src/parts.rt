@@ -27,8 +27,8 @@ mod queues;
 mod regions;
 mod snapshots;
 
-/// The parts of a data environment, which fit one another, with the limits, the numbers of the next region and the
-/// next loan, and how many blocks are lent.
+/// The parts of a data environment, which fit one another. Beside them it has the limits, the numbers of the next
+/// region and the next loan, and how many blocks are lent.
 #[derive(Drop)]
 pub(crate) struct Parts {
     config: Config,
@@ -122,8 +122,8 @@ impl Parts {
         self.environment.device.laws();
     }
 
-    /// Takes in what another device has in place of what this one has, which is answered. Host memory and the numbers of the
-    /// next region and the next loan stay.
+    /// Takes in what another device has, and returns what this one had. Host memory and the numbers of the next region
+    /// and the next loan stay.
     pub(crate) fn exchange(&mut self, other: Apart) -> Apart
         requires sound { ArePartsSound (limits_on other.number other.config) (beside other.environment self.old.state.host) (numbers_of self.old.state other.numbers) }
         ensures limits { self.new.limits ≡ limits_on other.number other.config }

@@ -44,7 +44,7 @@ fn judge_all(
 /// How many items a directive may name.
 const ITEM_LIMIT: usize = 64;
 
-/// The directive names no more items than it may. [`crate::Store::plan`] tells this before all else.
+/// The directive names no more items than it may. [`crate::Store::plan`] refuses this before all else.
 ///
 /// # Errors
 ///
@@ -59,8 +59,8 @@ pub fn check_items(directive: &Directive) -> Result<(), Fault>
     Ok(())
 }
 
-/// The number of the device that a directive names. The exit from a data region names none: it is for the device on which
-/// the region was entered (OpenACC 3.3, section 2.6.5).
+/// The number of the device that a directive names. The exit from a data region names none: it is for the device on
+/// which the region was entered (OpenACC 3.3, section 2.6.5).
 pub fn device_named(directive: &Directive) -> Option<u64>
     ensures { result ≡ device_named directive.now }
 {
@@ -135,17 +135,17 @@ fn check_queue(queue: Option<u64>) -> Result<(), Fault>
     }
 }
 
-/// Judges a directive whole for the device of the parts: its first refusal, or what each of its items will do. It takes no
-/// memory, and nothing of the parts changes.
+/// Judges a directive whole for the device of the parts: its first refusal, or what each of its items will do. It
+/// allocates nothing, and nothing of the parts changes.
 ///
 /// # Errors
 ///
-/// [`Fault::TooManyItems`] above 64 items; [`Fault::NoDevice`] where the directive names another device;
-/// [`Fault::NoRegion`] where the region that is left is not open; [`Fault::NoQueue`] where there is no queue of the number
-/// that it names; else the first refusal of an item: [`Fault::OutOfHost`], [`Fault::Misaligned`],
-/// [`Fault::PartlyPresent`], [`Fault::NotPresent`], [`Fault::CounterFull`] or [`Fault::DeviceFull`], with the item's place
-/// in the directive, counted from 0, or [`Fault::Lent`] or [`Fault::QueueFull`]; or, of a wait or a step, [`Fault::Lent`]
-/// at the first transfer whose block is lent.
+/// [`Fault::TooManyItems`] above 64 items. [`Fault::NoDevice`] where the directive names another device.
+/// [`Fault::NoRegion`] where the region that is left is not open. [`Fault::NoQueue`] where there is no queue of the
+/// number that it names. Else the first refusal of an item, with its place in the directive, counted from 0. This is
+/// [`Fault::OutOfHost`], [`Fault::Misaligned`], [`Fault::PartlyPresent`], [`Fault::NotPresent`],
+/// [`Fault::CounterFull`], [`Fault::DeviceFull`], or without a place [`Fault::Lent`] or [`Fault::QueueFull`]. Of a wait
+/// or a step it is [`Fault::Lent`] at the first transfer whose block is lent.
 #[tactic(auto, using(crate::proofs::Asking::event_laws))]
 pub(crate) fn plan(parts: &Parts, directive: &Directive, plan: &mut Plan) -> Result<(), Fault>
     requires births { parts.now.state.records.births < 2 ^ 48 }

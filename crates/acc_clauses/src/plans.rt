@@ -14,12 +14,12 @@ use std::marker::Model;
 
 /// A directive that was judged whole: what each of its items will do.
 ///
-/// All of it lies in the value, some 20 KiB for 64 items, so a plan that is used again and again costs nothing to make.
+/// All of it lies in the value, some 20 KiB for 64 items. So a plan that is used again costs nothing to make.
 #[derive(Drop)]
 pub struct Plan {
     pub(crate) draft: Draft,
-    // What was noted of its tasks: the lengths of the blocks that they bear, what a region that they enter holds, and what
-    // they do in written order.
+    // What was noted of its tasks, in written order: lengths of new blocks, holdings of a region that they enter, and
+    // what they do.
     pub(crate) lens: ArrayVec<u64, 64>,
     pub(crate) holdings: ArrayVec<Holding, 64>,
     pub(crate) written: ArrayVec<Did, 64>,
@@ -38,7 +38,7 @@ impl Model for Plan {
 }
 
 impl Plan {
-    /// A plan of nothing, to be filled by [`crate::Store::plan`]. It takes no memory.
+    /// A plan of nothing, to be filled by [`crate::Store::plan`]. It allocates nothing.
     pub fn new() -> Self
         ensures { result ≡ record { tasks = []; dids = []; written = [] } }
     {
@@ -64,14 +64,14 @@ impl Plan {
         self.draft.hints()
     }
 
-    /// What each item does, in the order in which the directive or the region names them. It takes no memory.
+    /// What each item does, in the order in which the directive or the region names them. It allocates nothing.
     pub fn did(&self) -> &[Did]
         ensures { result.now ≡ self.now.written }
     {
         &self.written
     }
 
-    /// The lengths of the blocks that its tasks bear, one after the other.
+    /// The lengths of the blocks that its tasks give birth to, one after the other.
     pub(crate) fn lens(&self) -> &[u64]
         ensures lens { result.now ≡ lens_born self.now.tasks self.now.dids }
         ensures few { length result.now ≤ 64 }

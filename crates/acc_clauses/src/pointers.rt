@@ -1,4 +1,5 @@
-//! What attaching and detaching a pointer changes. Nothing is judged here, no memory is taken, and nothing is refused.
+//! What attaching and detaching a pointer changes. Nothing is judged here, nothing is allocated, and nothing is
+//! refused.
 
 ghost use Rattle.std.specs.Prelude.{ℕ, List, [], ◌≡◌, ◌-◌, ◌≤◌, length, slice_index};
 ghost use Rattle.std.specs.Int.{w64, to_le_bytes};

@@ -1,4 +1,4 @@
-//! What look-ups answer in the records that the tasks judged so far will leave.
+//! What look-ups return in the records that the tasks judged so far will leave.
 
 ghost use Rattle.std.specs.Prelude.{◌≡◌, ◌+◌, ◌<◌, ◌^◌, length, true};
 ghost use Rattle.std.specs.List.{list_all};

@@ -19,8 +19,8 @@ fn hint_of(hints: &[Hint], n: usize) -> Hint {
     }
 }
 
-/// Does the steps of these tasks, one after the other, each judged in what those before it leave, where there is room for
-/// all of them. It takes no memory and is never refused. The hints are of the ranges of the tasks.
+/// Does the steps of these tasks, one after the other. Each was judged in what those before it leave, and there is room
+/// for all. It allocates nothing and is never refused. The hints are of the ranges of the tasks.
 pub fn act_all(parts: &mut Parts, acts: &[Acted], hints: &[Hint])
     requires judged { AreJudged parts.old.limits 0 (tasks_in acts.now) (dids_in acts.now) parts.old.state.records }
     requires known { AreKnown (tasks_in acts.now) (dids_in acts.now) parts.old.state.records }

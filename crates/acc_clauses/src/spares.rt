@@ -12,8 +12,8 @@ use acc_base::{Config, Fault};
 use std::alloc::Global;
 use std::marker::Model;
 
-/// What one device of a table has while another is in use. A store has host memory, the numbers of the next region and the
-/// next loan, and what one device has; [`Store::exchange`](crate::Store::exchange) takes in that of another.
+/// What one device of a table has while another is in use. A store has host memory, the numbers of the next region and
+/// the next loan, and what one device has. [`Store::exchange`](crate::Store::exchange) takes in what another has.
 ///
 /// Contracts see the limits of the device, what it has, and the numbers when it was set apart.
 #[derive(Drop)]

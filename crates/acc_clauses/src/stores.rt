@@ -36,9 +36,8 @@ use acc_lend::Lease;
 use std::alloc::Global;
 use std::marker::Model;
 
-/// Host memory, and of one device the blocks, the mapped ranges with their counters, the data regions that were entered on it
-/// and are open, and the queues of transfers that are yet to be made. What other devices of the table have stands apart
-/// ([`Spare`]).
+/// Host memory, and what one device has. That is its blocks, mapped ranges with their counters, open data regions that
+/// were entered on it, and queues of transfers. What other devices of the table have stands apart ([`Spare`]).
 ///
 /// Contracts see the limits, the state, and the room that was made for more.
 #[derive(Drop)]
@@ -58,8 +57,8 @@ impl Model for Store {
 }
 
 impl Store {
-    /// What the device of a number sees of a new table: nothing is mapped, no region is open, the queues are empty, and host
-    /// memory is zero.
+    /// What the device of a number sees of a new table. Nothing is mapped, no region is open, the queues are empty, and
+    /// host memory is zero.
     ///
     /// # Errors
     ///
@@ -73,9 +72,9 @@ impl Store {
         Ok(Store { parts })
     }
 
-    /// Takes in another device in place of the one that the store has, which is answered. Host memory and the numbers of the
-    /// next region and the next loan stay: none of them is less than when the other device was set apart. No memory is taken,
-    /// and no byte of a block, no range and no queue is copied.
+    /// Takes in another device in place of the one that the store has, which it returns. Host memory and the numbers of
+    /// the next region and the next loan stay. None of these numbers is less than when the other device was set apart.
+    /// Nothing is allocated, and no byte of a block, no range and no queue is copied.
     pub fn exchange(&mut self, spare: Spare) -> Spare
         requires host { spare.limits.host ≡ self.old.limits.host }
         requires next { spare.next ≤ self.old.state.register.next }
@@ -88,8 +87,8 @@ impl Store {
         Spare { apart }
     }
 
-    /// The state is sound, the limits lie within their bounds, and the blocks and the holes that [`Store::hole`] answers are
-    /// the device, with no address in two of them. Nothing is done.
+    /// The state is sound, and the limits lie within their bounds. The blocks and the holes that [`Store::hole`]
+    /// returns are the device, with no address in two of them. Nothing is done.
     pub fn laws(&self)
         ensures sound { IsSound self.now.limits self.now.state }
         ensures limits { IsWithinBounds self.now.limits }
@@ -98,19 +97,19 @@ impl Store {
         self.parts.laws();
     }
 
-    /// Judges a directive whole: its first refusal, or the plan of what each of its items will do, which replaces what the
-    /// plan held. It takes no memory, and nothing of the store changes.
+    /// Judges a directive whole. It returns the first refusal, or writes what each item will do over what the plan
+    /// held. It allocates nothing, and nothing of the store changes.
     ///
     /// # Errors
     ///
-    /// `TooManyItems` above 64 items; `NoDevice` where the directive names another device than [`Store::number`];
-    /// `NoRegion` where the region is not open; `NoQueue` where there is no such queue; then the first refusal of the items
-    /// in the order in which they act. Of an item these are, in this order: what
-    /// the clause tables refuse, which is `OutOfHost`, `Misaligned`, `PartlyPresent`, `NotPresent`, `CounterFull` or
-    /// `DeviceFull`; `Lent` for the block in which it detaches a pointer; `Lent` for the block from which its step
-    /// takes a counter, or whose bytes it copies at once; `QueueFull`; and for an entry, whose pointer is attached
-    /// after its step, `Lent` and then `CounterFull`. Of a wait or a step it is `Lent` at the first transfer whose
-    /// block is lent. The plan is then of no use.
+    /// `TooManyItems` above 64 items. `NoDevice` where the directive names another device than [`Store::number`].
+    /// `NoRegion` where the region is not open. `NoQueue` where there is no such queue. Then the first refusal of the
+    /// items in the order in which they act. An item is refused for these, in this order. First what the clause tables
+    /// refuse: `OutOfHost`, `Misaligned`, `PartlyPresent`, `NotPresent`, `CounterFull` or `DeviceFull`. Then `Lent` for
+    /// the block in which it detaches a pointer. Then `Lent` for the block from which its step takes a counter, or
+    /// whose bytes it copies at once. Then `QueueFull`. An entry attaches its pointer after its step: then `Lent`, and
+    /// last `CounterFull`. Of a wait or a step it is `Lent` at the first transfer whose block is lent. The plan is then
+    /// of no use.
     pub fn plan(&self, directive: &Directive, plan: &mut Plan) -> Result<(), Fault>
         requires births { self.now.state.records.births < 2 ^ 48 }
         ensures judged { let s = self.now.state in MatchResult result (λ _. plan_of self.now.limits directive.now s ≡ Ok (verdict_of self.now.limits.number directive.now s plan.new.dids)) (λ fault. plan_of self.now.limits directive.now s ≡ Err fault) }
@@ -119,13 +118,13 @@ impl Store {
         planning::plan(&self.parts, directive, plan)
     }
 
-    /// Makes all room that a directive needs for which this plan was made on this state of the store. Nothing else changes,
-    /// also where it is refused.
+    /// Makes all room that a directive needs. This plan was made for it on this state of the store. Nothing else
+    /// changes, also where it is refused.
     ///
     /// # Errors
     ///
-    /// [`Fault::Memory`] alone, and only where some of that room was missing. A plan that bears a block always takes memory
-    /// for its bytes.
+    /// [`Fault::Memory`] alone, and only where some of that room was missing. A plan with a birth always allocates for
+    /// the bytes of the block.
     pub fn reserve(&mut self, directive: &Directive, plan: &Plan) -> Result<(), Fault>
         requires planned { IsPlanOf self.old.limits directive.now self.old.state plan.now }
         ensures limits { self.new.limits ≡ self.old.limits }
@@ -146,10 +145,10 @@ impl Store {
         }
     }
 
-    /// Does a directive for which this plan was made on this state of the store, and for which room was made. It takes no
-    /// memory and is never refused. Each of the plan's births, at most 64, has fewer than 2^48 before it, and so has the
-    /// region that it enters. Afterwards the state is that after the event of the directive on this device; it stays where
-    /// there is nothing to do.
+    /// Does a directive for which this plan was made on this state of the store, and for which room was made. It
+    /// allocates nothing and is never refused. Each of the plan's births, at most 64, has fewer than 2^48 before it,
+    /// and so has the region that it enters. Afterwards the state is that after the event of the directive on this
+    /// device. It stays where there is nothing to do.
     pub fn commit(&mut self, directive: &Directive, plan: &Plan)
         requires planned { IsPlanOf self.old.limits directive.now self.old.state plan.now }
         requires births { self.old.state.records.births + 64 ≤ 2 ^ 48 }
@@ -176,7 +175,7 @@ impl Store {
     }
 
     /// Writes bytes into host memory from an address on. An empty write may stand anywhere; else each address that is
-    /// written is in host memory. It takes no memory and is never refused.
+    /// written is in host memory. It allocates nothing and is never refused.
     pub fn host_write(&mut self, addr: u64, bytes: &[u8])
         requires { CanWrite (record { start = addr; len = length bytes.now }) self.old.state.host }
         ensures limits { self.new.limits ≡ self.old.limits }
@@ -186,22 +185,22 @@ impl Store {
         self.parts.host_write(addr, bytes);
     }
 
-    /// The loan of a section of host memory in a region that is open on this device, or what it is refused for (OpenACC 3.3,
-    /// sections 2.5, compute constructs, and 2.6, data environment). It takes no memory, and nothing changes.
+    /// Plans the loan of a section of host memory in a region that is open on this device (OpenACC 3.3, sections 2.5
+    /// and 2.6). It allocates nothing, and nothing changes.
     ///
     /// # Errors
     ///
-    /// `NoRegion` where the region is not open here; then, with item 0, `OutOfHost` where the section is not empty and some
-    /// address of it is outside of host memory, `PartlyPresent` where some of its addresses are mapped but no one range has
-    /// them all, and `NotPresent` where it is absent or empty; `Lent` where its block is lent.
+    /// `NoRegion` where the region is not open here. Then, with item 0, `OutOfHost` where the section is not empty and
+    /// some address of it is outside of host memory. `PartlyPresent` where some of its addresses are mapped but no one
+    /// range has them all. `NotPresent` where it is absent or empty. Last `Lent` where its block is lent.
     pub fn plan_loan(&self, region: u64, section: Section) -> Result<Loan, Fault>
         ensures { MatchResult result (λ loan. IsLoanPlanned self.now.limits region section self.now.state loan) (λ fault. lend_event self.now.limits self.now.limits.number region section self.now.state ≡ Err fault) }
     {
         plan_loan(&self.parts, region, section)
     }
 
-    /// Lends the block of a loan that was planned on this state: its bytes are moved into the lease, which names this device.
-    /// With full traces a copy of them stays; else it takes no memory and is never refused.
+    /// Lends the block of a loan that was planned on this state: its bytes are moved into the lease, which names this
+    /// device. With full traces a copy of them stays; else it allocates nothing and is never refused.
     ///
     /// # Errors
     ///
@@ -222,22 +221,22 @@ impl Store {
         Ok(lease)
     }
 
-    /// What bringing a lease back is refused for. It takes no memory, and nothing changes.
+    /// What bringing a lease back is refused for. It allocates nothing, and nothing changes.
     ///
     /// # Errors
     ///
     /// `NoLease` with the serial number of the lease, unless all of this holds. The lease is of this device, the one of
     /// [`Store::number`]. A block is lent here under its serial number, with its number of the block, and its place and
-    /// length of the section. It has as many bytes as the block. With full traces its bytes outside of the section are those
-    /// that were kept.
+    /// length of the section. It has as many bytes as the block. With full traces its bytes outside of the section are
+    /// those that were kept.
     pub fn check_lease(&self, lease: &Lease) -> Result<(), Fault>
         ensures { MatchResult result (λ _. gather_event self.now.limits lease.now self.now.state ≡ Ok (gathered self.now.limits.full lease.now)) (λ fault. gather_event self.now.limits lease.now self.now.state ≡ Err fault) }
     {
         check_lease(&self.parts, lease)
     }
 
-    /// Takes a block back that is lent, by a lease that [`Store::check_lease`] does not refuse: its bytes are moved out of
-    /// the lease. It takes no memory and is never refused.
+    /// Takes a block back that is lent, by a lease that [`Store::check_lease`] does not refuse: its bytes are moved out
+    /// of the lease. It allocates nothing and is never refused.
     pub fn gather(&mut self, lease: Lease)
         requires { gather_event self.old.limits lease self.old.state ≡ Ok (gathered self.old.limits.full lease) }
         ensures limits { self.new.limits ≡ self.old.limits }
@@ -249,7 +248,7 @@ impl Store {
         self.parts.laws();
     }
 
-    // ---- what it tells of itself
+    // ---- queries
 
     /// The number of the device that the store has. A directive that names another is refused by [`Store::plan`], and a
     /// lease of another by [`Store::check_lease`].

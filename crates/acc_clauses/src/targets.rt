@@ -1,4 +1,4 @@
-//! What look-ups of pointers and of their targets answer in what the tasks judged so far will leave.
+//! What look-ups of pointers and of their targets return in what the tasks judged so far will leave.
 
 ghost use Rattle.std.specs.Prelude.{◌≡◌, ◌%◌, ◌<◌, option_map, Some, true, false};
 ghost use Rattle.std.specs.List.{list_all};

@@ -49,8 +49,8 @@ pub(crate) fn task_count(directive: &Directive, holdings: &[Holding]) -> usize
     }
 }
 
-/// The task of a directive that acts at place `n`, counted from 0, where the region that it leaves holds these. There are
-/// more than `n` tasks, and at most 64.
+/// The task of a directive that acts at place `n`, counted from 0, where the region that it leaves holds these. There
+/// are more than `n` tasks, and at most 64.
 pub(crate) fn task_at(directive: &Directive, holdings: &[Holding], n: usize) -> Task
     requires there { n < length (tasks_with directive.now holdings.now) }
     requires few { length (tasks_with directive.now holdings.now) ≤ 64 }

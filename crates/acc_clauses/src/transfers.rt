@@ -74,7 +74,8 @@ pub(crate) fn move_bytes(
     }
 }
 
-/// Makes the first transfer of a queue, if it has one. A block whose mapping has ended is given back after its last one.
+/// Makes the first transfer of a queue, if it has one. A block whose mapping has ended is given back after its last
+/// one.
 pub(crate) fn step(environment: &mut Environment, host: &mut HostMem, q: u64)
     requires can { CanStep q (beside environment.old host.old) }
     requires marked { AreMarked (beside environment.old host.old) }

@@ -27,8 +27,8 @@ use acc_present::Hint;
 use std::alloc::Global;
 use std::marker::Model;
 
-/// What one device has, to look at: its mapped ranges with their counters, its blocks, attached pointers, queues and loans,
-/// and the regions that were entered on it and are open.
+/// What one device has, to look at. It is its mapped ranges with their counters, its blocks, attached pointers, queues
+/// and loans, and the open regions that were entered on it.
 ///
 /// Contracts see the limits of the device and what it has.
 #[derive(Drop)]
@@ -50,8 +50,8 @@ impl<'a> Model for View<'a> {
 }
 
 impl<'a> View<'a> {
-    /// The records are sound, the limits lie within their bounds, and the blocks and the holes that [`View::hole`] answers are
-    /// the device, with no address in two of them. Nothing is done.
+    /// The records are sound, and the limits lie within their bounds. The blocks and the holes that [`View::hole`]
+    /// returns are the device, with no address in two of them. Nothing is done.
     pub fn laws(&self)
         ensures sound { AreRecordsSound self.now.limits self.now.device.records }
         ensures limits { IsWithinBounds self.now.limits }
@@ -124,8 +124,8 @@ impl<'a> View<'a> {
         self.environment.attached.count(block, pointer)
     }
 
-    /// The attachment counter of the pointer at a host address, in the block whose range has its eight bytes; 0 where it
-    /// is not present (OpenACC 3.3, section 2.6.8).
+    /// The attachment counter (OpenACC 3.3, section 2.6.8) of the pointer at a host address, in the block whose range
+    /// has its eight bytes. 0 where the pointer is not present.
     pub fn attachment(&self, pointer: u64) -> u64
         ensures { result ≡ attachment_of pointer self.now.device.records }
     {
@@ -190,8 +190,8 @@ impl<'a> View<'a> {
         self.environment.device.next_block() - 1
     }
 
-    /// Of the blocks whose mapping has ended, the one of least place at or above a device address. A block stays after the
-    /// end of its mapping while a queued transfer names it (OpenACC 3.3, section 2.16).
+    /// Of the blocks whose mapping has ended, the one of least place at or above a device address. A block stays after
+    /// the end of its mapping while a queued transfer names it (OpenACC 3.3, section 2.16).
     pub fn ended(&self, from: u64) -> Option<Ended>
         ensures { result ≡ ended_from from self.now.device.records }
     {
@@ -199,7 +199,8 @@ impl<'a> View<'a> {
         self.environment.device.ended(from)
     }
 
-    /// The hole of least place at or above a device address: free addresses that lie side by side, as many as there are.
+    /// The hole of least place at or above a device address: free addresses that lie side by side, as many as there
+    /// are.
     pub fn hole(&self, from: u64) -> Option<Hole>
         ensures { IsNextHole from (device_memory self.now.limits) self.now.device.records.blocks result }
     {

@@ -90,7 +90,7 @@ birth_found h s xs births len room o k some place none =
     planned_place h (blocks_in s xs) 0 0 [] (rounded len) o (omega arith) (λ i d lt. absurd (omega arith)) k.lens (shared h s xs k) place none
     ∙ ap (λ bs. place_for (memory_of h) bs (rounded len)) (append-nil (blocks_in s xs))
 
--- a refusal for want of memory comes only where there is a place
+-- a refusal for lack of memory comes only where there is a place
 pub refused_full : (r : Result ℕ Fault) (o : Option ℕ) (p n : ℕ) → IsErrAnd r (λ fault. fault ≡ NoMemory) → o ≡ Some p → (r ≡ Err (DeviceFull 0 n) → o ≡ None) × (o ≡ None → r ≡ Err (DeviceFull 0 n))
 refused_full (Ok x) o p n only place = absurd only
 refused_full (Err fault) o p n only place = (λ full. let bad : ⊥ = cc in absurd bad, λ none. let bad : ⊥ = cc in absurd bad)

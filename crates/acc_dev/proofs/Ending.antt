@@ -42,7 +42,7 @@ ended_put e between d s s' t xs xs' ys births place len k c entries mapped slots
     (AllByRecursion-map (λ (m : Mark). m.block ≤ births) (λ (x : ℕ × ℕ). mark_from x.0 (slot_of s x)) xs c.below) refl (entries' ∙ entries) (mapped' ∙ ap (λ n. n + 1) mapped) in
     rw (blocks, marks, slots, index) now
 
--- what is told of the next block that has ended
+-- what a query says of the next block that has ended
 pub told_next : (h : Space) (s : List (Option Stored)) (xs : List (ℕ × ℕ)) (births n from : ℕ) (room : List ℕ) (x : Stored) (now : DeviceState) → device_of h s xs births room ≡ now → IsNextEnded from (marks_in s xs) (blocks_in s xs) (Some n) → IsStoredOf now n x
     → Some (record { place = x.place; size = rounded x.len; pins = x.pins }) ≡ lowest_ended from now.marks now.blocks
 told_next h s xs births n from room x now is next stored =

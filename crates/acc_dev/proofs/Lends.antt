@@ -15,11 +15,11 @@ use Rattle.acc_dev.proofs.LoanLists.{loan_of-none}
 use Rattle.acc_dev.proofs.Lent.{AreBacked, loans_all}
 use Rattle.acc_dev.proofs.Keeping.{loan_of_slot, long_at, whole_at, len_slot, bytes_at}
 
--- what a look at a slot answers is whether the block is lent
+-- a look at a slot returns whether the block is lent
 pub lent_at : (s : List (Option Stored)) (xs : List (ℕ × ℕ)) (n k : ℕ) (loan : Option Loan) (is : Bool) → IsIndexRising xs → AreBacked s xs → IsSlotOf xs n k → loan ≡ stored_loan (get_or s k None) → is_some loan ≡ is → is_lent n (loans_in s xs) ≡ is
 lent_at s xs n k loan is rise backed slot here some = ap (λ (o : Option Loan). is_some o) (loan_of_slot s xs n k rise backed slot ∙ sym here) ∙ some
 
--- where it answers no, there is no loan
+-- where it returns no, there is no loan
 pub none_here : (o : Option Loan) → is_some o ≡ false → o ≡ None
 none_here None e = refl
 none_here (Some l) e = cc
@@ -32,7 +32,7 @@ section_within s xs n k offset len rise backed slot free within = subst (λ (m :
 pub capped_at : (h : Space) (s : List (Option Stored)) (xs : List (ℕ × ℕ)) (n k : ℕ) → AreSlotsKept h s xs → IsSlotOf xs n k → is_lent n (loans_in s xs) ≡ false → length (stored_bytes (get_or s k None)) ≤ MEMORY_MAX
 capped_at h s xs n k kept slot free = subst (λ (m : ℕ). m ≤ MEMORY_MAX) (sym (whole_at s xs n k kept.rising kept.backed slot free)) (len_slot h s xs n k kept slot).1
 
--- what a look at a slot answers is whether a lease brings its block back
+-- a look at a slot returns whether a lease brings its block back
 pub returnable_at : (s : List (Option Stored)) (xs : List (ℕ × ℕ)) (k d : ℕ) (lease : Leased) (kept is : Bool) → IsIndexRising xs → AreBacked s xs → IsSlotOf xs lease.block k
     → is ≡ is_back_at kept d lease (get_or s k None) → is_returnable kept d lease (blocks_in s xs) (loans_in s xs) (memories_in s xs) ≡ is
 returnable_at s xs k d lease kept is rise backed slot here =

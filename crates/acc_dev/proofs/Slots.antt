@@ -138,7 +138,7 @@ marks_in-kept s t k xs others pins ended = made-kept mark_from s t k xs others (
 abbrev pub AreTold : List (ℕ × ℕ) → ℕ → ℕ → Type 0
 AreTold xs n k = AllByRecursion (λ e. ((e.0 ≡ n) × (e.1 ≡ k)) ⊎ ((e.0 ≡ n → ⊥) × (e.1 ≡ k → ⊥))) xs
 
--- the entries are told apart by their numbers as by their slots
+-- the entries differ in their numbers as in their slots
 slot_told : (xs : List (ℕ × ℕ)) (i : ℕ) → IsIndexRising xs → EachPair (λ d e. d.1 ≡ e.1 → ⊥) xs → i < length xs → AreTold xs (get_or xs i start).0 (get_or xs i start).1
 slot_told [] i rise distinct lt = absurd (omega arith)
 slot_told (x ∷ xs) zero rise distinct lt = (inl (refl, refl), off xs rise.0 distinct.0)
@@ -154,7 +154,7 @@ slot_told (x ∷ xs) (suc i) rise distinct lt =
 pub told_slot : (xs : List (ℕ × ℕ)) (n k : ℕ) → IsIndexRising xs → EachPair (λ d e. d.1 ≡ e.1 → ⊥) xs → IsSlotOf xs n k → AreTold xs n k
 told_slot xs n k rise distinct slot = subst (λ (j : ℕ). AreTold xs n j) slot.is (subst (λ (m : ℕ). AreTold xs m (get_or xs slot.at start).1) slot.entry.number (slot_told xs slot.at rise distinct slot.entry.in_bounds))
 
--- what is made of the slot of one entry changes alone, where entries are told apart
+-- what is made of the slot of one entry changes alone, where entries differ
 made-changed : {Y : Type 0} (f : ℕ → Option Stored → Y) (change : Y → Y) (s t : List (Option Stored)) (n k : ℕ) (xs : List (ℕ × ℕ)) → KeepsOthers s t k → f n (get_or t k None) ≡ change (f n (get_or s k None)) → ((m : ℕ) (o : Option Stored) → (m ≡ n → ⊥) → change (f m o) ≡ f m o) → AreTold xs n k
     → map (λ e. f e.0 (slot_of t e)) xs ≡ map change (map (λ e. f e.0 (slot_of s e)) xs)
 made-changed f change s t n k [] others is else told_of = refl

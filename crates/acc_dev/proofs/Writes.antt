@@ -26,8 +26,8 @@ some_not_none some none = false≢true (subst IsSome none some)
 
 -- ---- what a device keeps
 
--- a device keeps what it keeps where one slot changes and still has the block's place and length, with a mark and a loan
--- that may be
+-- a device keeps its laws where one slot changes and still has the block's place and length, with an allowed mark and
+-- loan
 changed_kept : (h : Space) (s t : List (Option Stored)) (xs : List (ℕ × ℕ)) (k : ℕ) → AreSlotsKept h s xs → IsSome (get_or s k None) → IsSome (get_or t k None) → KeepsOthers s t k → blocks_in t xs ≡ blocks_in s xs → AllByRecursion IsSoundMark (marks_in t xs) → AreBacked t xs → AreSlotsKept h t xs
 changed_kept h s t xs k kept some filled others blocks marks backed =
     record {

@@ -15,9 +15,9 @@ use Rattle.acc_base.specs.Accounts.{EachPair, AreBlocksApart}
 use Rattle.acc_dev.specs.declared.copying.SavedBlock.{SavedBlock}
 use Rattle.acc_dev.specs.Marks.{Mark, new_mark, is_ended_at, mark_changed, with_pin, without_pin, with_end, without_mark}
 
--- where device memory begins and how long it is, the blocks by rising number, the bytes and the mark of each in step with them, the
--- loans by rising block, how many blocks were ever born, and the lengths of births for which room was made, in the order
--- of its use
+-- where device memory begins and how long it is, the blocks by rising number, with the bytes and the mark of each in
+-- step. And the loans by rising block, how many blocks were ever born, and the births for which there is room, by their
+-- lengths in order
 pub record DeviceState : Type 0 where
   pub memory : Section
   pub blocks : List Block
@@ -55,7 +55,8 @@ pub record IsUnchanged (old new : DeviceState) : Type 0 where
 abbrev pub birth_place : DeviceState → ℕ → Option ℕ
 birth_place d len = place_for d.memory d.blocks (rounded len)
 
--- the new device is the old one with a block more: it has the next number, lies at the least place, has these bytes, and no transfer names it
+-- the new device is the old one with a block more. It has the next number and these bytes, lies at the least place, and
+-- no transfer names it
 pub record IsBornWith (old new : DeviceState) (len : ℕ) (bytes : List ℕ) (block : ℕ) : Type 0 where
   pub place : ℕ
   pub place_is : birth_place old len ≡ Some place
@@ -130,7 +131,7 @@ memory_saved b = record { block = b.block; bytes = b.bytes.items }
 
 -- ---- loans
 
--- the new device is the old one with a loan more: the bytes of its block are gone, but for a copy where one is kept
+-- the new device is the old one with a loan more. The bytes of its block are gone, but for a copy where one is kept
 pub record IsTakenOut (old new : DeviceState) (loan : Loan) (keep : Bool) : Type 0 where
   pub memory : new.memory ≡ old.memory
   pub blocks : new.blocks ≡ old.blocks
@@ -140,7 +141,7 @@ pub record IsTakenOut (old new : DeviceState) (loan : Loan) (keep : Bool) : Type
   pub births : new.births ≡ old.births
   pub room : new.room ≡ old.room
 
--- a loan is refused of a block that is lent, and else for want of memory for the copy that is to be kept
+-- a loan is refused of a block that is lent, and else for lack of memory for the copy that is to be kept
 abbrev pub IsLoanRefused : DeviceState → ℕ → Bool → Fault → Type 0
 IsLoanRefused d block keep fault = ((is_lent block d.loans ≡ true) × (fault ≡ Lent block)) ⊎ ((is_lent block d.loans ≡ false) × (keep ≡ true) × (fault ≡ OutOfMemory))
 

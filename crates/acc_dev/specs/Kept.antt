@@ -1,4 +1,5 @@
--- How a device keeps its blocks: each in a slot of a slab, and an index of their numbers and slots. No public clause cites this module.
+-- How a device keeps its blocks: each in a slot of a slab, and an index of their numbers and slots. No public clause
+-- cites this module.
 use Rattle.std.specs.Prelude.{ℕ, ◌≡◌, ◌≢◌, ◌+◌, ◌^◌, ◌<◌, ◌≤◌, ◌==◌, Bool, true, false, not, ◌&&◌, ◌||◌, List, [], ◌∷◌, map, length, Option, Some, None, IsSome, slice_index_or}
 use Rattle.std.specs.List.{AllByRecursion, remove}
 use Rattle.acc_base.specs.declared.addresses.TheConstants.{MEMORY_MAX}

@@ -1,4 +1,5 @@
--- What keeps a block of a device: its mapping, and the queued transfers that name it (OpenACC 3.3, section 2.16, asynchronous behavior).
+-- What keeps a block of a device: its mapping, and the queued transfers that name it (OpenACC 3.3, section 2.16,
+-- asynchronous behavior).
 use Rattle.std.specs.Prelude.{ℕ, ◌+◌, ◌-◌, ◌^◌, ◌≡◌, ◌<◌, ◌≤◌, Bool, true, false, not, ◌&&◌, if◌then◌else◌, nat_le, ◌==◌, List, Option, filter, find, unwrap_or, option_map}
 use Rattle.acc_base.specs.declared.mappings.Block.{Block}
 use Rattle.acc_base.specs.declared.mappings.Ended.{Ended}
@@ -56,7 +57,7 @@ without_mark block marks = filter (λ m. not (m.block == block)) marks
 abbrev pub ended_blocks_from : ℕ → List Mark → List Block → List Block
 ended_blocks_from from marks blocks = filter (λ b. is_ended_at b.number marks && nat_le from b.place) blocks
 
--- what is told of one
+-- what a query says of one
 abbrev pub ended_told : List Mark → Block → Ended
 ended_told marks b = record { place = b.place; size = size_of b; pins = pins_at b.number marks }
 

@@ -1,4 +1,5 @@
--- How a device keeps room for births to come: an empty vector of bytes for each, and places in its lists. No public clause cites this module.
+-- How a device keeps room for births to come: an empty vector of bytes for each, and places in its lists. No public
+-- clause cites this module.
 use Rattle.std.specs.Prelude.{ℕ, ◌≡◌, ◌+◌, ◌^◌, ◌≤◌, List, [], map, length, vec_capacity}
 use Rattle.std.specs.List.{AllByRecursion}
 use Rattle.slab.specs.Slab.{slab_len}
@@ -8,7 +9,8 @@ use Rattle.acc_dev.specs.declared.devices.Device.TheInside.{Inside}
 abbrev pub room_ready : Inside → List ℕ
 room_ready d = map (λ v. vec_capacity v) d.ready.items
 
--- there are not too many, each vector is empty, and for each there is room in the holes, the slots, the index and the tree of the blocks that have ended
+-- there are not too many, and each vector is empty. For each there is room in the holes, the slots, the index and the
+-- tree of the blocks that have ended
 pub record HasRoom (d : Inside) : Type 0 where
   pub few : length d.ready.items ≤ 2 ^ 16
   pub empty : AllByRecursion (λ v. v.items ≡ []) d.ready.items

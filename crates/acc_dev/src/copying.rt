@@ -23,10 +23,10 @@ pub struct SavedBlock {
 }
 
 impl Device {
-    /// The blocks of the device in a vector of their own, by rising number: of each its number, its place and its length.
-    /// The device stays as it is.
+    /// The blocks of the device in a vector of their own, by rising number: of each its number, its place and its
+    /// length. The device stays as it is.
     ///
-    /// It takes memory for the answer alone, for exactly so many blocks, and goes through the device once.
+    /// It allocates for the result alone, exactly so many blocks, and goes through the device once.
     ///
     /// # Errors
     ///
@@ -38,8 +38,8 @@ impl Device {
         copy_blocks_of(&self.slab, &self.index, alloc)
     }
 
-    /// The bytes of each block of the device, by rising number: of a block that is lent, the copy that is kept, if one is.
-    /// The device stays as it is. It takes memory for the answer alone.
+    /// The bytes of each block of the device, by rising number: of a block that is lent, the copy that is kept, if one
+    /// is. The device stays as it is. It allocates for the result alone.
     ///
     /// # Errors
     ///
@@ -53,7 +53,7 @@ impl Device {
 
     /// The loans of the device in a vector of their own, by rising block. The device stays as it is.
     ///
-    /// It takes memory for the answer alone, and goes through the device once.
+    /// It allocates for the result alone, and goes through the device once.
     ///
     /// # Errors
     ///

@@ -29,21 +29,22 @@ use std::marker::Model;
 /// Device memory: blocks, each with a number, a place and bytes (OpenACC 3.3, section 2.6, data environment).
 ///
 /// Blocks are numbered from 1 in the order of their births, and no number is used twice. Places are device addresses
-/// from the one on at which the memory begins. Contracts see the memory's addresses as a section, the blocks by rising number, the bytes of
-/// each, what keeps each, the loans by rising block, and how many blocks were ever born.
+/// from the one on at which the memory begins. Contracts see the memory's addresses as a section, and the blocks by
+/// rising number, with the bytes of each and what keeps it. They also see the loans by rising block, and how many
+/// blocks were ever born.
 ///
-/// A block is kept by its mapping, which [`Device::retire`] ends, and by each queued transfer that names it, which
-/// [`Device::pin`] and [`Device::unpin`] count (OpenACC 3.3, section 2.16, asynchronous behavior). The one of these
-/// calls that takes away the last thing that keeps it gives it back.
+/// A block is kept by its mapping, which [`Device::retire`] ends. It is also kept by each queued transfer that names it
+/// (OpenACC 3.3, section 2.16): [`Device::pin`] and [`Device::unpin`] count these. The call that takes away the last
+/// thing that keeps a block gives it back.
 ///
 /// A mapped block can be lent: [`Device::take_out`] moves its bytes into a lease, and [`Device::put_back`] moves them
 /// back (OpenACC 3.3, section 2.5, compute constructs). In between the block stays where it is and has no bytes here.
 ///
-/// A number finds its block by a binary search, or mostly in one step, since its entry stays in its place while others
-/// are given back; once more than half of the entries are those of blocks that were, these are cleared away. Beside that
-/// a birth and a block that is given back cost what the placement costs for its holes, and a birth the writing of its
-/// bytes; where there is no room for one block more, it also moves the lists that grow. [`Device::ended`] finds its block
-/// in a walk from the top of a tree.
+/// A number finds its block mostly in one step, and else by a binary search. Its entry stays in its place while others
+/// are given back. Once more than half of the entries are of blocks that are gone, these are cleared away. Beside that
+/// a birth and a block that is given back cost what the placement costs for its holes. A birth also writes its bytes,
+/// and moves the lists that grow where there is no room for one block more. [`Device::ended`] finds its block in a walk
+/// from the top of a tree.
 #[derive(Drop)]
 pub struct Device {
     pub(crate) alloc: Global,
@@ -103,7 +104,7 @@ impl Device {
         })
     }
 
-    /// Makes a block of `len` bytes, from 1 to 67,108,864, and answers its number: one more than that of the block born
+    /// Makes a block of `len` bytes, from 1 to 67,108,864, and returns its number: one more than that of the block born
     /// before it. The block lies at the least device address at which its length, rounded up to a multiple of 16, fits.
     /// Each of its bytes is 0xA5, or 0 with `zero` (OpenACC 3.3, the create clause).
     ///
@@ -113,7 +114,7 @@ impl Device {
     ///
     /// [`Fault::DeviceFull`] with item 0 and the rounded length, exactly where it fits nowhere. Else only
     /// [`Fault::Memory`], where there is no memory for its bytes, or room for one block more was missing and could not
-    /// be made. The device is then as before. The room that [`Device::reserve`] made stays, whatever the answer.
+    /// be made. The device is then as before. The room that [`Device::reserve`] made stays in any case.
     pub fn born(&mut self, len: u64, zero: bool) -> Result<u64, Fault>
         requires len { IsFromOne MEMORY_MAX len }
         requires births { self.old.births < 2 ^ 48 }
@@ -163,7 +164,8 @@ impl Device {
     ///
     /// # Errors
     ///
-    /// [`Fault::Memory`] alone, and never where no length is listed. There is then no room, and the device is as before.
+    /// [`Fault::Memory`] alone, and never where no length is listed. There is then no room, and the device is as
+    /// before.
     pub fn reserve(&mut self, lens: &[u64]) -> Result<(), Fault>
         requires few { length lens.now ≤ 2 ^ 16 }
         requires lens { All (IsFromOne MEMORY_MAX) lens.now }
@@ -214,8 +216,8 @@ impl Device {
         number
     }
 
-    /// Makes a block of these bytes, and fills it with nothing else, where room for a birth of this length was made by
-    /// [`Device::reserve`] and is the next. It needs no memory and is never refused: the length fits on the device.
+    /// Makes a block of these bytes, and fills it with nothing else. [`Device::reserve`] made room for a birth of this
+    /// length, which is the next. It needs no memory and is never refused: the length fits on the device.
     ///
     /// Fewer than 2^48 blocks were born before.
     pub fn born_with_reserved(&mut self, given: &[u8]) -> u64
@@ -246,8 +248,8 @@ impl Device {
     }
 
     /// Where [`Device::born`] would place a block of `len` bytes after births at the listed places and of the listed
-    /// lengths: the least device address at which the rounded length fits beside them all. `None` exactly where there
-    /// is none. It needs no memory.
+    /// lengths. It is the least device address at which the rounded length fits beside them all. `None` exactly where
+    /// there is none. It needs no memory.
     ///
     /// Each listed length is from 1 to 67,108,864, and each listed block ends on the device.
     pub fn would_take(&self, listed: &[(u64, u64)], len: u64) -> Option<u64>
@@ -280,7 +282,7 @@ impl Device {
     }
 
     /// Where a block of the device lies: the device address of its first byte, and how many bytes of device memory it
-    /// takes, which is its length rounded up to a multiple of 16.
+    /// takes. These are its length rounded up to a multiple of 16.
     pub fn place(&self, block: u64) -> (u64, u64)
         requires { HasBlock self.now block }
         ensures { IsSomeAnd (block_at block self.now.blocks) (λ b. (result.0 ≡ b.place) × (result.1 ≡ size_of b)) }
@@ -327,7 +329,7 @@ impl Device {
     }
 
     /// Says that one queued transfer fewer names a block of the device. Where it was the last one and the mapping of
-    /// the block has ended, the block is given back: its addresses are free again, and its bytes are gone. It answers
+    /// the block has ended, the block is given back. Its addresses are free again, and its bytes are gone. It returns
     /// whether that is so.
     pub fn unpin(&mut self, block: u64) -> bool
         requires there { HasBlock self.old block }
@@ -347,7 +349,7 @@ impl Device {
 
     /// Ends the mapping of a block of the device, which is not lent. Where no queued transfer names the block it is
     /// given back: its addresses are free again, and its bytes are gone. Else it is kept with its bytes, and
-    /// [`Device::unpin`] gives it back. This answers whether the block was given back, needs no memory and is never
+    /// [`Device::unpin`] gives it back. It returns whether the block was given back, needs no memory and is never
     /// refused.
     pub fn retire(&mut self, block: u64) -> bool
         requires there { HasBlock self.old block }
@@ -397,8 +399,8 @@ impl Device {
         })
     }
 
-    /// The hole of least place at or above the device address `from`; `None` where there is none. A hole is free addresses
-    /// that lie side by side, as many as there are. It needs no memory.
+    /// The hole of least place at or above the device address `from`; `None` where there is none. A hole is free
+    /// addresses that lie side by side, as many as there are. It needs no memory.
     pub fn hole(&self, from: u64) -> Option<Hole>
         ensures { IsNextHole from self.now.memory self.now.blocks result }
     {
@@ -413,11 +415,11 @@ impl Device {
         self.holes.used()
     }
 
-    /// What holds of every device: its blocks lie on it and apart, by rising number; each has a memory of its length,
-    /// from 1 to 67,108,864 bytes, unless it is lent; at most 2^32 queued transfers name it, and one at least where its
-    /// mapping has ended; no block is lent twice, each that is lent is there and mapped, and the section lies in it;
-    /// the blocks take no more bytes than there are; and with the holes between them they are the device, with no
-    /// address in two of them. Nothing is done.
+    /// What holds of every device. Its blocks lie on it and apart, by rising number. Each has a memory of its length,
+    /// from 1 to 67,108,864 bytes, unless it is lent. At most 2^32 queued transfers name it, and one at least where its
+    /// mapping has ended. No block is lent twice. Each that is lent is there and mapped, and the section lies in it.
+    /// The blocks take no more bytes than there are. With the holes between them they are the device, and no address is
+    /// in two of them. Nothing is done.
     pub fn laws(&self)
         ensures size { IsSize self.now.memory.len }
         ensures blocks_apart { HasBlocksApart self.now }

@@ -11,7 +11,7 @@ use std::marker::Model;
 /// The blocks whose mapping has ended, and how many are mapped.
 ///
 /// The next one from a device address on is found in a walk from the top of a tree. For each mapped block a node of it
-/// waits, so that the end of a mapping takes no memory.
+/// waits, so that the end of a mapping allocates nothing.
 #[derive(Drop)]
 pub struct EndedBlocks {
     // The number of each block, by its place.

@@ -83,7 +83,7 @@ pub fn make_room(
     ended.reserve(count)
 }
 
-/// Puts a new block with these bytes, which no transfer names, where it fits first, and answers its place.
+/// Puts a new block with these bytes, which no transfer names, where it fits first, and returns its place.
 pub fn put(
     holes: &mut Holes,
     slab: &mut Slab<Stored>,

@@ -22,8 +22,8 @@ pub struct Entry {
 
 /// The slots of blocks by rising number.
 ///
-/// An entry that is taken out stays in its place, as gone, until more than half of the entries are. So it moves no other
-/// one, and a number stands as far behind the first as it is greater, unless that half was cleared away in between.
+/// An entry that is taken out stays in its place, as gone, until more than half of the entries are. So it moves no
+/// other one. A number stands as far behind the first as it is greater, unless that half was cleared away in between.
 #[derive(Drop)]
 pub struct Index {
     // By rising number. The last one is not gone.
@@ -102,7 +102,7 @@ impl Index {
         });
     }
 
-    /// Takes out the entry of a block, which has one, and answers its slot.
+    /// Takes out the entry of a block, which has one, and returns its slot.
     pub fn take_out(&mut self, block: u64) -> usize
         requires there { AllByRecursion (λ e. e.0 ≡ block → ⊥) self.old.entries → ⊥ }
         ensures lost { IsEntryLost self.old.entries self.new.entries block result }
@@ -119,8 +119,7 @@ impl Index {
     }
 }
 
-/// The place of a number, if it stands there as far behind the first entry as it is greater, or as far before the last
-/// one as it is less.
+/// The place of a number, if it stands as far behind the first entry, or before the last one, as the numbers differ.
 fn place_by_number(items: &[Entry], number: u64) -> Option<usize>
     ensures { IfSome result (IsNumberAt items.now number) }
 {
@@ -161,7 +160,7 @@ fn slot_in(items: &[Entry], block: u64) -> Option<usize>
     if entry.gone { None } else { Some(entry.slot) }
 }
 
-/// Marks the entry of a block as gone, and answers its slot.
+/// Marks the entry of a block as gone, and returns its slot.
 fn mark_gone(items: &mut [Entry], block: u64) -> usize
     requires rising { AreEntriesRising items.old }
     requires there { AllByRecursion (λ e. e.0 ≡ block → ⊥) (live_entries items.old) → ⊥ }
@@ -179,7 +178,7 @@ fn mark_gone(items: &mut [Entry], block: u64) -> usize
     entry.slot
 }
 
-/// Takes entries that are gone off the end, and answers how many they were.
+/// Takes entries that are gone off the end, and returns how many they were.
 fn trim(items: &mut Vec<Entry>) -> usize
     requires { AreEntriesRising items.old.items }
     ensures rising { AreEntriesRising items.new.items }

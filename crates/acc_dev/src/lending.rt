@@ -15,10 +15,10 @@ use acc_base::{Fault, Loan};
 use acc_lend::Lease;
 
 impl Device {
-    /// Moves the bytes of a block of the device, which is mapped, into a lease of `len` bytes of it from place `offset`
-    /// on, which end within the block. The block stays where it is and is lent until [`Device::put_back`] takes the lease
-    /// (OpenACC 3.3, sections 2.5, compute constructs, and 2.6, data environment). With `keep`, a copy of all bytes of the
-    /// block stays too; without it, no byte is copied, and no memory is needed.
+    /// Moves the bytes of a mapped block of the device into a lease (OpenACC 3.3, sections 2.5 and 2.6). The lease is
+    /// of the `len` bytes from place `offset` on, which end within the block. The block stays where it is, and is lent
+    /// until [`Device::put_back`] takes the lease. With `keep`, a copy of all bytes of the block stays too. Without it
+    /// no byte is copied, and nothing is allocated.
     ///
     /// # Errors
     ///
@@ -56,14 +56,15 @@ impl Device {
         Ok(lend_at(&mut self.slab, slot, stays, device, loan))
     }
 
-    /// Moves the bytes of a lease back into its block, which is no longer lent, and lets a kept copy go. No byte is
-    /// copied, and no memory is needed. With `kept`, the lease's bytes are compared with the copy that was kept.
+    /// Moves the bytes of a lease back into its block, which is no longer lent, and frees a kept copy. No byte is
+    /// copied, and nothing is allocated. With `kept`, the lease's bytes are compared with the copy that was kept.
     ///
     /// # Errors
     ///
-    /// [`Fault::NoLease`] with the lease's serial number, and the lease itself, exactly where the lease is of another
-    /// device, or the device has no loan of this serial number, block, place and length of the section, or the lease has
-    /// not as many bytes as the block is long, or, with `kept`, one of its bytes outside of the section is not the copy's. The device is then as before.
+    /// [`Fault::NoLease`] with the lease's serial number, and the lease itself, exactly where one of these holds. The
+    /// lease is of another device. The device has no loan of this serial number, block, place and length of the
+    /// section. The lease has not as many bytes as the block. Or, with `kept`, one of its bytes outside of the section
+    /// is not the copy's. The device is then as before.
     pub fn put_back(&mut self, lease: Lease, kept: bool) -> Result<(), (Lease, Fault)>
         ensures fits { IsOk result ↔ (is_returnable kept (number_at self.old.memory.start) lease self.old.blocks self.old.loans self.old.memories ≡ true) }
         ensures back { IfErr result (λ back. (back.0 ≡ lease) × (back.1 ≡ Fault.NoLease lease.serial)) }
@@ -86,7 +87,7 @@ impl Device {
         loan_at(&self.slab, slot)
     }
 
-    /// Whether [`Device::put_back`] takes a lease. It needs no memory.
+    /// Whether [`Device::put_back`] accepts a lease. It needs no memory.
     pub fn is_returnable(&self, lease: &Lease, kept: bool) -> bool
         ensures { result ≡ is_returnable kept (number_at self.now.memory.start) lease.now self.now.blocks self.now.loans self.now.memories }
     {

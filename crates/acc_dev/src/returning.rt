@@ -21,8 +21,8 @@ fn is_kept_outside(lease: &Lease, copy: &[u8]) -> bool
     copy.len() == bytes.len() && bytes[..from] == copy[..from] && bytes[to..] == copy[to..]
 }
 
-/// Whether a lease brings the block of a slot of a device back: the slot is lent under the lease's serial number, for the
-/// same section, its block is as long as the lease has bytes, the device is the lease's, and where a copy is kept, only
+/// Whether a lease brings the block of a slot of a device back. The device is the lease's. The slot is lent under the
+/// lease's serial number, for the same section. Its block is as long as the lease has bytes. Where a copy is kept, only
 /// the section differs from it.
 fn is_back_at(slab: &Slab<Stored>, slot: usize, device: u64, lease: &Lease, kept: bool) -> bool
     ensures { result ≡ is_back_at kept device lease.now (get slab.now slot) }

@@ -111,8 +111,8 @@ impl HostMem {
     }
 }
 
-/// The index of a section's first byte in a memory of so many bytes, 0 for an empty section; `None` where an address of
-/// the section is outside.
+/// The index of a section's first byte in a memory of so many bytes, and 0 for an empty section. `None` where an
+/// address of the section is outside.
 fn index_of(size: usize, section: Section) -> Option<usize>
     ensures within { IfSome result (λ at. at + section.len ≤ size) }
     ensures start { IfSome result (λ at. 0 < section.len → section.start ≡ HOST_BASE + at) }

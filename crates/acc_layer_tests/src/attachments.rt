@@ -47,7 +47,7 @@ const ROWS: &[Row] = &[
     Row::Copies(71),
 ];
 
-/// What the attachment of a pointer that was aimed elsewhere tells.
+/// The result of attaching a pointer that was aimed elsewhere.
 fn new(pointer: u64) -> Aim {
     Aim::New {
         pointer,
@@ -56,7 +56,7 @@ fn new(pointer: u64) -> Aim {
     }
 }
 
-/// What the attachment of a pointer that was aimed at the target tells.
+/// The result of attaching a pointer that was aimed at the target.
 fn again(pointer: u64) -> Aim {
     let block = BLOCK;
     Aim::Again { pointer, block }

@@ -22,11 +22,11 @@ pub trait Subject: Drop {
     /// A new subject.
     fn new(alloc: Global) -> Result<Self, Fault>;
 
-    /// Whether the answer is that of the row. A refusal for want of memory changed nothing.
+    /// Whether the answer is that of the row. A refusal for lack of memory changed nothing.
     fn answers(&mut self, alloc: Global, row: &Self::Row) -> Result<bool, Fault>;
 }
 
-/// Whether an answer is the one wanted. A refusal for want of memory is handed on.
+/// Whether an answer is the expected one. A refusal for lack of memory is handed on.
 pub fn is_as_wanted<T: PartialEq + Copy>(
     answer: Result<T, Fault>,
     wanted: Result<T, Fault>,
@@ -60,7 +60,7 @@ fn agrees<S: Subject>(subject: &mut S, alloc: Global, row: &S::Row, refusals: &m
     }
 }
 
-/// Plays the rows of a subject, in which at most so many calls are refused for want of memory.
+/// Plays the rows of a subject, in which at most so many calls are refused for lack of memory.
 fn play<S: Subject>(rt: &impl Abort, alloc: Global, refusals: u64) -> Result<(), Fault> {
     let mut left = refusals;
     let mut subject: S = make(alloc, &mut left)?;
@@ -70,7 +70,7 @@ fn play<S: Subject>(rt: &impl Abort, alloc: Global, refusals: u64) -> Result<(),
     Ok(())
 }
 
-/// Plays the rows of each subject, in which at most so many calls are refused for want of memory.
+/// Plays the rows of each subject, in which at most so many calls are refused for lack of memory.
 fn play_all(rt: &impl Abort, alloc: Global, refusals: u64) -> Result<(), Fault> {
     play::<Making>(rt, alloc, refusals)?;
     play::<Space>(rt, alloc, refusals)?;

@@ -37,7 +37,7 @@ const ROWS: &[Row] = &[
     Row::Room(64),
 ];
 
-/// Makes host memory, and answers how many bytes its copy has.
+/// Makes host memory, and returns how many bytes its copy has.
 fn copy_of_host(alloc: Global) -> Result<usize, Fault> {
     let memory = HostMem::new(alloc, 32)?;
     Ok(memory.copy(alloc)?.len())

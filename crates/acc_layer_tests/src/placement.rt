@@ -152,7 +152,7 @@ fn takes_as_listed(space: &mut Space, need: u64) -> Result<bool, Fault>
     is_as_wanted(space.take(need), wanted)
 }
 
-/// Takes a range, or gives one back, as a number says, and answers whether the space and the list agree.
+/// Takes a range, or gives one back, as a number says, and returns whether the space and the list agree.
 fn step(space: &mut Space, number: u64) -> Result<bool, Fault> {
     let len = space.taken.len() as u64;
     if number % 2 == 0 || len == 0 {

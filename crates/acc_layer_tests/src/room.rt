@@ -95,8 +95,8 @@ fn found(rows: &Rows<()>, order: Order, count: u64) -> u64 {
     found
 }
 
-/// Takes the first so many of some entries, and puts so many more. Answers how many rows there are then, and how many of
-/// all these entries are found.
+/// Takes the first so many of some entries, and puts so many more. Answers how many rows there are then, and how many
+/// of all these entries are found.
 fn change(
     rows: &mut Rows<()>,
     order: Order,

@@ -30,8 +30,8 @@ enum Search {
 ///
 /// The tree has 30 at its top. On the left it has 10 with 20 on its right, and on the right 50 with 40 on its left. The
 /// size of an entry is a tenth of its key. The rows have 1 to 63 in the first, and 64 and 65 in the second. A search by
-/// halves of two least keys looks at the second, and then at the first where the key is not above that. Seven ranges stand in one
-/// row.
+/// halves of two least keys looks at the second, and then at the first where the key is not above that. Seven ranges
+/// stand in one row.
 const SEARCHES: &[(Search, u64)] = &[
     (Search::Get(30), 1),
     (Search::Get(10), 2),

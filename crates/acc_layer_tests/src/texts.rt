@@ -57,7 +57,7 @@ const KINDS: [(ScriptFault, &str); 9] = [
     (ScriptFault::Unclosed, "Unclosed"),
 ];
 
-/// Compares what is printed with what is wanted.
+/// Compares what is printed with what is expected.
 fn check_text<R: Abort + AllocGlobal, T: Display>(
     rt: &R,
     told: &T,

@@ -2,7 +2,8 @@
 use Rattle.std.specs.Prelude.{◌≡◌, ℕ, ◌+◌, ◌-◌, ◌/◌, ◌%◌, ◌<◌, ◌≤◌, List, [], ◌∷◌, ◌++◌, length, sum, replicate, All, zero, suc}
 use Rattle.acc_base.specs.declared.addresses.TheConstants.{MEMORY_MAX}
 
--- the numbers are the lengths of parts: there are 1 to 64 parts, none is empty, and in all they are no longer than a memory may be
+-- the numbers are the lengths of parts. There are 1 to 64 parts, none is empty, and in all they are no longer than a
+-- memory may be
 pub record AreCuts (lengths : List ℕ) : Type 0 where
   pub some : 0 < length lengths
   pub few : length lengths ≤ 64

@@ -1,4 +1,5 @@
--- What a lease holds: the section of a block that is lent, and all the block's bytes (OpenACC 3.3, sections 2.5 and 2.6).
+-- What a lease holds: the section of a block that is lent, and all the block's bytes (OpenACC 3.3, sections 2.5 and
+-- 2.6).
 use Rattle.std.specs.Prelude.{ℕ, ◌≡◌, ◌+◌, ◌≤◌, List, ◌++◌, length, take, drop}
 use Rattle.acc_base.specs.declared.addresses.TheConstants.{MEMORY_MAX}
 use Rattle.acc_base.specs.Loans.{Leased}

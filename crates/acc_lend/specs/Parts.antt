@@ -20,7 +20,8 @@ cuts_left parts = lengths_from parts.len parts.later.now
 abbrev pub next_place : Parts → ℕ
 next_place parts = parts.at
 
--- What a part is: it has the first of the lengths and of the bytes that were left, and the parts after it have the rest. It lies at the place that comes next, and the parts after it lie behind it.
+-- What a part is. It has the first of the lengths and of the bytes that were left, and the parts after it have the
+-- rest. It lies at the place that comes next, and the parts after it lie behind it.
 pub record IsNext (cuts : List ℕ) (place : ℕ) (bytes : List ℕ) (next : ℕ × MutBor (List ℕ) × Parts) : Type 0 where
   pub at : next.0 ≡ place
   pub cut : cuts ≡ length next.1.now ∷ cuts_left next.2
@@ -42,6 +43,7 @@ ghost_names (Some next) = maybe.some (next.1.ghost_name, parts_name next.2)
 abbrev pub LendsParts : MutBor Leased → Parts → Fml
 LendsParts lease parts = follows the_row (Array u8 0) lease.ghost_name (parts_name parts) (with_section lease.now)
 
--- what was left ends as the last bytes of the part and then those of the parts after it; where there is no part, as it was
+-- what was left ends as the last bytes of the part and then those of the parts after it. Where there is no part, it
+-- ends as it was
 abbrev pub LendsPart : GName → List ℕ → Option (ℕ × MutBor (List ℕ) × Parts) → Fml
 LendsPart name bytes next = follows_both_if (Array u8 0) (Array u8 0) (Array u8 0) name (ghost_names next) ◌++◌ bytes

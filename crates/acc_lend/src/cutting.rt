@@ -32,12 +32,12 @@ impl Model for Cuts {
 impl Cuts {
     ghost use Rattle.acc_lend.specs.Cuts.{AreCuts, CanCut, even_cuts};
 
-    /// Parts of these lengths in bytes. Takes the vector over, and no memory.
+    /// Parts of these lengths in bytes. It takes the vector over, and allocates nothing.
     ///
     /// # Errors
     ///
-    /// [`Fault::BadCuts`] alone, exactly where there is no part, there are more than [`PARTS_MAX`], one of them is empty,
-    /// or their sum is over 67,108,864.
+    /// [`Fault::BadCuts`] alone, exactly where there is no part, there are more than [`PARTS_MAX`], one of them is
+    /// empty, or their sum is over 67,108,864.
     pub fn new(lengths: Vec<usize>) -> Result<Cuts, Fault>
         ensures value { IfOk result (λ cuts. cuts ≡ lengths.items) }
         ensures ok { IsOk result ↔ AreCuts lengths.items }
@@ -61,8 +61,8 @@ impl Cuts {
     ///
     /// # Errors
     ///
-    /// [`Fault::BadCuts`], exactly where `len` is not from 1 to 67,108,864 or `n` not from 1 to [`PARTS_MAX`]. Else only
-    /// [`Fault::Memory`].
+    /// [`Fault::BadCuts`], exactly where `len` is not from 1 to 67,108,864 or `n` not from 1 to [`PARTS_MAX`]. Else
+    /// only [`Fault::Memory`].
     pub fn even(alloc: Global, len: usize, n: usize) -> Result<Cuts, Fault>
         ensures value { IfOk result (λ cuts. cuts ≡ even_cuts len n) }
         ensures whole { IfOk result (λ cuts. sum cuts ≡ len) }

@@ -10,8 +10,8 @@ ghost use Rattle.acc_lend.specs.Images.{Image, KeepsLength, IsPointwise};
 pub trait Kernel {
     ghost image: { Self → Image };
 
-    /// Changes a part of the loan. `at` is the place of the part's first byte in the loan, and `src` are bytes to read,
-    /// the first of them for place 0 of the loan.
+    /// Changes a part of the loan. `at` is the place of the part's first byte in the loan. `src` are bytes to read, the
+    /// first of them for place 0 of the loan.
     fn run(&self, at: usize, part: &mut [u8], src: &[u8])
         requires { at + length part.old ≤ MEMORY_MAX }
         ensures { part.new ≡ image self.now at part.old src.now };
@@ -19,7 +19,7 @@ pub trait Kernel {
     ghost keeps_length: { (kernel : Self) → KeepsLength (image kernel) };
 }
 
-/// A kernel that may be run on the parts of a loan one by one: its image of a part that is cut in two is the images of
+/// A kernel that may be run on the parts of a loan one by one. Its image of a part that is cut in two is the images of
 /// the two, joined.
 pub trait Pointwise: Kernel {
     ghost joined: { (kernel : Self) → IsPointwise (Self.image kernel) };

@@ -6,14 +6,13 @@ ghost use Rattle.acc_lend.specs.Loans.{IsLoan, section, with_section};
 
 use std::marker::Model;
 
-/// A section of a device block that is out on loan to a kernel, with all the bytes of the block (OpenACC 3.3, sections
-/// 2.5, compute constructs, and 2.6, data environment).
+/// A section of a device block on loan to a kernel (OpenACC 3.3, sections 2.5 and 2.6), with all bytes of the block.
 ///
-/// A lease has to be spent, by [`Lease::into_block`] or [`Lease::abandon`]: a block that is lent is not lost without a
-/// word. The bytes are moved into it and out of it, and never copied.
+/// A lease has to be spent, by [`Lease::into_block`] or [`Lease::abandon`], so that no lent block is lost by mistake.
+/// The bytes are moved into it and out of it, and never copied.
 ///
-/// Contracts see the number of the device, the serial number of the loan, the number of the block, the place and the
-/// length of the section in bytes, and the bytes of the block.
+/// Contracts see the numbers of the device and the block, and the serial number of the loan. They also see the place
+/// and the length of the section in bytes, and the bytes of the block.
 pub struct Lease {
     device: u64,
     serial: u64,
@@ -115,7 +114,7 @@ impl Lease {
         &self.bytes[self.offset..self.offset + self.len]
     }
 
-    /// All the bytes of the block.
+    /// All the bytes of the block, those outside of the section too.
     pub fn block_bytes(&self) -> &[u8]
         ensures value { result.now ≡ self.now.bytes }
         ensures laws { IsLoan self.now }
@@ -159,7 +158,7 @@ impl Lease {
         bytes
     }
 
-    /// Lets the bytes go. The block stays lent for good.
+    /// Drops the bytes. The block stays lent for good.
     pub fn abandon(self) {
         drop(self.into_block());
     }

@@ -1,5 +1,4 @@
-//! The bytes of a block lent to kernels: leases, the parts of a loan, and what kernels do to them (OpenACC 3.3, sections
-//! 2.5, compute constructs, and 2.6, data environment).
+//! The bytes of a block lent to kernels (OpenACC 3.3, sections 2.5 and 2.6): leases, the parts of a loan, and kernels.
 #![tactic(auto)]
 
 mod bytewise;

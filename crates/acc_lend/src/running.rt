@@ -13,7 +13,7 @@ use std::sync::Wait;
 use std::thread::{Threads, join_mut};
 
 /// Runs a kernel once over all the bytes that are lent (OpenACC 3.3, section 2.5, compute constructs), with these bytes
-/// to read. No other byte of the block changes. Takes no memory, and does not wait.
+/// to read. No other byte of the block changes. It allocates nothing, and does not wait.
 pub fn run_one<K: Kernel>(lease: &mut Lease, kernel: &K, src: &[u8])
     ensures image { section lease.new ≡ K.image kernel.now 0 (section lease.old) src.now }
     ensures outside { IsKeptOutside lease.old lease.new }
@@ -22,13 +22,14 @@ pub fn run_one<K: Kernel>(lease: &mut Lease, kernel: &K, src: &[u8])
     kernel.run(0, lease.section_mut(), src);
 }
 
-/// Runs a kernel over all the bytes that are lent, cut into parts that are worked on at the same time, each in a thread
-/// of its own (OpenACC 3.3, section 2.5, compute constructs). The bytes are left as [`run_one`] leaves them, whatever the
-/// cuts and the gate are.
+/// Runs a kernel over all the bytes that are lent (OpenACC 3.3, section 2.5, compute constructs). They are cut into
+/// parts, which are worked on at the same time, each in a thread of its own. The bytes are left as [`run_one`] leaves
+/// them, whatever the cuts and the gate are.
 ///
-/// The cuts have as many bytes in all as are lent. A part is a slice of the lease's own bytes, so nothing is copied; the
-/// gate is called around each. Returns when every part has been run, and the gate has let each go. Where a thread cannot
-/// be made, parts run one after the other: nothing is refused, and memory is taken for threads alone.
+/// The cuts have as many bytes in all as are lent. A part is a slice of the lease's own bytes, so nothing is copied.
+/// The gate is called around each. The call returns when every part has been run, and the gate has let each go. Where a
+/// thread cannot be started, parts run one after the other. Nothing is refused, and memory is allocated for threads
+/// alone.
 pub fn run_parts<R: Threads + Wait + Sync, K: Pointwise + Sync, G: Gate<R> + Sync>(
     rt: &R,
     lease: &mut Lease,
@@ -61,8 +62,8 @@ struct Work<'a, R, K, G> {
 }
 
 impl<R: Threads + Wait + Sync, K: Pointwise + Sync, G: Gate<R> + Sync> Work<'_, R, K, G> {
-    // Runs the kernel over bytes of a loan that are cut into parts of these lengths: the first byte has place `at` in the
-    // loan, and the first part the number `first`. Each half of the parts is run in a thread of its own.
+    // Runs the kernel over bytes of a loan that are cut into parts of these lengths. The first byte has place `at` in
+    // the loan, and the first part the number `first`. Each half of the parts is run in a thread of its own.
     #[cycle(halves)]
     fn run(&self, first: usize, at: usize, lengths: &[usize], bytes: &mut [u8])
         requires { IsCutInto first at lengths.now (length bytes.old) }

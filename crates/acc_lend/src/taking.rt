@@ -75,8 +75,8 @@ impl<'a> Parts<'a> {
     /// The next part, its place in the loan, and the parts after it; `None` where no part is left. A part may be held
     /// while later ones are taken.
     ///
-    /// When none of them is held any longer, the bytes that were left are the last bytes of the part, and then those of
-    /// the parts after it.
+    /// When none of them is held any longer, the bytes that were left are the part's last bytes, then those of the
+    /// parts after it.
     pub fn next_part(self) -> Option<(usize, &'a mut [u8], Parts<'a>)>
         ensures next { MatchOption result (cuts_left self.entry ≡ []) (IsNext (cuts_left self.entry) (next_place self.entry) (bytes_left self.entry)) }
         ensures* writes_back { sem 𝓛 (LendsPart (parts_name self.entry) (bytes_left self.entry) result) }
@@ -112,9 +112,10 @@ impl Lease {
     ghost use Rattle.acc_lend.specs.Loans.{section};
     ghost use Rattle.acc_lend.specs.Parts.{bytes_left, cuts_left, next_place, LendsParts};
 
-    /// The bytes that are lent, cut into parts, the first one at place 0. The cuts have as many bytes in all as are lent.
+    /// The bytes that are lent, cut into parts, the first one at place 0. The cuts have as many bytes in all as are
+    /// lent.
     ///
-    /// When the parts are no longer held, the bytes that are lent are the parts' last bytes, joined, and every other byte
+    /// When the parts are no longer held, the bytes that are lent are the parts' last bytes, joined. Every other byte
     /// of the block is as it was.
     pub fn parts<'a>(&'a mut self, cuts: &'a Cuts) -> Parts<'a>
         requires { sum cuts.now ≡ self.old.len }

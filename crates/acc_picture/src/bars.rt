@@ -47,7 +47,7 @@ impl Bar {
         offset.saturating_mul(BAR_WIDTH) / self.size.max(1)
     }
 
-    /// Puts some addresses, at least one pixel wide, and answers behind which pixel all is free. A hole is left out,
+    /// Puts some addresses, at least one pixel wide, and returns behind which pixel all is free. A hole is left out,
     /// and so is what ends where something was put before.
     fn put_next(self, page: &mut Page, put: u64, kind: Kind, start: u64, len: u64) -> u64 {
         let from = self.pixel(start).min(BAR_WIDTH - 1);

@@ -36,7 +36,7 @@ pub enum Kind {
     Lent,
     /// A block whose mapping has ended, with how many queued copies name it.
     Ended(u64),
-    /// A hole.
+    /// Free addresses between blocks.
     Hole,
 }
 

@@ -26,7 +26,7 @@ pub enum Caption<'a> {
     End,
     /// Behind the line of a number, with its statement.
     Line {
-        /// The number.
+        /// The line's number in the script, from 1.
         number: u64,
         /// The statement.
         text: &'a [u8],
@@ -40,7 +40,7 @@ const STATEMENT_LIMIT: usize = 72;
 ///
 /// # Errors
 ///
-/// Where memory is wanting; the page itself tells whether some of it found none.
+/// [`AllocError`] where there is no memory; the page itself says whether it lacked some.
 pub fn put_picture(
     page: &mut Page,
     alloc: Global,

@@ -13,16 +13,16 @@ pub const WIDTH: u64 = 830;
 /// The left edge of the bars.
 pub const BAR_X: u64 = 130;
 
-/// The width of a bar.
+/// The width of a bar, in pixels: that of the whole memory.
 pub const BAR_WIDTH: u64 = 690;
 
-/// The height of a bar.
+/// The height of a bar, in pixels.
 pub const BAR_HEIGHT: u64 = 16;
 
 /// The upper edge of the first row.
 pub const ROWS_Y: u64 = 116;
 
-/// The height of a row.
+/// The height of a row, in pixels.
 pub const ROW_HEIGHT: u64 = 18;
 
 /// How far a row stands below the one before.
@@ -58,7 +58,7 @@ pub const STRUCTURED: u64 = 234;
 /// Where the dynamic counter of a row of host memory begins.
 pub const DYNAMIC: u64 = 313;
 
-/// Where a row of the device tells that its block is lent, or its mapping has ended.
+/// Where a row of the device says that its block is lent, or its mapping has ended.
 pub const STATE: u64 = 97;
 
 /// Where the address of a row of the device begins.

@@ -9,9 +9,9 @@ pub struct Area {
     pub x: u64,
     /// The upper edge.
     pub y: u64,
-    /// The width.
+    /// How wide it is, in pixels.
     pub width: u64,
-    /// The height.
+    /// How high it is, in pixels.
     pub height: u64,
 }
 

@@ -141,7 +141,7 @@ given_partition old new before after p n g part =
       ];
     }
 
--- what a taken range tells
+-- what a taken range implies
 pub record TellsTaken (r : Space) (p n : ℕ) : Type 0 where
   pub limit : (r.base ≤ p) × (p + n ≤ r.base + r.size)
   pub not_free : (a : ℕ) → Spans p n a → IsIn r.holes a → ⊥
@@ -150,7 +150,7 @@ pub record TellsTaken (r : Space) (p n : ℕ) : Type 0 where
   pub aligned : p % 16 ≡ 0
   pub room : (new : List (ℕ × ℕ)) (top : ℕ) → IsFilled 0 top r.holes new p n → length new ≤ r.taken
 
--- what a taken range tells of the space
+-- what a taken range implies for the space
 pub tells_taken : (r : Space) (p n : ℕ) → 0 < n → IsCanonical r → IsTaken r p n → TellsTaken r p n
 tells_taken r p n pos s t =
     record {

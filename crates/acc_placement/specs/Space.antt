@@ -13,7 +13,7 @@ pub record Space : Type 0 where
   pub holes : List (ℕ × ℕ)
   -- how many ranges are taken
   pub taken : ℕ
-  -- how many more can be taken without memory
+  -- how many more can be taken without allocating
   pub spare : ℕ
 
 -- what holds of every space: the holes are multiples of 16, not empty, in the space, rise, and no two of them touch
@@ -24,7 +24,8 @@ pub record IsCanonical (s : Space) : Type 0 where
   pub rising : IsRising s.base s.holes (s.base + s.size)
   pub aligned : All IsAligned s.holes
 
--- these, in any order, are the taken ranges: with the holes they are the space, none is empty, and no two share an address
+-- these, in any order, are the taken ranges: with the holes they are the space, none is empty, and no two share an
+-- address
 pub record IsPartition (s : Space) (ts : List (ℕ × ℕ)) : Type 0 where
   pub count : length ts ≡ s.taken
   pub sizes : total ts + total s.holes ≡ s.size

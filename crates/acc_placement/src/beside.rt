@@ -30,8 +30,8 @@ pub fn past(listed: &[(u64, u64)], from: u64, size: u64, top: u64) -> u64
     }
 }
 
-/// Where one walk along the listed ranges comes to that begins at `from` and goes on behind each range that has
-/// one of the `size` addresses there. It stays only where all `size` addresses are outside of them.
+/// Where one walk along the listed ranges ends. It begins at `from`, and goes on behind each range that has one of the
+/// `size` addresses there. It stays only where all `size` addresses are outside of them.
 fn moved_on(listed: &[(u64, u64)], from: u64, size: u64, top: u64) -> u64
     requires top_limit { top ≤ 2 ^ 41 }
     requires from_limit { from ≤ top }

@@ -9,7 +9,7 @@ ghost use Rattle.acc_placement.specs.Changes.{IsCut, IsFilled, IsLeftBefore, IsL
 
 use acc_tree::{Entry, Tree};
 
-/// Takes the front of the first hole that has `size` bytes, and answers its place.
+/// Takes the front of the first hole that has `size` bytes, and returns its place.
 pub fn cut(holes: &mut Tree<()>, size: u64) -> u64
     requires rising { IsRising 0 (holes_in holes.old.entries) (2 ^ 41) }
     requires some { 0 < size }
@@ -42,7 +42,7 @@ pub fn fill(holes: &mut Tree<()>, place: u64, size: u64)
     });
 }
 
-/// Takes out the hole that ends at `end`, if there is one, and answers its size, or else 0.
+/// Takes out the hole that ends at `end`, if there is one, and returns its size, or else 0.
 fn take_before(holes: &mut Tree<()>, end: u64) -> u64
     requires rising { IsRising 0 (holes_in holes.old.entries) (2 ^ 41) }
     requires not_free { IsIn (holes_in holes.old.entries) end → ⊥ }
@@ -59,7 +59,7 @@ fn take_before(holes: &mut Tree<()>, end: u64) -> u64
     holes.remove(hole.key).size
 }
 
-/// Takes out the hole that begins at `start`, if there is one, and answers its size, or else 0.
+/// Takes out the hole that begins at `start`, if there is one, and returns its size, or else 0.
 fn take_behind(holes: &mut Tree<()>, start: u64) -> u64
     requires rising { IsRising 0 (holes_in holes.old.entries) (2 ^ 41) }
     requires not_free { (a : ℕ) → a + 1 ≡ start → IsIn (holes_in holes.old.entries) a → ⊥ }

@@ -2,8 +2,8 @@
 
 use crate::placement::Holes;
 
-/// The holes of a space by rising place, each with its place and its size in bytes. It needs no memory, and each step is
-/// one walk.
+/// The holes of a space by rising place, each with its place and its size in bytes. It needs no memory, and each step
+/// is one walk.
 #[derive(Drop)]
 pub struct HoleIter<'a> {
     holes: &'a Holes,

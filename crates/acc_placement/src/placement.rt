@@ -19,9 +19,9 @@ use std::marker::Model;
 /// A space of device addresses: some ranges of it are taken, and the others are its holes.
 ///
 /// Places are device addresses and sizes are bytes. Each range has the size of its length rounded up to a multiple of
-/// 16, and each place is a multiple of 16. Contracts see the space as its base, its size, its holes by rising place,
-/// the number of ranges that are taken, and the number that can still be taken without memory. Which ranges are taken
-/// is for the caller to know: its list of them, in any order, and the holes are the space.
+/// 16, and each place is a multiple of 16. Contracts see the space as its base, its size and its holes by rising place.
+/// They also see the number of ranges that are taken, and the number that can still be taken without allocating. The
+/// caller knows which ranges are taken: its list of them, in any order, and the holes are the space.
 #[derive(Drop)]
 pub struct Holes {
     base: u64,
@@ -122,8 +122,8 @@ impl Holes {
         self.fit_counted(need, &mut Steps::new())
     }
 
-    /// The place that [`Holes::take`] would choose, by at most two steps for each binary digit of the number of holes;
-    /// `None` exactly where no hole is large enough. At most 2^32 steps were counted before. It needs no memory.
+    /// The place that [`Holes::take`] would choose; `None` exactly where no hole is large enough. It makes at most two
+    /// steps for each binary digit of the number of holes. At most 2^32 steps were counted before. It needs no memory.
     pub fn fit_counted(&self, need: u64, steps: &mut Steps) -> Option<u64>
         requires need { IsFromOne MEMORY_MAX need }
         requires limit { steps.old ≤ 2 ^ 32 }
@@ -137,8 +137,8 @@ impl Holes {
         Some(hole.key as u64)
     }
 
-    /// Makes room for `count` more taken ranges, at most 2^32, so that so many calls of [`Holes::take_reserved`] need no
-    /// memory.
+    /// Makes room for `count` more taken ranges, at most 2^32, so that so many calls of [`Holes::take_reserved`] need
+    /// no memory.
     ///
     /// # Errors
     ///
@@ -176,9 +176,9 @@ impl Holes {
         place
     }
 
-    /// Where [`Holes::take`] would place `need` bytes after takes of the listed places and lengths: the least place at
-    /// which the rounded need is free and in none of the listed ranges. `None` exactly where there is none. It needs no
-    /// memory.
+    /// Where [`Holes::take`] would place `need` bytes after takes of the listed places and lengths. It is the least
+    /// place at which the rounded need is free and in none of the listed ranges. `None` exactly where there is none. It
+    /// needs no memory.
     ///
     /// Each listed length is from 1 to 67,108,864, and each listed range ends within the space.
     pub fn would_take(&self, listed: &[(u64, u64)], need: u64) -> Option<u64>
@@ -212,8 +212,8 @@ impl Holes {
         Some((hole.key as u64, hole.size))
     }
 
-    /// Gives back a range that was taken at `place` with this need and not given back since. The new hole is merged with
-    /// those that it touches. It needs no memory, is never refused, and leaves room for one take more.
+    /// Gives back a range that was taken at `place` with this need and not given back since. The new hole is merged
+    /// with those that it touches. It needs no memory, is never refused, and leaves room for one take more.
     pub fn give_back(&mut self, place: u64, need: u64)
         requires need { IsFromOne MEMORY_MAX need }
         requires taken { IsTaken self.old place (rounded_of need) }
@@ -252,8 +252,8 @@ impl Holes {
         HoleIter::new(self)
     }
 
-    /// The hole of least place at or above the device address `from`, with its place and its size in bytes; `None` where
-    /// there is none. It needs no memory.
+    /// The hole of least place at or above the device address `from`, with its place and its size in bytes; `None`
+    /// where there is none. It needs no memory.
     pub fn next_hole(&self, from: u64) -> Option<(u64, u64)>
         ensures { result ≡ find (λ h. nat_le from h.0) self.now.holes }
     {

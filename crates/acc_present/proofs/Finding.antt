@@ -179,7 +179,7 @@ from_last s blocks rs r some m e =
     let lens = subst (λ (ts : List Range). AllByRecursion (λ (t : Range). 0 < t.section.len) ts) l.parts m.some in
     ap (where_is_apart s blocks) l.parts ∙ skip_all s blocks l.front (r ∷ ranges_from (s.start + 1) rs) some lens (AllByRecursion-weaker (λ (t : Range). IsBelow t.section r.section) (λ (t : Range). end_of t.section ≤ s.start) l.front (λ t below. omega arith) l.before)
 
--- what that one tells holds of all
+-- what that one says holds of all
 pub told_last : (s : Section) (blocks : List ℕ) (rs : List Range) (r : Range) (found : Found) → 0 < s.len → AreMapped rs → last_below (s.start + 1) rs ≡ Some r
     → ((others : List Range) → AreMapped (r ∷ others) → where_is_apart s blocks (r ∷ others) ≡ found) → found ≡ where_is_apart s blocks rs
 told_last s blocks rs r found some m e told = sym (from_last s blocks rs r some m e ∙ told (ranges_from (s.start + 1) rs) (last_is (s.start + 1) rs r m e).mapped)
@@ -252,7 +252,7 @@ pub silent_last : (s : Section) (blocks : List ℕ) (rs : List Range) (r : Range
     → ((others : List Range) → where_is_apart s blocks (r ∷ others) ≡ where_is_apart s blocks others) → IsNext s blocks rs (range_from (s.start + 1) rs)
 silent_last s blocks rs r some m e silent = next_is s blocks rs (s.start + 1) some m (from_last s blocks rs r some m e ∙ silent (ranges_from (s.start + 1) rs))
 
--- what the next one tells holds of all
+-- what the next one says holds of all
 pub told_next : (s : Section) (blocks : List ℕ) (rs : List Range) (r : Range) (found : Found) → AreMapped rs → IsNext s blocks rs (Some r)
     → ((others : List Range) → AreMapped (r ∷ others) → where_is_apart s blocks (r ∷ others) ≡ found) → found ≡ where_is_apart s blocks rs
 told_next s blocks rs r found m n told =

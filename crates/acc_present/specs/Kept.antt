@@ -34,7 +34,7 @@ pub record IsEntryOf (block : ℕ) (entries : List (Entry Mapping)) (e : Entry M
   pub found : at_key e.key entries ≡ Some e
   pub range : range_of block (ranges_in entries) ≡ Some (range_in e)
 
--- the mapped ranges, and how many more can be taken in without memory
+-- the mapped ranges, and how many more can be added without allocating
 pub record MappingsState : Type 0 where
   pub ranges : List Range
   pub room : ℕ
@@ -57,7 +57,7 @@ pub record IsIndexed (entries : List (Entry Mapping)) (starts : List (Entry ℕ)
 
 -- ---- the open regions
 
--- the open regions, how many more can be taken in without memory, and how many holdings of the next one
+-- the open regions, how many more can be added without allocating, and how many holdings of the next one
 pub record RegisterState : Type 0 where
   pub regions : List Region
   pub room : ℕ

@@ -1,4 +1,5 @@
--- What contracts see of the present table: the mapped ranges, the open data regions, and the room for more (OpenACC 3.3, sections 2.6.5 and 2.6.7).
+-- What contracts see of the present table: the mapped ranges, the open data regions, and the room for more (OpenACC
+-- 3.3, sections 2.6.5 and 2.6.7).
 use Rattle.std.specs.Prelude.{ℕ, ◌≡◌, ◌+◌, ◌^◌, ◌<◌, ◌≤◌, ◌⊎◌, List, [], IsSome}
 use Rattle.std.specs.List.{AllByRecursion}
 use Rattle.acc_base.specs.declared.mappings.Range.{Range}
@@ -13,7 +14,7 @@ pub record PresentTable : Type 0 where
   pub ranges : List Range
   pub regions : List Region
 
--- how many more ranges, how many more regions, and how many holdings of the next region can be taken in without memory
+-- how many more ranges, how many more regions, and how many holdings of the next region can be added without allocating
 pub record Room : Type 0 where
   pub ranges : ℕ
   pub regions : ℕ

@@ -34,7 +34,7 @@ pub fn to_entry(range: Range) -> Entry<Mapping>
     }
 }
 
-/// The range of an entry.
+/// The mapped range that an entry stands for: its key is the host address at which the range begins.
 #[inline]
 pub fn to_range(entry: Entry<Mapping>) -> Range
     requires { entry.key < 2 ^ 64 }

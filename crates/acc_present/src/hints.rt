@@ -5,9 +5,9 @@ use acc_rows::Place;
 
 /// Where the range of a block stands, as a look-up found it.
 ///
-/// Each value is right, and no contract speaks of it. A call that is handed a hint looks there first. Where it does not
-/// find the range of its block there, it searches as if it had none: mappings began or ended in between, or the hint is
-/// of another section or the default one. So a hint that is stale costs a search, and nothing else.
+/// Any value may be handed in, and no contract speaks of it. A call that is handed a hint looks there first. Where the
+/// range of its block is not there, it searches as without a hint. Mappings began or ended in between, or the hint is
+/// of another section or the default one. So a stale hint costs a search, and nothing else.
 #[derive(Clone, Copy, Debug, Default, PartialEq, Eq)]
 pub struct Hint {
     // The host address at which the range begins.
@@ -16,7 +16,7 @@ pub struct Hint {
     pub(crate) place: Place,
 }
 
-/// Where a section lies, and where the range stands that tells it.
+/// Where a section lies, and where the range stands that it is inside of.
 #[derive(Clone, Copy, Debug, PartialEq, Eq)]
 pub struct Located {
     /// Where the section lies among the mapped ranges.

@@ -1,5 +1,5 @@
-//! The present table: which ranges of host memory are mapped to which blocks, with their reference counters, and the
-//! register of open data regions (OpenACC 3.3, sections 2.6.5 and 2.6.7).
+//! The present table (OpenACC 3.3, sections 2.6.5 and 2.6.7): which ranges of host memory are mapped to which blocks,
+//! with their reference counters. And the register of open data regions.
 #![tactic(auto)]
 
 mod copying;

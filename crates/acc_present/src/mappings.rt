@@ -40,8 +40,9 @@ fn next_from(ranges: &Rows<Mapping>, from: u128) -> Option<Range>
 
 /// Where a section lies among the ranges without those of the listed blocks.
 ///
-/// One walk finds the last range that does not begin behind the section's start, and the first that does. Where no block
-/// is listed, these two tell it; else the walk goes on to the neighbours behind, as long as their blocks are listed.
+/// One walk finds the last range that does not begin behind the section's start, and the first that does. Where no
+/// block is listed, these two decide. Else the walk goes on to the neighbours behind, as long as their blocks are
+/// listed.
 #[inline]
 fn locate(ranges: &Rows<Mapping>, section: Section, blocks: &[u64], steps: &mut Steps) -> Located
     requires mapped { AreMapped (ranges_in ranges.now.entries) }
@@ -85,7 +86,7 @@ fn without_hint(found: Found) -> Located
     }
 }
 
-/// The entry that a hint tells, if it is that of the block.
+/// The entry where a hint points, if it is that of the block.
 #[inline]
 fn hinted<'a>(ranges: &'a Rows<Mapping>, block: u64, hint: Hint) -> Option<&'a Entry<Mapping>>
     ensures { IfSome result (λ e. (at_key e.now.key ranges.now.entries ≡ Some e.now) × (e.now.value.block ≡ block)) }
@@ -130,7 +131,7 @@ fn entry_there(ranges: &Rows<Mapping>, starts: &Rows<u64>, block: u64, hint: Hin
     *entry
 }
 
-/// A new range that nothing has counted, where there is room for it. It answers where it stands.
+/// A new range that nothing has counted, where there is room for it. It returns where it stands.
 fn map(ranges: &mut Rows<Mapping>, starts: &mut Rows<u64>, section: Section, block: u64) -> Hint
     requires indexed { IsIndexed ranges.old.entries starts.old.entries }
     requires absent { where_is section (ranges_in ranges.old.entries) ≡ Found.Absent }
@@ -183,7 +184,7 @@ fn write(ranges: &mut Rows<Mapping>, range: Range, hint: Hint)
     ranges.set(entry.key, entry.value, hint.place);
 }
 
-/// Raises a counter of the range that is mapped to a block, or answers `false` where it has reached its greatest value.
+/// Raises a counter of the range that is mapped to a block, or returns `false` where it has reached its greatest value.
 fn raise(
     ranges: &mut Rows<Mapping>,
     starts: &Rows<u64>,
@@ -243,8 +244,8 @@ fn clear(ranges: &mut Rows<Mapping>, starts: &Rows<u64>, block: u64, hint: Hint)
 
 /// The mapped ranges.
 ///
-/// They stand by rising start, and the start of each block's range by rising block number. Both are found by halves, and
-/// [`Rows`] says what moves where a mapping begins or ends.
+/// They stand by rising start, and the start of each block's range by rising block number. Both are found by halves,
+/// and [`Rows`] says what moves where a mapping begins or ends.
 #[derive(Drop)]
 pub struct Mappings {
     ranges: Rows<Mapping>,
@@ -332,7 +333,7 @@ impl Mappings {
         Ok(())
     }
 
-    /// A new range that nothing has counted, where there is room for it. It answers where it stands.
+    /// A new range that nothing has counted, where there is room for it. It returns where it stands.
     pub fn map(&mut self, section: Section, block: u64) -> Hint
         requires room { 1 ≤ self.old.room }
         requires absent { where_is section self.old.ranges ≡ Found.Absent }
@@ -352,7 +353,7 @@ impl Mappings {
         unmap(&mut self.ranges, &mut self.starts, block, hint);
     }
 
-    /// Raises a counter of the range that is mapped to a block, or answers `false` where it has reached its greatest
+    /// Raises a counter of the range that is mapped to a block, or returns `false` where it has reached its greatest
     /// value.
     pub fn raise(&mut self, counter: Counter, block: u64, hint: Hint, most: u64) -> bool
         requires { IsSome (range_of block self.old.ranges) }

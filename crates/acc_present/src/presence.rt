@@ -14,15 +14,16 @@ use acc_base::{Counter, Counters, Fault, Found, Holding, Range, Section, Steps};
 use std::alloc::Global;
 use std::marker::Model;
 
-/// The present table of a device (OpenACC 3.3, section 2.6): the ranges of host memory that are mapped to blocks of
-/// device memory, each with its two reference counters, and the register of open data regions.
+/// The present table of a device (OpenACC 3.3, section 2.6). It has the ranges of host memory that are mapped to blocks
+/// of device memory, each with its two reference counters. And it has the register of open data regions.
 ///
 /// Contracts see the table, and the room that was made for more beside it. A refused call leaves the table as it was.
-/// Only `new`, `add`, `enter` and `reserve` take memory for it, and `copy_ranges` and `copy_regions` for their answers.
+/// Only `new`, `add`, `enter` and `reserve` allocate for it, and `copy_ranges` and `copy_regions` for their results.
 ///
 /// A section is searched for by halves, and so is a block number, unless the range stands where a [`Hint`] says. The
-/// ranges stand in rows of up to 64. A range that is added or removed moves others of its row. Where a full row is split,
-/// or a row becomes empty or is joined with the next, the list of rows moves too: that grows with the number of ranges.
+/// ranges stand in rows of up to 64. A range that is added or removed moves others of its row. The list of rows moves
+/// too where a full row is split, or a row becomes empty or is joined with the next. That grows with the number of
+/// ranges.
 #[derive(Drop)]
 pub struct Present {
     counter_max: u64,
@@ -59,8 +60,8 @@ impl Present {
         }
     }
 
-    /// What holds of every present table: mapped ranges are not empty, rise without overlap and have a block each of
-    /// its own, no counter is above the limit, and the numbers of open regions rise.
+    /// What holds of every present table. Mapped ranges are not empty, rise without overlap, and have a block each of
+    /// its own. No counter is above the limit, and the numbers of open regions rise.
     pub fn laws(&self)
         ensures { IsLawful self.now.table }
     {
@@ -71,7 +72,7 @@ impl Present {
     // ---- mapped ranges
 
     /// Where a section lies among the mapped ranges: it is empty, inside one of them, absent, or partly present. Any
-    /// section may be asked for, one that reaches past the last `u64` too. The hint tells where the range stands that it
+    /// section may be asked for, one that reaches past the last `u64` too. The hint is where the range stands that it
     /// is inside of.
     pub fn find(&self, section: Section) -> Located
         ensures { result.found ≡ where_is section self.now.table.ranges }
@@ -79,7 +80,7 @@ impl Present {
         self.mappings.find_counted(section, &mut Steps::new())
     }
 
-    /// Where a section lies, as [`Present::find`] tells it, by at most two steps for each binary digit of the number of
+    /// Where a section lies, as [`Present::find`] says, by at most two steps for each binary digit of the number of
     /// mapped ranges. At most 2^32 were counted before.
     pub fn find_counted(&self, section: Section, steps: &mut Steps) -> Found
         requires limit { steps.old ≤ 2 ^ 32 }
@@ -133,8 +134,8 @@ impl Present {
         Ok(())
     }
 
-    /// As [`Present::add`], where there is room for one more range: it takes no memory and is not refused. It takes one
-    /// from the room of ranges. It answers where the new range stands.
+    /// As [`Present::add`], where there is room for one more range: it allocates nothing and is not refused. It takes
+    /// one from the room of ranges. It returns where the new range stands.
     pub fn add_reserved(&mut self, section: Section, block: u64) -> Hint
         requires room { 1 ≤ self.old.room.ranges }
         requires absent { where_is section self.old.table.ranges ≡ Absent }
@@ -274,7 +275,7 @@ impl Present {
         self.register.enter(number, holdings)
     }
 
-    /// As [`Present::enter`], where there is room for one more region and for its holdings: it takes no memory and is
+    /// As [`Present::enter`], where there is room for one more region and for its holdings: it allocates nothing and is
     /// not refused. It takes at most one from the room of regions, and leaves no room for holdings of a further region.
     pub fn enter_reserved(&mut self, number: u64, holdings: &[Holding])
         requires room { 1 ≤ self.old.room.regions }
@@ -321,7 +322,7 @@ impl Present {
 
     /// The mapped ranges in a vector of their own, by rising start. The table stays as it is.
     ///
-    /// It takes memory for the answer alone, for exactly so many ranges, and goes through them once.
+    /// It allocates for the result alone, exactly so many ranges, and goes through them once.
     ///
     /// # Errors
     ///
@@ -333,10 +334,10 @@ impl Present {
         self.mappings.copy_ranges(alloc)
     }
 
-    /// The open regions in a vector of their own, by rising number: each with its number, and with what each item of its
+    /// The open regions in a vector of their own, by rising number. Each has its number, and what each item of its
     /// entry counted, in written order. The table stays as it is.
     ///
-    /// It takes memory for the answer alone, for exactly so many regions and holdings, and goes through them once.
+    /// It allocates for the result alone, exactly so many regions and holdings, and goes through them once.
     ///
     /// # Errors
     ///
@@ -350,8 +351,8 @@ impl Present {
 
     // ---- room
 
-    /// Makes room for so many more ranges, and for so many more regions, the next of which has so many holdings, so that
-    /// [`Present::add_reserved`] and [`Present::enter_reserved`] take no memory.
+    /// Makes room for so many more ranges and so many more regions, the next of which has so many holdings. Then
+    /// [`Present::add_reserved`] and [`Present::enter_reserved`] allocate nothing.
     ///
     /// # Errors
     ///

@@ -36,8 +36,8 @@ pub fn is_listed(blocks: &[u64], block: u64) -> bool
     blocks.iter().any(|b| *b == block)
 }
 
-/// What the first of some ranges says of where a section lies among them without those of the listed blocks, or `None`
-/// where that is as it lies among the others.
+/// Where a section lies among some ranges without those of the listed blocks, as far as the first range says. `None`
+/// where it lies as among the others.
 #[inline]
 pub fn told_by(first: Range, section: Section, blocks: &[u64]) -> Option<Found>
     requires some { 0 < section.len }

@@ -154,8 +154,8 @@ impl Register {
         copy_regions_of(&self.regions, alloc)
     }
 
-    /// Makes room for so many more regions, the next of which has so many holdings. It is refused only where some of that
-    /// room was missing.
+    /// Makes room for so many more regions, the next of which has so many holdings. It is refused only where some of
+    /// that room was missing.
     pub fn reserve(&mut self, regions: usize, holdings: usize) -> Result<(), Fault>
         ensures regions { self.new.regions ≡ self.old.regions }
         ensures ok { OnOk result (regions ≤ self.new.room) }

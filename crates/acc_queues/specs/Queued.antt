@@ -1,4 +1,5 @@
--- What contracts see of the queues of transfers, and what holds of them at all times (OpenACC 3.3, section 2.16, asynchronous behavior).
+-- What contracts see of the queues of transfers, and what holds of them at all times (OpenACC 3.3, section 2.16,
+-- asynchronous behavior).
 use Rattle.std.specs.Prelude.{ℕ, ◌≡◌, ◌≢◌, ◌+◌, ◌≤◌, List, length, Result, ⊤, slice_index}
 use Rattle.std.specs.List.{AllByRecursion}
 use Rattle.acc_base.specs.declared.transfers.Transfer.{Transfer}
@@ -8,7 +9,7 @@ use Rattle.acc_base.specs.Results.{◌>>◌}
 use Rattle.acc_base.specs.Limits.{IsFromOne}
 use Rattle.acc_base.specs.Queues.{queue_known, queue_room}
 
--- the limit of each queue, the queues by number, and for each how many more transfers it can take without memory
+-- the limit of each queue, the queues by number, and for each how many more transfers it can take without allocating
 pub record QueuesState : Type 0 where
   pub cap : ℕ
   pub queues : List (List Transfer)
@@ -26,7 +27,7 @@ judge_put cap q queues = queue_known q >> queue_room cap q queues
 
 -- ---- room
 
--- how many more transfers a queue can take without memory; a number that is no queue's can take none
+-- how many more transfers a queue can take without allocating; a number that is no queue's can take none
 abbrev pub spare_at : ℕ → List ℕ → ℕ
 spare_at q spare = slice_index spare q
 

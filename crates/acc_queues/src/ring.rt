@@ -30,7 +30,7 @@ impl Model for Ring {
 }
 
 impl Ring {
-    /// A queue of no transfers. It takes no memory.
+    /// A queue of no transfers. It allocates nothing.
     pub fn new(alloc: Global) -> Ring
         ensures { result.transfers ≡ [] }
     {
@@ -53,7 +53,7 @@ impl Ring {
         self.waiting.get(i as usize)
     }
 
-    /// Its transfers in a vector of their own, the one that is next at the front. It takes memory for exactly so many.
+    /// Its transfers in a vector of their own, the one that is next at the front. It allocates exactly so many.
     pub fn copy(&self, alloc: Global) -> Result<Vec<Transfer>, Fault>
         ensures ok { IfOk result (λ transfers. transfers.items ≡ self.now.transfers) }
         ensures only { IfErr result (λ fault. fault ≡ Fault.Memory) }

@@ -23,7 +23,7 @@ pub fn new_rings(alloc: Global) -> Result<Vec<Ring>, Fault>
     Ok(rings)
 }
 
-/// The transfers of each ring in a vector of their own. It takes memory for exactly so many rings and transfers.
+/// The transfers of each ring in a vector of their own. It allocates exactly so many rings and transfers.
 pub fn copy_rings(rings: &[Ring], alloc: Global) -> Result<Vec<Vec<Transfer>>, Fault>
     ensures ok { IfOk result (λ copied. map vec_items copied.items ≡ queues_in rings.now) }
     ensures only { IfErr result (λ fault. fault ≡ Fault.Memory) }

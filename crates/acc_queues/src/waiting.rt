@@ -18,12 +18,11 @@ use std::marker::Model;
 /// Queues are numbered from 0 to 15. Each makes its transfers in the order in which they were put into it, and has at
 /// most as many as a limit says.
 ///
-/// Contracts see the limit, the transfers of each queue, the next one first, and beside them for how many more each
-/// queue has room. A refused call leaves the transfers as they were. Only `new`, `put`, `reserve` and `copy_queues` take
-/// memory.
+/// Contracts see the limit, the transfers of each queue, the next one first, and for how many more each queue has room.
+/// A refused call leaves the transfers as they were. Only `new`, `put`, `reserve` and `copy_queues` allocate.
 ///
-/// A look-up and a removal take the same time however many transfers wait, and so does `put`, but where a queue's room
-/// grows: then that queue's transfers may move.
+/// A look-up and a removal take the same time however many transfers wait. So does `put`, unless a queue's room grows:
+/// then that queue's transfers may move.
 #[derive(Drop)]
 pub struct Queues {
     cap: u64,
@@ -63,7 +62,7 @@ impl Queues {
         })
     }
 
-    /// What holds of the queues at all times: there are sixteen, each has at most as many transfers as the limit says,
+    /// What holds of the queues at all times. There are sixteen. Each has at most as many transfers as the limit says,
     /// and the limit is from 1 to 4,096. There is room in no other queue. Nothing is done.
     pub fn laws(&self)
         ensures queues { AreQueues self.now.cap self.now.queues }
@@ -77,8 +76,8 @@ impl Queues {
     /// # Errors
     ///
     /// [`Fault::NoQueue`] with the number, exactly where it is above 15. Else [`Fault::QueueFull`] with the number,
-    /// exactly where the queue has as many transfers as the limit says. Else [`Fault::Memory`], only where the queue had
-    /// no room for one more. The queues are then as before.
+    /// exactly where the queue has as many transfers as the limit says. Else [`Fault::Memory`], only where the queue
+    /// had no room for one more. The queues are then as before.
     pub fn put(&mut self, q: u64, t: Transfer) -> Result<(), Fault>
         ensures queues { OnOk result (self.new.queues ≡ put q t self.old.queues) }
         ensures accepted { OnOk result (judge_put self.old.cap q self.old.queues ≡ Ok tt) }
@@ -138,10 +137,10 @@ impl Queues {
         self.rings.get(q as usize)?.at(i)
     }
 
-    /// The transfers of each queue in a vector of their own: the queues by rising number, and in each the transfer that
-    /// it makes next at the front. The queues stay as they are.
+    /// The transfers of each queue in a vector of their own. The queues stand by rising number, and in each the
+    /// transfer that it makes next at the front. The queues stay as they are.
     ///
-    /// It takes memory for the answer alone, for exactly so many queues and transfers, and copies each transfer once.
+    /// It allocates for the result alone, exactly so many queues and transfers, and copies each transfer once.
     ///
     /// # Errors
     ///
@@ -155,7 +154,7 @@ impl Queues {
 
     // ---- room
 
-    /// Makes room for so many more transfers in a queue, so that [`Queues::put_reserved`] takes no memory.
+    /// Makes room for so many more transfers in a queue, so that [`Queues::put_reserved`] allocates nothing.
     ///
     /// # Errors
     ///
@@ -172,8 +171,8 @@ impl Queues {
         make_room(&mut self.rings, q, count)
     }
 
-    /// As [`Queues::put`], where the queue has fewer transfers than the limit says, and room for one more: it takes no
-    /// memory and is not refused. It takes at most one from the room of that queue, and none from that of the others.
+    /// As [`Queues::put`], where the queue has fewer transfers than the limit says, and room for one more: it allocates
+    /// nothing and is not refused. It takes at most one from the room of that queue, and none from that of the others.
     pub fn put_reserved(&mut self, q: u64, t: Transfer)
         requires known { q < QUEUE_COUNT }
         requires below { length (queue_at q self.old.queues) < self.old.cap }

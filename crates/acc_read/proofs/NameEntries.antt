@@ -144,7 +144,7 @@ put_entry k array (e ∷ entries) =
       | Greater ↦ ap (λ (es : List (List ℕ × Array)). entry_of e ∷ es) (put_entry k array entries)
     ]
 
--- a map that answers as one with an array more is that one
+-- a map whose look-ups are those of one with an array more is that one
 same_names : (names : Names) (name : List ℕ) (array : Array) (later : Names)
     → ((q : List ℕ) → get later q ≡ cond (eq_by_cmp by_name q name) (Some array) (get names q))
     → later ≡ insert names name array

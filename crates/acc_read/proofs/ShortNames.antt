@@ -71,7 +71,7 @@ and_true : (b : Bool) → (b && true) ≡ b
 and_true true = refl
 and_true false = refl
 
--- where the first byte is not 0, the length tells
+-- where the first byte is not 0, the number determines the length
 pub is_short-first : (name : List ℕ) → ((k : ℕ) → slice_index name k < 256)
     → 0 < slice_index name 0 → nat_le (length name) 8 ≡ is_short name
 unfolding is_short

@@ -1,4 +1,4 @@
--- A line is right where it wants memory.
+-- A line is right where it needs memory.
 use Rattle.std.proofs.Common.{◌≡◌, Bool, true, List, Result, Ok, Err, refl, ℕ}
 use Rattle.std.specs.Prelude.{codes}
 use Rattle.acc_base.specs.declared.faults.ScriptFault.{ScriptFault}
@@ -16,25 +16,25 @@ wants_made : {A B : Type 0} (needs : B → Bool) (f : A → B) → ((x : A) → 
 wants_made needs f h (Ok x) right = h x
 wants_made needs f h (Err kind) right = absurd cc
 
--- the clauses of `data` are right where they want memory
+-- the clauses of `data` are right where they need memory
 pub data_wants : (layout : ArrayLayout) (device : ℕ) (text : List ℕ)
     → wants always (clauses_at region_grammar layout text) ≡ true → wants takes_memory (data_at layout device text) ≡ true
 unfolding data_at
 data_wants layout device text right = wants_made takes_memory (λ read. Direct (Enter device read.items)) (λ read. refl) (clauses_at region_grammar layout text) right
 
--- the clauses of `enter data` are right where they want memory
+-- the clauses of `enter data` are right where they need memory
 pub enter_wants : (layout : ArrayLayout) (device : ℕ) (text rest : List ℕ) → keyword_at (codes "data") text ≡ Ok rest
     → wants always (clauses_at enter_grammar layout rest) ≡ true → wants takes_memory (enter_at layout device text) ≡ true
 unfolding enter_at
 enter_wants layout device text rest e right = rw e (wants_made takes_memory (λ read. Direct (EnterData device read.items read.queue)) (λ read. refl) (clauses_at enter_grammar layout rest) right)
 
--- the clauses of `exit data` are right where they want memory
+-- the clauses of `exit data` are right where they need memory
 pub exit_wants : (layout : ArrayLayout) (device : ℕ) (text rest : List ℕ) → keyword_at (codes "data") text ≡ Ok rest
     → wants always (clauses_at exit_grammar layout rest) ≡ true → wants takes_memory (exit_at layout device text) ≡ true
 unfolding exit_at
 exit_wants layout device text rest e right = rw e (wants_made takes_memory (λ read. Direct (ExitData device read.items read.has_option read.queue)) (λ read. refl) (clauses_at exit_grammar layout rest) right)
 
--- the clauses of `update` are right where they want memory
+-- the clauses of `update` are right where they need memory
 pub update_wants : (layout : ArrayLayout) (device : ℕ) (text : List ℕ)
     → wants always (clauses_at update_grammar layout text) ≡ true → wants takes_memory (update_at layout device text) ≡ true
 unfolding update_at

@@ -19,7 +19,7 @@ bytes_before (suc most) number others = if nat_eq number 0 then others else byte
 unfoldable pub name_of : ℕ → List ℕ
 name_of number = bytes_before 8 number []
 
--- whether the bytes of a name fit a number, which tells how many there are, since the first is not 0
+-- whether the bytes of a name fit a number, which gives how many there are, since the first is not 0
 unfoldable pub is_short : List ℕ → Bool
 is_short name = nat_lt 0 (slice_index name 0) && nat_le (length name) 8 && list_all (λ byte. nat_lt byte 256) name
 

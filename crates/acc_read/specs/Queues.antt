@@ -1,4 +1,5 @@
--- Numbers in parentheses: of the queues that an option or a statement names (OpenACC 3.3, section 2.16, asynchronous behavior), and of devices.
+-- Numbers in parentheses: of the queues that an option or a statement names (OpenACC 3.3, section 2.16, asynchronous
+-- behavior), and of devices.
 use Rattle.std.specs.Prelude.{ℕ, List, Result, Ok, Err, if◌then◌else◌}
 use Rattle.acc_base.specs.declared.faults.ScriptFault.{ScriptFault}
 use Rattle.acc_base.specs.declared.faults.ScriptFault.TheVariants.{Syntax}

@@ -41,7 +41,7 @@ has_items (Wait device queue) = false
 has_items (Step device queue) = false
 has_items d = true
 
--- a statement that takes memory to read: a directive with clauses, and a write, whose bytes are a list
+-- a statement for which reading allocates: a directive with clauses, and a write, whose bytes are a list
 abbrev pub takes_memory : Meaning → Bool
 takes_memory (Direct directive) = has_items directive
 takes_memory (Write addr bytes) = true
@@ -81,7 +81,7 @@ exited innermost = do
   number ← ok_or innermost NoOpenRegion
   Ok (Direct (Exit number))
 
--- `end data`, of the innermost open region; a fault of syntax is told before there is none
+-- `end data`, of the innermost open region; a fault of syntax comes before that none is open
 unfoldable pub end_at : Option ℕ → List ℕ → Result Meaning ScriptFault
 end_at innermost text = do
   rest ← keyword_at (codes "data") text
@@ -133,7 +133,7 @@ select_at text = do
 -- ---- kernels
 
 -- `kernel`, a kernel and its section, in the innermost open region (OpenACC 3.3, section 2.5, compute constructs). All
--- other faults are told before that none is open
+-- other faults come before that none is open
 unfoldable pub kernel_at : ArrayLayout → Option ℕ → List ℕ → Result Meaning ScriptFault
 kernel_at layout innermost text = do
   read ← last_kernel_at layout text
@@ -218,7 +218,7 @@ abbrev pub line_limit : ℕ
 line_limit = 4096
 
 -- what a line asks for, by the numbers of the current device and of the innermost open region, if one is open. A line
--- that is too long is told first, then a byte that is no text
+-- that is too long is refused first, then a byte that is no text
 unfoldable pub line_at : ArrayLayout → ℕ → Option ℕ → List ℕ → Result Meaning ScriptFault
 line_at layout device innermost line = if nat_lt line_limit (length line) then Err TooLong
     else if not (list_all is_text_byte (before_comment line)) then Err NotText

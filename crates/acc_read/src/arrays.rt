@@ -47,7 +47,7 @@ impl Array {
     }
 }
 
-// Whether the bytes of a name fit a number. The number tells how many there are, since the first is not 0.
+// Whether the bytes of a name fit a number. The number gives how many there are, since the first is not 0.
 fn is_short(name: &[u8]) -> bool
     ensures { result ≡ is_short name.now }
 {
@@ -138,7 +138,7 @@ impl Arrays {
     ///
     /// # Errors
     ///
-    /// Where memory is wanting; then nothing is changed.
+    /// [`AllocError`] where there is no memory. Nothing changed then.
     pub fn insert(&mut self, alloc: Global, name: &[u8], array: Array) -> Result<(), AllocError>
         ensures ok { OnOk result (self.new ≡ with_array name.now array self.old) }
         ensures err { OnErr result (self.new ≡ self.old) }

@@ -190,7 +190,7 @@ fn with_clause<C: Copy>(unfinished: Unfinished<C>) -> Result<Clauses<C>, Trouble
 ///
 /// # Errors
 ///
-/// The first fault of the text. Want of memory is told once all was read, so that a fault comes first.
+/// The first fault of the text. Lack of memory is returned once all was read, so that a fault comes first.
 #[tactic(auto, unfolding(crate::specs::Clauses::clauses_at))]
 pub fn clauses_at<C: Clause>(
     alloc: Global,

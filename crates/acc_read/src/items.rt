@@ -12,11 +12,11 @@ use acc_base::{Item, ScriptFault, Section};
 /// What a clause lists.
 #[derive(Clone, Copy)]
 pub enum Kind {
-    /// Sections.
+    /// Sections alone, as in `update`.
     Sections,
     /// Sections, each with the pointer to it where one is named.
     Items,
-    /// Pointers.
+    /// Pointers alone, as in `attach` and `detach`.
     Pointers,
 }
 

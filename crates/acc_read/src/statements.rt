@@ -28,12 +28,12 @@ pub enum Statement<'a> {
     Blank,
     /// A new array.
     Declare {
-        /// The name.
+        /// Its letters, digits and `_`, 1 to 32.
         name: &'a [u8],
         /// Where the array lies.
         array: Array,
     },
-    /// A directive.
+    /// A directive of OpenACC for the current device, with its items.
     Direct(Directive),
     /// The number of the device that later lines are for (OpenACC 3.3, the set directive).
     Select(u64),
@@ -50,7 +50,7 @@ pub enum Statement<'a> {
     Write {
         /// The first host address.
         addr: u64,
-        /// The bytes.
+        /// The bytes to write, at most 64.
         bytes: List<u8>,
     },
     /// The bytes of a section of host memory.
@@ -70,7 +70,7 @@ pub enum Statement<'a> {
 ///
 /// # Errors
 ///
-/// The first fault of the line; want of memory where it has none, and its items or bytes found no memory.
+/// The first fault of the line; lack of memory where it has none, and its items or bytes found no memory.
 #[tactic(auto, unfolding(crate::specs::Statements::line_at))]
 pub fn line_at<'a>(
     alloc: Global,
@@ -162,7 +162,7 @@ fn statement_at<'a>(
     }
 }
 
-/// A question, by its word.
+/// The statement that begins with this word: `show`, `peek`, `present`, `address` or `report`.
 #[tactic(auto, unfolding(crate::specs::Statements::question_at))]
 fn question_at(word: &[u8], arrays: &Arrays, text: &[u8]) -> Result<Statement<'static>, ScriptFault>
     ensures { Reads meaning_of result (question_at word.now arrays.now text.now) }

@@ -9,7 +9,7 @@ use std::alloc::{AllocError, AllocFailed};
 /// Why a line gives no statement.
 #[derive(Clone, Copy)]
 pub enum Trouble {
-    /// No memory could be had for it.
+    /// There was no memory for it.
     Memory,
     /// The line is at fault.
     Line(ScriptFault),

@@ -1,5 +1,5 @@
-//! Two thousand turns in no order on two devices, with full traces: a replay of the stored events alone has the bytes of all
-//! memories.
+//! Two thousand turns in no order on two devices, with full traces: a replay of the stored events alone has the bytes
+//! of all memories.
 
 use crate::replay::Replay;
 use crate::same;
@@ -162,14 +162,14 @@ fn kind(event: &Event) -> usize {
 #[derive(Drop)]
 struct Life {
     replay: Replay,
-    /// How many stored events the replay was told.
+    /// How many stored events the replay was given.
     told: usize,
     /// How many events of each kind there were.
     kinds: [u64; 10],
 }
 
 impl Life {
-    /// The replay is told the events that it does not know.
+    /// The replay is given the events that it does not know.
     fn listen(&mut self, alloc: Global, table: &Table) -> Result<(), AllocError> {
         for event in table.trace().iter().skip(self.told) {
             self.replay.tell(alloc, event)?;

@@ -49,7 +49,7 @@ struct Attached {
     count: u64,
 }
 
-/// All memories, as events told one after the other give them.
+/// All memories, as events give them one after the other.
 #[derive(Drop)]
 pub struct Replay {
     /// The bytes of host memory.
@@ -64,7 +64,7 @@ pub struct Replay {
     attached: Vec<Attached>,
     /// How often a pointer was aimed at a new target; at the same one again; detached once; and at once.
     pub aims: [u64; 4],
-    // The device of the event that is told.
+    // The device of the event that is replayed.
     device: u64,
 }
 
@@ -316,7 +316,8 @@ impl Replay {
         }
     }
 
-    /// A new block is filled, and gets the bytes of the host where the clause copies them. Then the pointer is attached.
+    /// A new block is filled, and gets the bytes of the host where the clause copies them. Then the pointer is
+    /// attached.
     fn enter(
         &mut self,
         alloc: Global,
@@ -358,8 +359,8 @@ impl Replay {
         Ok(())
     }
 
-    /// The pointer is detached. Then the bytes of a block whose mapping has ended go to the host where the clause copies
-    /// them.
+    /// The pointer is detached. Then the bytes of a block whose mapping has ended go to the host where the clause
+    /// copies them.
     fn leave(
         &mut self,
         section: Section,
@@ -494,7 +495,7 @@ impl Replay {
         self.loans.retain(|loan| loan.block != block);
     }
 
-    /// Does what an event tells.
+    /// Does what an event says.
     pub fn tell(&mut self, alloc: Global, event: &Event) -> Result<(), AllocError> {
         self.device = event.device();
         match event {

@@ -1,4 +1,4 @@
--- What the calls on rows answer, and how a value is written.
+-- What the calls on rows return, and how a value is written.
 use Rattle.std.proofs.Common.{ℕ, zero, suc, ◌≡◌, ◌+◌, ◌-◌, ◌<◌, refl, sym, ap, subst, ◌∙◌, Bool, true, false, cond, List, [], ◌∷◌, ◌++◌, length, get_or, set, take, Option, Some, None, IsSome, arith, rules}
 use Rattle.std.specs.Prelude.{◌==◌, map, slice_get}
 use Rattle.std.specs.declared.alloc.Global.{Global}

@@ -84,7 +84,7 @@ pub fn start<T: Copy>(
 }
 
 /// Where to split a full row to which an entry comes at `at`. Where it comes before or behind all entries, nearly all
-/// stay together, so that rows are full after entries that come by rising or falling keys.
+/// stay together. So rows are full after entries that come by rising or falling keys.
 fn cut_for(at: usize) -> usize
     ensures some { 0 < result }
     ensures not_all { result < 64 }
@@ -124,7 +124,7 @@ fn split<T: Copy>(
     let _ = rows.insert(row + 1, upper);
 }
 
-/// Splits the row of a place where it is full, and answers where the place is then.
+/// Splits the row of a place where it is full, and returns where the place is then.
 pub fn make_place<T: Copy>(
     firsts: &mut Vec<u128>,
     rows: &mut Vec<Vec<Entry<T>>>,
@@ -176,7 +176,7 @@ pub fn put<T: Copy>(
     firsts[place.row] = row[0].key;
 }
 
-/// Takes out the only entry of a row, which waits then, and answers it.
+/// Takes out the only entry of a row, which waits then, and returns it.
 fn take_row<T: Copy>(
     firsts: &mut Vec<u128>,
     rows: &mut Vec<Vec<Entry<T>>>,
@@ -197,7 +197,7 @@ fn take_row<T: Copy>(
     entry
 }
 
-/// Takes out one of several entries of a row, and answers it.
+/// Takes out one of several entries of a row, and returns it.
 fn shorten<T: Copy>(firsts: &mut Vec<u128>, rows: &mut Vec<Vec<Entry<T>>>, place: Place) -> Entry<T>
     requires in_rows { AreInRows firsts.old.items rows.old.items }
     requires among { IsAmongOthers rows.old.items place }
@@ -264,7 +264,7 @@ fn join_few<T: Copy>(
     }
 }
 
-/// Takes out the entry at a place, and answers it. Its row is joined with one beside it where both have few entries
+/// Takes out the entry at a place, and returns it. Its row is joined with one beside it where both have few entries
 /// then.
 pub fn take_out<T: Copy>(
     firsts: &mut Vec<u128>,
@@ -288,7 +288,7 @@ pub fn take_out<T: Copy>(
     }
 }
 
-/// Writes the value of the entry at a place.
+/// Gives the entry at a place another value. Its key stays, so no entry moves.
 pub fn write<T: Copy>(rows: &mut Vec<Vec<Entry<T>>>, place: Place, value: T)
     requires { IsTaken rows.old.items place }
     ensures entries { (entry : Entry T) → slice_get (side_by_side rows.old.items) (index_of rows.old.items place) ≡ Some entry → side_by_side rows.new.items ≡ set (side_by_side rows.old.items) (index_of rows.old.items place) (record entry { value = value }) }

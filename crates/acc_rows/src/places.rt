@@ -2,8 +2,8 @@
 
 /// Where an entry may stand.
 ///
-/// Each value is right, and no contract speaks of it: a call that is handed one looks there first, and searches where
-/// it does not find the entry of its key.
+/// Any value may be handed in, and no contract speaks of it. A call that is handed one looks there first, and searches
+/// where the entry of its key is not there.
 #[derive(Clone, Copy, Debug, Default, PartialEq, Eq)]
 pub struct Place {
     pub(crate) row: usize,

@@ -26,9 +26,9 @@ pub struct Around<'a, T> {
 /// Entries by rising key, and room for more of them.
 ///
 /// They stand in rows of up to 64, and the least key of each row in a list of its own. A look-up is a search by halves
-/// in that list and one in a row. A change moves entries of one row or two. Where a row comes or goes, it also moves the
-/// list of rows behind it, which grows with the number of entries. Memory is asked for by [`Rows::reserve`] alone: an
-/// entry more uses up at most one row that waits.
+/// in that list and one in a row. A change moves entries of one row or two. Where a row comes or goes, it also moves
+/// the list of rows behind it, which grows with the number of entries. Memory is asked for by [`Rows::reserve`] alone:
+/// an entry more uses up at most one row that waits.
 #[derive(Drop)]
 pub struct Rows<T: Copy> {
     alloc: Global,
@@ -145,7 +145,7 @@ impl<T: Copy> Rows<T> {
         self.around(key).from
     }
 
-    /// Puts an entry in its place by its key, which is not there yet, and answers where it stands. It needs no memory.
+    /// Puts an entry in its place by its key, which is not there yet, and returns where it stands. It needs no memory.
     pub fn insert(&mut self, entry: Entry<T>) -> Place
         requires room { 1 ≤ self.old.room }
         requires new { at_key entry.key self.old.entries ≡ None }
@@ -162,7 +162,7 @@ impl<T: Copy> Rows<T> {
         place
     }
 
-    /// Takes out the entry of a key that is there, and answers it. It is looked for first near a place.
+    /// Takes out the entry of a key that is there, and returns it. It is looked for first near a place.
     pub fn remove(&mut self, key: u128, near: Place) -> Entry<T>
         requires there { IsSome (at_key key self.old.entries) }
         ensures entry { at_key key self.old.entries ≡ Some result }
@@ -190,8 +190,8 @@ impl<T: Copy> Rows<T> {
         count_in(&self.rows)
     }
 
-    /// All entries by rising key, in the rows in which they stand: those of a row, and then those of the next. So a walk
-    /// over them all needs no search.
+    /// All entries by rising key, in the rows in which they stand: those of a row, and then those of the next. So a
+    /// walk over them all needs no search.
     pub fn rows(&self) -> &[Vec<Entry<T>>]
         ensures { side_by_side result.now ≡ self.now.entries }
     {

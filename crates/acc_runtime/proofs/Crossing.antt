@@ -1,4 +1,5 @@
--- A runtime may be shared by threads: neither the table behind its lock nor the books beside it belong to one thread, for ledgers of any types that cross.
+-- Threads may share a runtime. Neither the table behind its lock nor the books beside it belong to one thread, for
+-- ledgers of any types that cross.
 use denote.RattleType.{RattleType}
 use Rattle.std.specs.declared.sync.ledger.Ledger.{Ghosts}
 use denote.Param.Send.{IsSend, IsSync, sendable, view_send, recorded_send, struct_send}

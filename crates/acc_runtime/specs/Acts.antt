@@ -15,6 +15,7 @@ pub record IsActed (p : Shares) (w : World) (call : Call Leased) (reply : Reply)
   pub done : IsDone w call reply v
   pub shares : q ≡ after_call call reply p
 
--- the caller's own shares refused the call; or they allowed it and the table refused it, for no want of tickets or regions
+-- the caller's own shares refused the call; or they allowed it and the table refused it, and not for lack of tickets or
+-- regions
 abbrev pub IsDenied : Shares → World → Call Leased → Fault → Type 0
 IsDenied p w call fault = MatchResult (enough_for call p) (λ _. IsRefusal w call fault × (is_shortage fault ≡ false)) (λ first. fault ≡ first)

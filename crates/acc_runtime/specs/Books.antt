@@ -1,4 +1,4 @@
--- How the books of the shares stand beside a table, and what one caller's shares tell of it.
+-- How the books of the shares fit a table, and what one caller's shares imply for it.
 use Rattle.std.specs.Prelude.{ℕ, ◌+◌, ◌≡◌, ◌≤◌}
 use Rattle.std.specs.List.{AllByRecursion}
 use Rattle.acc_base.specs.declared.mappings.Range.{Range}
@@ -20,7 +20,7 @@ pub record IsBooked (regions tickets events : ℕ) (all : Shares) (w : World) : 
   -- the events are what all callers made
   pub made : all.made ≡ event_count w.history
 
--- what the shares of one caller tell of the table, where there are so many regions and tickets in all
+-- what the shares of one caller imply for the table, where there are so many regions and tickets in all
 pub record IsSettled (regions tickets : ℕ) (p : Shares) (w : World) : Type 0 where
   -- the table keeps all laws
   pub lawful : IsLawful w

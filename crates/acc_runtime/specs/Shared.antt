@@ -1,4 +1,5 @@
--- What a call on a shared table came to. Which table it met is known only while the lock is held: one that keeps the laws.
+-- What a call on a shared table came to. Which table it met is known only while the lock is held: one that keeps the
+-- laws.
 use Rattle.std.specs.Prelude.{ℕ, ◌≡◌, ◌/◌, ◌%◌, List, Some, length}
 use Rattle.acc_base.specs.declared.items.Section.{Section}
 use Rattle.acc_base.specs.declared.calls.Call.{Call}

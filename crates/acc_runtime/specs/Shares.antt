@@ -19,7 +19,7 @@ pub record IsEnough (call : Call Leased) (shares : Shares) : Type 0 where
   pub ticket : 0 < shares.tickets
   pub region : is_entry call ≡ true → 0 < shares.allowance
 
--- what a caller's own shares refuse a call for: want of a ticket is told before want of a region
+-- what a caller's own shares refuse a call for: lack of a ticket comes before lack of a region
 abbrev pub enough_for : Call Leased → Shares → Result ⊤ Fault
 enough_for call shares = refuse_if (shares.tickets == 0) (NoTickets 0) >> refuse_if (is_entry call && shares.allowance == 0) (NoAllowance 0)
 

@@ -13,10 +13,10 @@ use std::sync::ledger::{Ledger, Share};
 /// A caller of a [`Runtime`](crate::Runtime), with its shares. Its allowance is how many more data regions it may have
 /// open, and its tickets are how many more events it may make. It counts the events that it made.
 ///
-/// [`Runtime::new`](crate::Runtime::new) answers the first caller, which has all regions and all tickets. A caller is
+/// [`Runtime::new`](crate::Runtime::new) returns the first caller, which has all regions and all tickets. A caller is
 /// split for another thread, and merged when that is done. No share is ever made or lost on the way. So a caller that
-/// has the whole allowance again knows that no region is open, which [`Runtime::look`](crate::Runtime::look) tells it.
-/// A caller that is dropped takes its shares with it.
+/// has the whole allowance again knows that no region is open: [`Runtime::look`](crate::Runtime::look) promises it. A
+/// caller that is dropped takes its shares with it.
 ///
 /// Contracts see a caller as its `Shares`.
 #[derive(Drop)]
@@ -70,8 +70,8 @@ impl<Regions: Ledger, Tickets: Ledger, Events: Ledger> Caller<Regions, Tickets, 
     ///
     /// # Errors
     ///
-    /// Nothing is split, and what is left is told: [`Fault::NoTickets`] where there are fewer tickets, and else
-    /// [`Fault::NoAllowance`] where the allowance is less.
+    /// [`Fault::NoTickets`] where there are fewer tickets, and else [`Fault::NoAllowance`] where the allowance is less,
+    /// with what is left. Nothing is split.
     pub fn split(
         &mut self,
         regions: u64,

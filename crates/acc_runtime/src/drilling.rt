@@ -207,7 +207,7 @@ fn merge_back<Regions: Ledger, Tickets: Ledger, Events: Ledger>(
     }
 }
 
-/// Takes the shares of all workers back, and answers the fault of the first that met one.
+/// Takes the shares of all workers back, and returns the fault of the first that met one.
 fn merge_all<Regions: Ledger, Tickets: Ledger, Events: Ledger>(
     caller: &mut Caller<Regions, Tickets, Events>,
     mut workers: Vec<Worker<Regions, Tickets, Events>>,
@@ -268,18 +268,19 @@ fn look<Regions: Ledger, Tickets: Ledger, Events: Ledger, R: Wait>(
     runtime.look(rt, caller, |table| tell(table, allowance))
 }
 
-/// Maps an array on the first device by `enter data copyin`, and lets threads enter and exit regions over it (OpenACC 3.3, section 2.6.5, data construct). Each thread has a caller of its own, with one region and as many
+/// Maps an array on the first device by `enter data copyin`, and lets threads enter and exit regions over it there
+/// (OpenACC 3.3, section 2.6.5, data construct). Each thread has a caller of its own, with one region and as many
 /// tickets as it needs. All are split off before any thread begins, and merged when all are done. A thread calls the
 /// gate's `before` with its number, counted from 0, makes its rounds, and calls `after`. There are 1 to 64 threads, and
 /// 1 to 1,000 rounds.
 ///
-/// What it answers is read from the table: with the whole allowance back, no region of any thread is open.
+/// What it returns is read from the table: with the whole allowance back, no region of any thread is open.
 ///
 /// # Errors
 ///
-/// [`Fault::Memory`], and those of [`Runtime::enter_data`] and [`Caller::split`]. Of the threads the fault of the first
-/// by number is told: it is of [`Runtime::enter`] or [`Runtime::exit`], and the thread stops there. A region that it
-/// cannot exit stays open. What was done before stays done.
+/// [`Fault::Memory`], and those of [`Runtime::enter_data`] and [`Caller::split`]. Where several threads meet a fault,
+/// it is that of the first by number. It is of [`Runtime::enter`] or [`Runtime::exit`], and the thread stops there. A
+/// region that it cannot exit stays open. What was done before stays done.
 pub fn drill<
     Regions: Ledger + Send + Sync,
     Tickets: Ledger + Send + Sync,

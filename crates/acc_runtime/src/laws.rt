@@ -25,18 +25,19 @@ use std::alloc::Global;
 use std::marker::Model;
 use std::sync::ledger::{Book, Ledger, Share};
 
-/// What the lock guards: a table, and the books of the shares of all callers. Its type keeps, whenever the lock is free,
-/// that
+/// What the lock guards: a table, and the books of the shares of all callers. Its type keeps, whenever the lock is
+/// free, that
 ///
-/// - on each device mapped ranges are not empty, lie in host memory, and do not overlap; blocks and holes are the device,
-///   with no address in two of them;
+/// - on each device mapped ranges are not empty, lie in host memory, and do not overlap;
+/// - there blocks and holes are the device, with no address in two of them;
 /// - there each range has a block of its own, and each other block is named by a queued transfer;
 /// - no range has both counters zero, and each counter is the count over what happened on its device;
 /// - the structured counter of a block is how often open regions of its device hold it;
 /// - each device has what its own events alone lead to, and no region is open on two devices;
 /// - the history is legal, and there are no more events than tickets and no more open regions than the limit says;
-/// - the allowances of all callers and the open regions make up all regions, their tickets and the events make up all
-///   tickets, and the events are what they made.
+/// - the allowances of all callers and the open regions make up all regions;
+/// - the tickets of all callers and the events make up all tickets;
+/// - the events are what all callers made.
 ///
 /// Contracts see the world of the table: its limits, its history and its state. Each call is one
 /// [`act`](Locked::act).
@@ -83,7 +84,7 @@ fn is_exit(call: &Call) -> bool
 }
 
 /// Makes one call on a table, which is counted once where it is accepted. With a ticket and a region left, it is not
-/// refused for want of them.
+/// refused for lack of them.
 #[tactic(auto, using(acc_table::proofs::Replying::done_replied, acc_table::proofs::Tallied::done_counted, acc_table::proofs::Telling::refused_other))]
 fn apply(table: &mut Table, call: Call) -> Outcome
     requires lawful { IsLawful table.old }
@@ -145,14 +146,14 @@ impl<Regions: Ledger, Tickets: Ledger, Events: Ledger> Locked<Regions, Tickets, 
         let _ = &self.table;
     }
 
-    /// Makes one call, as [`Table::apply`] does: an event, or no change. An event takes a ticket of its caller and is one
-    /// more that it made; an entry takes one region of its allowance, and an exit gives one to it.
+    /// Makes one call, as [`Table::apply`] does: an event, or no change. An event takes a ticket of its caller, and is
+    /// one more that it made. An entry takes one region of its allowance, and an exit gives one to it.
     ///
     /// # Errors
     ///
-    /// [`Fault::NoTickets`] where the caller has no ticket, and else [`Fault::NoAllowance`] where it enters a region and
-    /// has no allowance. Then those of [`Table::apply`], in its order, but for these two, which never come there. The
-    /// call comes back, a lease with its bytes, and nothing changed.
+    /// [`Fault::NoTickets`] where the caller has no ticket, and else [`Fault::NoAllowance`] where it enters a region
+    /// and has no allowance. Then those of [`Table::apply`], in its order, but for these two, which never come there.
+    /// The call comes back, a lease with its bytes, and nothing changed.
     pub fn act(
         &mut self,
         caller: &mut Caller<Regions, Tickets, Events>,
@@ -199,7 +200,7 @@ impl<Regions: Ledger, Tickets: Ledger, Events: Ledger> Locked<Regions, Tickets, 
         Ok(reply)
     }
 
-    /// Makes what the table has its base, and answers how many events were stored, as [`Table::rebase`] does. It is no
+    /// Makes what the table has its base, and returns how many events were stored, as [`Table::rebase`] does. It is no
     /// event: no caller's shares change, and no book.
     ///
     /// # Errors
@@ -214,7 +215,7 @@ impl<Regions: Ledger, Tickets: Ledger, Events: Ledger> Locked<Regions, Tickets, 
         Ok(self.fold()?.count())
     }
 
-    /// As [`Locked::rebase`], but what the table no longer needs is answered, to be let go when the lock is free, as
+    /// As [`Locked::rebase`], but it returns what the table no longer needs, to be freed when the lock is free, as
     /// [`Table::fold`] does.
     ///
     /// # Errors
@@ -231,8 +232,8 @@ impl<Regions: Ledger, Tickets: Ledger, Events: Ledger> Locked<Regions, Tickets, 
         outcome
     }
 
-    /// Compares the shares of a caller with the books, and answers whether it has the whole allowance. Then no region is
-    /// open on any device, and every structured counter of each of them is zero. Nothing changes.
+    /// Compares the shares of a caller with the books, and returns whether it has the whole allowance. Then no region
+    /// is open on any device, and every structured counter of each of them is zero. Nothing changes.
     #[tactic(auto, using(crate::proofs::Settling::none_anywhere))]
     pub fn settled(&mut self, caller: &mut Caller<Regions, Tickets, Events>) -> bool
         ensures same { (self.new ≡ self.old) × (caller.new ≡ caller.old) }
@@ -247,8 +248,8 @@ impl<Regions: Ledger, Tickets: Ledger, Events: Ledger> Locked<Regions, Tickets, 
         caller.allowance == self.table.config().regions()
     }
 
-    /// Calls `look` once on the table, of which all the laws hold, with all that [`settled`](Locked::settled) tells of
-    /// this caller, and answers what it answers. Nothing changes.
+    /// Calls `look` once on the table, of which all the laws hold, with all that [`settled`](Locked::settled) says of
+    /// this caller, and returns what `look` returns. Nothing changes.
     pub fn look<T, F: FnOnce(&Table) -> T>(
         &mut self,
         caller: &mut Caller<Regions, Tickets, Events>,
@@ -263,7 +264,7 @@ impl<Regions: Ledger, Tickets: Ledger, Events: Ledger> Locked<Regions, Tickets, 
         look(&self.table)
     }
 
-    /// The bytes of a section of host memory, copied into an empty list that has room for them; an empty section has
+    /// The bytes of a section of host memory, copied into an empty list that has room for them. An empty section has
     /// none, wherever it starts. `None` where some address of the section is not in host memory.
     pub fn host_read(&self, section: Section, mut copy: Vec<u8>) -> Option<Vec<u8>>
         requires empty { vec_len copy ≡ 0 }

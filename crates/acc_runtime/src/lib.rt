@@ -6,11 +6,11 @@
 //!
 //! Who makes calls is a [`Caller`]. It has shares of the regions that may be open, its allowance, and of the events
 //! that may be made, its tickets. They are split and merged, and never made or lost. So a caller that has the whole
-//! allowance again knows that no region is open and every structured counter is zero. [`Runtime::look`] tells it to the
-//! closure that it calls.
+//! allowance again knows that no region is open and every structured counter is zero. [`Runtime::look`] promises it to
+//! the closure that it calls.
 //!
 //! Here two threads map the same bytes. Whichever comes first makes the mapping, and the other one counts it, so
-//! `used_by_two` answers 16:
+//! `used_by_two` returns 16:
 //!
 //! ```
 //! use acc_base::{Config, EnterClause, Fault, HOST_BASE, Item, Section};
@@ -104,7 +104,7 @@
 //! ghosts-on_new_runtime-Regions-Ledger a = record { name = a.blanks.regions.name; parts = a.blanks.regions.parts }
 //! ```
 //!
-//! A function that hands a runtime and a caller to another thread needs one too, here
+//! A function that hands a runtime and a caller to another thread needs one too. Here it is
 //! `proofs/map_twice/Answers.antt`, with the name of the crate in place of `example`:
 //!
 //! ```text

@@ -10,11 +10,11 @@ use std::sync::{Mutex, MutexGuard, Wait};
 
 /// One table and its lock, which any number of threads share by reference.
 ///
-/// Each call takes the lock once, and may wait for it. The lock covers one [`Table::apply`](acc_table::Table::apply) with
-/// the moves of its caller's shares, one rebase, one look, or one copy. What is handed in is put together before it is
-/// taken. What a refused call brought and what a rebase folded are let go after it is released. Under it is allocated what
-/// the table keeps of an event, and the bytes of a host write are freed that a counted trace does not keep. Whenever it is
-/// free, the laws of [`Locked`] hold of the table.
+/// Each call takes the lock once, and may wait for it. The lock covers one [`Table::apply`](acc_table::Table::apply)
+/// with the moves of its caller's shares, one rebase, one look, or one copy. What is handed in is put together before
+/// it is taken. What a refused call brought and what a rebase folded are freed after it is released. While the lock is
+/// held, memory is allocated for what the table keeps of an event. The bytes of a host write that a counted trace does
+/// not keep are freed then too. Whenever it is free, the laws of [`Locked`] hold of the table.
 ///
 /// Which table a call meets is up to the threads. So contracts say that it met one of which the laws hold, and what
 /// came of the call there. They see a runtime as its limits.

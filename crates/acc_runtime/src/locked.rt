@@ -1,6 +1,6 @@
 //! The ten calls that make events, on the table behind the lock. Each is one [`Locked::act`] of the call that its name
-//! says, with exactly what was handed in, and answers what that answered. A call that is refused changes nothing, neither
-//! the table nor the shares of its caller.
+//! says, with exactly what was handed in, and returns its outcome. A call that is refused changes nothing, neither the
+//! table nor the shares of its caller.
 
 ghost use Rattle.std.specs.Prelude.{◌≡◌, if◌then◌else◌, IfOk, IfErr, OnOk, OnErr};
 ghost use Rattle.acc_base.specs.declared.calls.Call.TheVariants.{Do, HostWrite, Lend, Gather};
@@ -114,7 +114,7 @@ impl<Regions: Ledger, Tickets: Ledger, Events: Ledger> Locked<Regions, Tickets, 
         done(self.act(caller, calls::update(device, items, if_present, queue)))
     }
 
-    /// Makes the transfers of a queue of a device, or of all its queues (OpenACC 3.3, the wait directive), and answers
+    /// Makes the transfers of a queue of a device, or of all its queues (OpenACC 3.3, the wait directive), and returns
     /// how many they were.
     ///
     /// # Errors
@@ -133,7 +133,7 @@ impl<Regions: Ledger, Tickets: Ledger, Events: Ledger> Locked<Regions, Tickets, 
         drained(self.act(caller, calls::wait(device, queue)))
     }
 
-    /// Makes the next transfer of a queue of a device (OpenACC 3.3, section 2.16), and answers whether there was one.
+    /// Makes the next transfer of a queue of a device (OpenACC 3.3, section 2.16), and returns whether there was one.
     /// The step of an empty queue is no event.
     ///
     /// # Errors

@@ -1,4 +1,4 @@
-//! What a call came to, as its caller is answered. A call that came back refused is let go here: that of a runtime when
+//! The outcome of a call, as its caller gets it. A call that came back refused is dropped here: that of a runtime when
 //! its lock is free.
 
 ghost use Rattle.std.specs.Prelude.{◌≡◌, ◌⊎◌, if◌then◌else◌, Ok, Err, IfOk, IfErr, MatchResult};
@@ -52,7 +52,7 @@ pub(crate) fn exited(outcome: Outcome, region: Region) -> Result<(), (Region, Fa
     }
 }
 
-/// A call that answers no more than that it is done.
+/// The outcome of a call that returns no value.
 pub(crate) fn done(outcome: Outcome) -> Result<(), Fault>
     requires { IfOk outcome (λ reply. reply ≡ Done) }
     ensures { MatchResult result (λ _. outcome ≡ Ok Done) (IsBack outcome) }

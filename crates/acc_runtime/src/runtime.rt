@@ -135,8 +135,8 @@ impl<Regions: Ledger, Tickets: Ledger, Events: Ledger> Runtime<Regions, Tickets,
         done(self.act(rt, caller, calls::enter_data(device, items, queue)))
     }
 
-    /// Carries out an `exit data` directive on a device, with a `finalize` clause or without, and with an `async`
-    /// clause where a queue is named (OpenACC 3.3, section 2.6.6).
+    /// Carries out an `exit data` directive on a device (OpenACC 3.3, section 2.6.6), with a `finalize` clause or
+    /// without. Where a queue is named, it has an `async` clause.
     ///
     /// # Errors
     ///
@@ -157,8 +157,8 @@ impl<Regions: Ledger, Tickets: Ledger, Events: Ledger> Runtime<Regions, Tickets,
         done(self.act(rt, caller, calls::exit_data(device, items, finalize, queue)))
     }
 
-    /// Carries out an `update` directive on a device, with an `if_present` clause or without, and with an `async`
-    /// clause where a queue is named (OpenACC 3.3, the update directive).
+    /// Carries out an `update` directive on a device (OpenACC 3.3, the update directive), with an `if_present` clause
+    /// or without. Where a queue is named, it has an `async` clause.
     ///
     /// # Errors
     ///
@@ -179,8 +179,8 @@ impl<Regions: Ledger, Tickets: Ledger, Events: Ledger> Runtime<Regions, Tickets,
         done(self.act(rt, caller, calls::update(device, items, if_present, queue)))
     }
 
-    /// Makes the transfers that wait in a queue of a device, or in all its queues, and answers how many they were
-    /// (OpenACC 3.3, the wait directive).
+    /// Makes the transfers that wait in a queue of a device, or in all its queues (OpenACC 3.3, the wait directive). It
+    /// returns how many they were.
     ///
     /// # Errors
     ///
@@ -199,8 +199,8 @@ impl<Regions: Ledger, Tickets: Ledger, Events: Ledger> Runtime<Regions, Tickets,
         drained(self.act(rt, caller, calls::wait(device, queue)))
     }
 
-    /// Makes the next transfer of a queue of a device, and answers whether there was one (OpenACC 3.3, section 2.16,
-    /// asynchronous behavior). The step of an empty queue is no event.
+    /// Makes the next transfer of a queue of a device (OpenACC 3.3, section 2.16), and returns whether there was one.
+    /// The step of an empty queue is no event.
     ///
     /// # Errors
     ///
@@ -238,8 +238,8 @@ impl<Regions: Ledger, Tickets: Ledger, Events: Ledger> Runtime<Regions, Tickets,
         done(self.act(rt, caller, calls::host_write(addr, bytes)))
     }
 
-    /// Lends the block of a section that is mapped on the device of an open data region, and answers its lease (OpenACC
-    /// 3.3, section 2.5, compute constructs).
+    /// Lends the block of a section that is mapped on the device of an open data region (OpenACC 3.3, section 2.5,
+    /// compute constructs). It returns the lease.
     ///
     /// # Errors
     ///
@@ -297,7 +297,8 @@ impl<Regions: Ledger, Tickets: Ledger, Events: Ledger> Runtime<Regions, Tickets,
         let copy = Vec::with_capacity(rt.alloc(), section.len as usize)?;
         match self.copied(rt, section, copy) {
             Some(bytes) => Ok(bytes),
-            // Its host memory is as large as the limits say. That is so since the runtime was made, and no type tells it.
+            // Its host memory is as large as the limits say: so it was made. No type says so, and this way is never
+            // taken.
             None => Err(Fault::Memory),
         }
     }
@@ -315,9 +316,9 @@ impl<Regions: Ledger, Tickets: Ledger, Events: Ledger> Runtime<Regions, Tickets,
         locked.host_read(section, copy)
     }
 
-    /// Makes what the table has its base, and answers how many events were stored, as [`Table::rebase`] does. It is no
-    /// event and takes no caller. A program that runs for long calls it now and then, so that the trace never gets full.
-    /// The old base and the events are freed when the lock is free again.
+    /// Makes what the table has its base, and returns how many events were stored, as [`Table::rebase`] does. It is no
+    /// event and takes no caller. A program that runs for long calls it now and then, so that the trace never gets
+    /// full. The old base and the events are freed when the lock is free again.
     ///
     /// # Errors
     ///
@@ -329,7 +330,7 @@ impl<Regions: Ledger, Tickets: Ledger, Events: Ledger> Runtime<Regions, Tickets,
         Ok(self.fold(rt)?.count())
     }
 
-    /// Makes what the table has its base, with the lock held for no longer, and answers what the table no longer needs.
+    /// Makes what the table has its base, with the lock held for no longer, and returns what the table no longer needs.
     fn fold<R: Wait>(&self, rt: &R) -> Result<Folded, Fault>
         ensures folded { IfOk result (λ folded. WasRebased (length folded.trace)) }
         ensures err { IfErr result (λ fault. fault ≡ Memory) }
@@ -341,10 +342,10 @@ impl<Regions: Ledger, Tickets: Ledger, Events: Ledger> Runtime<Regions, Tickets,
         outcome
     }
 
-    /// Calls `look` once on the table, and answers what it answers. The table is as it was when the lock was taken. All
-    /// laws of [`Locked`] hold of it, and all that [`Locked::settled`] tells of this caller: with the whole allowance no
-    /// region is open there, and every structured counter of each device is zero. Until `look` returns, no other thread
-    /// gets on, and a call that it makes itself on the same runtime waits for ever.
+    /// Calls `look` once on the table, and returns what it returns. The table is as it was when the lock was taken. All
+    /// laws of [`Locked`] hold of it, and all that [`Locked::settled`] says of this caller. So with the whole allowance
+    /// no region is open there, and every structured counter of each device is zero. Until `look` returns, no other
+    /// thread gets on, and a call that it makes itself on the same runtime waits for ever.
     pub fn look<R: Wait, T, F: FnOnce(&Table) -> T>(
         &self,
         rt: &R,
@@ -359,8 +360,8 @@ impl<Regions: Ledger, Tickets: Ledger, Events: Ledger> Runtime<Regions, Tickets,
     }
 }
 
-/// The blanks of the ledgers of a runtime: a part for each region that may be open, one for each ticket, and one for each
-/// event that a ticket allows.
+/// The blanks of the ledgers of a runtime. They have a part for each region that may be open, one for each ticket, and
+/// one for each event.
 pub fn blanks(config: &Config) -> Blanks
     ensures regions { result.regions.parts ≡ config.now.regions }
     ensures tickets { result.tickets.parts ≡ config.now.tickets }

@@ -1,4 +1,4 @@
-//! A worker that makes the transfers of the queues that it is told of.
+//! A worker that makes the transfers of the queues whose words it receives.
 
 ghost use Rattle.std.specs.Prelude.{◌≡◌, ◌≤◌, ◌+◌, ◌⊎◌, true, false, if◌then◌else◌, IfOk, IfErr, OnErr};
 ghost use Rattle.acc_base.specs.declared.faults.Fault.{Fault as Refusal};
@@ -22,7 +22,7 @@ pub struct Served {
     pub refusals: u64,
 }
 
-/// Makes the next transfer of the queue that a word means, and answers whether there was one.
+/// Makes the next transfer of the queue that a word means, and returns whether there was one.
 fn step_of<Regions: Ledger, Tickets: Ledger, Events: Ledger, R: Wait>(
     rt: &R,
     runtime: &Runtime<Regions, Tickets, Events>,
@@ -37,7 +37,7 @@ fn step_of<Regions: Ledger, Tickets: Ledger, Events: Ledger, R: Wait>(
 }
 
 /// Steps until the queue is empty, a step is refused, or as many are made as a queue may have. So a queue that is
-/// filled meanwhile keeps no word waiting. Answers whether a step was refused.
+/// filled meanwhile keeps no word waiting. It returns whether a step was refused.
 fn drain<Regions: Ledger, Tickets: Ledger, Events: Ledger, R: Wait>(
     rt: &R,
     runtime: &Runtime<Regions, Tickets, Events>,
@@ -66,8 +66,8 @@ fn drain<Regions: Ledger, Tickets: Ledger, Events: Ledger, R: Wait>(
 /// a step is refused, or as many are made as a queue may have. For the n-th word, counted from 0, the gate's
 /// `before(n)` and `after(n)` are called around that. The lock is free between two steps, and while the gate is called.
 ///
-/// A word of a device that is not there is a refusal, as every step is that the table or the caller's shares refuse. The
-/// words behind it are served too. The numbers for the gate end at `usize::MAX`, which all later words get.
+/// A word of a device that is not there is a refusal, as every step is that the table or the caller's shares refuse.
+/// The words behind it are served too. The numbers for the gate end at `usize::MAX`, which all later words get.
 pub fn serve<Regions: Ledger, Tickets: Ledger, Events: Ledger, R: Wait, G: Gate<R>>(
     rt: &R,
     runtime: &Runtime<Regions, Tickets, Events>,

@@ -56,7 +56,7 @@ impl Loan {
     }
 }
 
-/// A call of an actor's. It answers a number: 1 or 0 for yes and no, and else 0 where it has none to answer.
+/// A call of an actor's. It returns a number: 1 or 0 for yes and no, and else 0 where it has none to return.
 #[derive(Clone, Copy)]
 pub enum Deed {
     /// What follows is for the device of this number.
@@ -67,7 +67,7 @@ pub enum Deed {
     Exit,
     /// The array is mapped.
     EnterData,
-    /// The array is let go.
+    /// The array is dropped.
     ExitData(ExitClause, bool, Option<u64>),
     /// The array is copied.
     Update(UpdateClause, bool, Option<u64>),
@@ -337,13 +337,13 @@ impl<Regions: Ledger, Tickets: Ledger, Events: Ledger, R: Abort + Wait + AllocGl
     Events,
     R,
 > {
-    /// Makes a call, which answers what is wanted.
+    /// Makes a call, which returns what is expected.
     pub fn make_as(&mut self, deed: Deed, wanted: Result<u64, Fault>) {
         let answer = self.make(deed);
         same(self.rt, answer, wanted);
     }
 
-    /// Makes calls, each of which answers what is wanted.
+    /// Makes calls, each of which returns what is expected.
     pub fn make_all(&mut self, rows: &[(Deed, Result<u64, Fault>)]) {
         for &(deed, wanted) in rows {
             self.make_as(deed, wanted);

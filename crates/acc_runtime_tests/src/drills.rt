@@ -1,4 +1,4 @@
-//! Drills: what they answer and leave, what their threads do, and that these work at the same time.
+//! Drills: what they return and leave, what their threads do, and that these work at the same time.
 
 use crate::actors::{Actor, Deed};
 use crate::lives::{MAPPED, reads};
@@ -17,7 +17,7 @@ use std::test::Fail;
 use std::thread::Threads;
 
 /// A drill, and what it leaves. The numbers are regions, tickets, threads, and rounds of each, and then what goes on
-/// around them. Behind it stand the numbers that the drill answers, in the order of [`Drilled`], and what the caller
+/// around them. Behind it stand the numbers that the drill returns, in the order of [`Drilled`], and what the caller
 /// has left of regions and made.
 pub type Drilling = (
     (u64, u64),
@@ -30,14 +30,14 @@ pub type Drilling = (
 /// What goes on around the work of a drill's threads.
 #[derive(Clone, Copy)]
 pub enum Around {
-    /// Nothing.
+    /// The drill is alone on its runtime.
     Nothing,
     /// The array is mapped before, and the caller is in a region over it.
     Region,
     /// All threads wait for the one of the number.
     Meeting(usize),
-    /// So they do, and the array is lent in a region of the caller's, so the first thread cannot exit. The counters are at
-    /// their limit then, so the other cannot enter.
+    /// So they do, and the array is lent in a region of the caller's, so the first thread cannot exit. The counters are
+    /// at their limit then, so the other cannot enter.
     Loan(usize),
     /// Nothing, and the trace of one thread that makes one round is read behind it.
     Trace,
@@ -127,7 +127,7 @@ const MEETINGS: [Drilling; 6] = [
     ),
 ];
 
-/// Two threads meet different faults. The drill tells that of the first by number, whichever came first. The caller's
+/// Two threads meet different faults. The drill returns that of the first by number, whichever came first. The caller's
 /// region is open, and that of the thread which could not exit.
 const FAULTS: [Drilling; 2] = [
     (
@@ -153,7 +153,7 @@ const TRACE: [&str; 3] = [
     "Left { device: 0, number: 1, did: List { items: [Did { step: Dropped { block: 1, ended: false }, aim: None }] } }",
 ];
 
-/// Whether the trace of a table is the one wanted.
+/// Whether the trace of a table is the expected one.
 fn is_traced(alloc: Global, table: &Table) -> Result<bool, AllocError> {
     let trace = table.trace();
     if trace.len() != TRACE.len() {
@@ -167,7 +167,7 @@ fn is_traced(alloc: Global, table: &Table) -> Result<bool, AllocError> {
     Ok(true)
 }
 
-/// The numbers that a drill answers.
+/// The numbers that a drill returns.
 fn numbers(left: Result<Drilled, Fault>) -> Result<[u64; 4], Fault> {
     let Drilled {
         allowance,
@@ -219,7 +219,7 @@ impl<
         self.drill_held(work, first)
     }
 
-    /// The trace is the one wanted.
+    /// The trace is the expected one.
     fn check_trace(&mut self) -> Result<(), Fault> {
         let alloc = self.rt.alloc();
         let traced = self.runtime.look(
@@ -240,8 +240,8 @@ impl<
         }
     }
 
-    /// A drill that memory was refused for ended there. What is not in its caller's allowance is open, and the caller made
-    /// all events.
+    /// A drill that memory was refused for ended there. What is not in its caller's allowance is open, and the caller
+    /// made all events.
     fn end_by_refusal(&mut self, whole: u64) -> Fault {
         let (regions, events, _) = self.state();
         let (allowance, _, made) = self.shares();
@@ -255,7 +255,7 @@ impl<
         Fault::Memory
     }
 
-    /// Makes a drill with what goes on around it, and compares what it answers and leaves.
+    /// Makes a drill with what goes on around it, and compares what it returns and leaves.
     pub fn run_drill(&mut self, drilling: Drilling) -> Result<(), Fault> {
         let (_, work, around, wanted, kept) = drilling;
         let found = numbers(self.drill_as(work, around));

@@ -14,8 +14,8 @@ use std::sync::ledger::Ledger;
 use std::test::Fail;
 use std::thread::Threads;
 
-/// A call, what it answers, and what the trace ends with then where that is a new event. In a counted trace the lists of
-/// bytes are empty.
+/// A call, what it returns, and what the trace ends with then where that is a new event. In a counted trace the lists
+/// of bytes are empty.
 pub type Row = (Deed, Result<u64, Fault>, &'static str);
 
 /// The event of the first mapping of the array.

@@ -20,7 +20,7 @@ use std::thread::Threads;
 pub enum Scene {
     /// A life of an array.
     Life(lives::Mode),
-    /// A worker that is told which queues to serve.
+    /// A worker that receives which queues to serve.
     Bells { retries: bool },
     /// A drill, and what it leaves.
     Drill(drills::Drilling),

@@ -1,4 +1,4 @@
-//! A worker that is told which queues to serve.
+//! A worker that receives which queues to serve.
 
 use crate::actors::{Actor, Deed};
 use crate::gates::Watch;
@@ -13,7 +13,7 @@ use std::sync::Wait;
 use std::sync::ledger::Ledger;
 use std::test::Fail;
 
-/// What a worker is told and does.
+/// What a worker receives and does.
 #[derive(Clone, Copy)]
 pub struct Service {
     /// What is done before.
@@ -35,7 +35,8 @@ const COPY: Deed = Deed::Update(UpdateClause::ToSelf, false, Some(3));
 const QUEUED: &str =
     "Updated { device: 0, items: List { items: [Item { clause: ToSelf, section: Section { start: 4096, len: 16 }, pointer: None }] }, if_present: false, queue: Some(3), did: List { items: [Did { step: Moved { block: 1 }, aim: None }] } }";
 
-/// Two copies wait in a queue. One word makes both, though words before and behind it are of devices that are not there.
+/// Two copies wait in a queue. One word makes both, though words before and behind it are of devices that are not
+/// there.
 const ONE_DEVICE: [Service; 2] = [
     Service {
         before: &[

@@ -17,7 +17,7 @@ const REFUSED: [(u64, u64, Fault); 2] = [
     (65, 1, Fault::NoAllowance { left: 64 }),
 ];
 
-/// What is split off, and what an entry comes to by those shares.
+/// What is split off, and the outcome of an entry by those shares.
 const SHARES: [(u64, u64, Result<u64, Fault>); 3] = [
     (0, 0, Err(Fault::NoTickets { left: 0 })),
     (0, 1, Err(Fault::NoAllowance { left: 0 })),

@@ -1,4 +1,4 @@
--- What the queries answer, by sets of addresses and within the machine's numbers.
+-- What the queries return, by sets of addresses and within the machine's numbers.
 use Rattle.std.proofs.Common.{ℕ, ◌≡◌, ◌<◌, ◌≤◌, ◌^◌, ◌+◌, refl, ◌∙◌, ap, subst, Bool, true, false, cond, List, [], ◌∷◌, length, Option, Some, None, arith}
 use Rattle.std.specs.Prelude.{◌↔◌, ◌==◌, nat_le, IsTrue, IsSome, unwrap_or, option_map, take, drop}
 use Rattle.std.specs.List.{AllByRecursion}

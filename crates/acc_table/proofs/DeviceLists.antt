@@ -1,4 +1,4 @@
--- The devices of a table as one list: which stands where, after a change of the one in use, and after another is put in use.
+-- The devices of a table as one list: which stands where after the one in use changes, and after another is put in use.
 use Rattle.std.proofs.Common.{ℕ, zero, suc, ◌≡◌, ◌<◌, refl, ap, List, [], ◌∷◌, length, Option, Some, None, arith}
 use Rattle.std.specs.Prelude.{map, slice_index_or, slice_set, IsSome}
 use Rattle.std.specs.List.{AllByRecursion}

@@ -1,4 +1,4 @@
--- What is told of a device that has nothing, as of one that is not there.
+-- What queries find on a device that has nothing, as on one that is not there.
 use Rattle.std.proofs.Common.{ℕ, zero, suc, ◌≡◌, ◌≤◌, ◌∙◌, ap, refl, sym, subst, true, false, cond, List, [], None, length, replicate}
 use Rattle.std.specs.Prelude.{slice_index_or}
 use Rattle.acc_clauses.specs.Words.{Section, Transfer}

@@ -1,4 +1,4 @@
--- What a call is answered has the form that its kind says.
+-- The reply to a call has the form that its kind says.
 use Rattle.std.proofs.Common.{ℕ, ◌≡◌, refl, sym, ◌∙◌, subst, List, length, Option, Some, None, Result, Ok, Err, inl, inr}
 use Rattle.std.specs.Prelude.{⊤, not, MatchResult}
 use Rattle.acc_clauses.specs.Words.{Section, Directive, Call, Event, Did, Task, Transfer, Found, Fault}
@@ -29,7 +29,7 @@ use Rattle.acc_table.proofs.Verdicts.{planned_on, planned_judged, judge_directiv
 
 -- ---- directives
 
--- a directive that is not refused comes to the verdict on what its tasks did
+-- the verdict on a directive that is not refused is that on what its tasks did
 verdict_made : (l : Limits) (n : ℕ) (d : Directive) (s : State) (v : Verdict) → directive_verdict l n d s ≡ Ok v → (dids : List Did) × (verdict_of n d s dids ≡ v)
 unfolding directive_verdict
 verdict_made l n d s v h =
@@ -118,7 +118,7 @@ verdict_fits w (HostWrite addr bytes) v reply next h done = write_replied w addr
 verdict_fits w (Lend region section) v reply next h done = lend_replied w region section v reply next h done
 verdict_fits w (Gather lease) v reply next h done = gather_replied w lease v reply next h done
 
--- a call that is done is answered as its kind says
+-- the reply to a call that is done is as its kind says
 pub done_replied : (w : World) (call : Call Leased) (reply : Reply) (next : World) → IsDone w call reply next → IsReplyTo call reply
 done_replied w call reply next h = go (judge w call) refl h
   where

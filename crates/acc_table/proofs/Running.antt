@@ -118,7 +118,7 @@ position-None p leases place = find_at p leases ∙ past (nat_lt (position_or_le
 pub none_back : (w : World) (serial : ℕ) (bytes : List ℕ) (leases : List Leased) (fault : Fault) → position (is_meant serial (length bytes)) leases ≡ None → refuse_back w (NoLease serial) ≡ Err fault → IsRefusalOf w (asked_by (Back serial bytes) leases) fault
 none_back w serial bytes leases fault place told = subst (λ r. IsRefusalOf w r fault) (sym (ap (brought_back serial bytes) (position-None (is_meant serial (length bytes)) leases place))) told
 
--- what is told of the lease as it is, is told of it with other bytes
+-- what holds of the lease as it is, holds of it with other bytes
 pub serial_told : {serial : ℕ} {bytes : List ℕ} {leases : List Leased} {at : ℕ} {lease : Leased} {fault : Fault} (w : World) → IsBackAt serial bytes leases at lease → IsLoan lease → judge w (Gather lease) ≡ Err fault → IsRefusalOf w (asked_by (Back serial bytes) leases) fault
 serial_told {bytes = bytes} {lease = lease} {fault = fault} w back loan h = subst (λ r. IsRefusalOf w r fault) (sym back.asked) (judged_refused w (Gather (with_section lease bytes)) fault (refused_rewritten w lease bytes fault loan back.len h))
 

@@ -193,7 +193,7 @@ none_read (r ∷ rs) h block = go (none_read rs h.1 block) (r.block == block)
     go rest true = h.0
     go rest false = rest
 
--- and so is that which is told of a section
+-- and so is what a query says of a section
 pub none_told : (section : Section) (w : Records) (c : Counters) → AllByRecursion (λ (r : Range). r.structured ≡ 0) w.ranges → Some c ≡ counters_of_section section w → c.structured ≡ 0
 none_told section w c none h = go (where_is section w.ranges) (sym h)
   where

@@ -1,4 +1,4 @@
--- What a call is refused for beside want of tickets, of regions and of memory: no other rule tells these.
+-- No rule but the table's own refuses for lack of tickets, of regions or of memory.
 use Rattle.std.proofs.Common.{◌≡◌, ◌<◌, ◌≤◌, ◌⊎◌, inl, inr, ℕ, suc, Bool, true, false, cond, List, [], ◌∷◌, Option, Some, None, Result, Ok, Err, refl, subst, arith, rules}
 use Rattle.std.proofs.lemmas.Bool.Decides.{nat_tests}
 use Rattle.std.specs.Prelude.{⊤, ok_or, nat_le, ◌==◌, MatchResult}
@@ -48,7 +48,7 @@ use Rattle.acc_base.specs.Calls.{World, event_count, ticket, trace_room, device_
 use Rattle.acc_table.specs.Calls.{MayWantMemory, IsRefusal}
 use Rattle.acc_table.specs.Counts.{is_entry, is_shortage}
 
--- no want of tickets, of regions or of memory
+-- it is no lack of tickets, of regions or of memory
 abbrev IsOther : Fault → Type 0
 IsOther Memory = ⊥
 IsOther (NoTickets left) = ⊥
@@ -60,18 +60,18 @@ abbrev Tells : {A : Type 0} → Result A Fault → Type 0
 Tells (Ok x) = ⊤
 Tells (Err fault) = IsOther fault
 
--- a step and what follows it tell others alone
+-- a step and what follows it refuse for no such lack
 bind_tells : {A B : Type 0} (r : Result A Fault) (f : A → Result B Fault) → Tells r → ((x : A) → Tells (f x))
     → Tells (r >>= f)
 bind_tells (Ok x) f h k = k x
 bind_tells (Err fault) f h k = h
 
--- a check and what follows it tell others alone
+-- a check and what follows it refuse for no such lack
 then_tells : {B : Type 0} (r : Result ⊤ Fault) (s : Result B Fault) → Tells r → Tells s → Tells (r >> s)
 then_tells (Ok x) s h k = k
 then_tells (Err fault) s h k = h
 
--- a choice tells others alone where both sides do
+-- a choice refuses for no such lack where both sides do
 either_tells : {A : Type 0} (b : Bool) (r s : Result A Fault) → Tells r → Tells s → Tells (cond b r s)
 either_tells true r s h k = h
 either_tells false r s h k = k
@@ -81,44 +81,44 @@ ruleset telling = (then_tells, bind_tells, either_tells)
 
 -- ---- one item
 
--- a birth tells others alone, whether there is a place for it or not
+-- a birth refuses for no such lack, whether there is a place for it or not
 born_tells : (n : ℕ) (section : Section) (w : Records) (place : Option ℕ) → Tells (born_at place n section w)
 born_tells n section w None = tt
 born_tells n section w (Some place) = tt
 
--- the row of an absent section tells others alone
+-- the row of an absent section refuses for no such lack
 absent_tells : (clause : RegionClause) (l : Limits) (n : ℕ) (section : Section) (w : Records)
     → Tells (enter_absent clause l n section w)
 absent_tells clause l n section w = grind (arith, nat_tests, born_tells n section w (place_for (device_memory l) w.blocks (rounded section.len)))
 
--- an entry tells others alone, wherever its section lies
+-- an entry refuses for no such lack, wherever its section lies
 enter_tells : (found : Found) (l : Limits) (counter : Counter) (clause : RegionClause) (n : ℕ) (section : Section)
     (w : Records) → Tells (enter_row found l counter clause n section w)
 enter_tells (Inside block offset) l counter clause n section w = search (rules, telling)
 enter_tells Absent l counter clause n section w = absent_tells clause l n section w
 enter_tells _ l counter clause n section w = tt
 
--- an exit from a region tells others alone
+-- an exit from a region refuses for no such lack
 leave_tells : (block : Option ℕ) (change : Range → Range) (w : Records) → Tells (leave_row block change w)
 leave_tells None change w = tt
 leave_tells (Some block) change w = tt
 
--- an item of `exit data` tells others alone, wherever its section lies
+-- an item of `exit data` refuses for no such lack, wherever its section lies
 exit_tells : (found : Found) (change : Range → Range) (n : ℕ) (w : Records) → Tells (exit_row found change n w)
 exit_tells (Inside block offset) change n w = either_tells (dynamic_of block w.ranges == 0) (Ok steps.Nothing) (Ok (steps.Dropped block (ends_by change block w.ranges))) tt tt
 exit_tells _ change n w = tt
 
--- an item of `update` tells others alone, wherever its section lies
+-- an item of `update` refuses for no such lack, wherever its section lies
 move_tells : (found : Found) (if_present : Bool) (n : ℕ) → Tells (move_row found if_present n)
 move_tells Absent if_present n = either_tells if_present (Ok steps.Nothing) (Err (NotPresent n)) tt tt
 move_tells _ if_present n = tt
 
--- the check of a pointer tells others alone
+-- the check of a pointer refuses for no such lack
 pointer_tells : (l : Limits) (n : ℕ) (named : Option ℕ) → Tells (pointer_checked l n named)
 pointer_tells l n None = tt
 pointer_tells l n (Some pointer) = search (rules, telling)
 
--- what the clause tables say of an item tells others alone
+-- what the clause tables say of an item refuses for no such lack
 row_tells : (l : Limits) (n : ℕ) (task : Task) (w : Records) → Tells (judge_row l n task w)
 unfolding judge_row
 row_tells l n (tasks.Enter counter item queue) w = search (rules, telling, pointer_tells, enter_tells)
@@ -142,12 +142,12 @@ all_lent_tells : (transfers : List Transfer) (loans : List Loan) → Tells (none
 all_lent_tells [] loans = tt
 all_lent_tells (t ∷ ts) loans = then_tells (not_lent (Some t.block) loans) (none_lent ts loans) (lent_tells (Some t.block) loans) (all_lent_tells ts loans)
 
--- the step of an item tells others alone
+-- the step of an item refuses for no such lack
 step_tells : (l : Limits) (n : ℕ) (task : Task) (w : Records) → Tells (judge_step l n task w)
 unfolding judge_step
 step_tells l n task w = search (rules, telling, row_tells, lent_tells, transfer_tells)
 
--- an attachment tells others alone
+-- an attachment refuses for no such lack
 attach_tells : (l : Limits) (n pointer : ℕ) (s : State) → Tells (judge_attach l n pointer s)
 unfolding judge_attach
 attach_tells l n pointer s = go (block_with pointer s.records.ranges) (target_of pointer s)
@@ -157,7 +157,7 @@ attach_tells l n pointer s = go (block_with pointer s.records.ranges) (target_of
     go (Some block) None = tt
     go (Some block) (Some target) = search (rules, telling, lent_tells)
 
--- what becomes of an item's pointer tells others alone
+-- what becomes of an item's pointer refuses for no such lack
 aim_tells : (l : Limits) (n : ℕ) (task : Task) (step : Step) (s : State) → Tells (judge_aim l n task step s)
 unfolding judge_aim
 aim_tells l n (tasks.Enter counter item queue) step s = go (pointer_aimed (tasks.Enter counter item queue) step)
@@ -167,14 +167,14 @@ aim_tells l n (tasks.Enter counter item queue) step s = go (pointer_aimed (tasks
     go (Some pointer) = attach_tells l n pointer (step_state (tasks.Enter counter item queue) step s)
 aim_tells l n _ step s = tt
 
--- what one item asks tells others alone
+-- what one item asks refuses for no such lack
 task_tells : (l : Limits) (n : ℕ) (task : Task) (s : State) → Tells (judge_task l n task s)
 unfolding judge_task
 task_tells l n task s = search (rules, telling, step_tells, aim_tells)
 
 -- ---- all items
 
--- what all items ask tells others alone
+-- what all items ask refuses for no such lack
 all_tells : (l : Limits) (n : ℕ) (asked : List Task) (s : State) → Tells (judge_all l n asked s)
 unfolding judge_all
 all_tells l n [] s = tt
@@ -182,27 +182,27 @@ all_tells l n (task ∷ others) s = search (rules, telling, task_tells, all_tell
 
 -- ---- a call
 
--- a look for a region tells others alone
+-- a look for a region refuses for no such lack
 region_tells : (number : ℕ) (held : Option (List Holding)) → Tells (ok_or held (NoRegion number) >>= λ holdings. Ok (leave_tasks holdings))
 region_tells number None = tt
 region_tells number (Some holdings) = tt
 
--- what a directive asks tells others alone
+-- what a directive asks refuses for no such lack
 asked_tells : (directive : Directive) (g : Register) → Tells (tasks_of directive g)
 asked_tells (directives.Exit number) g = region_tells number (holdings_at number g.regions)
 asked_tells _ g = tt
 
--- a look for a queue tells others alone
+-- a look for a queue refuses for no such lack
 named_tells : (queue : Option ℕ) → Tells (queue_named queue)
 named_tells None = tt
 named_tells (Some q) = either_tells (nat_le QUEUE_COUNT q) (Err (NoQueue q)) (Ok tt) tt tt
 
--- a directive tells others alone
+-- a directive refuses for no such lack
 directive_tells : (l : Limits) (d : ℕ) (directive : Directive) (s : State) → Tells (directive_verdict l d directive s)
 unfolding directive_verdict
 directive_tells l d directive s = search (rules, telling, asked_tells, named_tells, all_tells, all_lent_tells)
 
--- a loan of a section tells others alone, wherever it lies
+-- a loan of a section refuses for no such lack, wherever it lies
 there_tells : (found : Found) (d region : ℕ) (section : Section) (s : State) → Tells (lend_there found d region section s)
 there_tells (Inside block offset) d region section s = then_tells (not_lent (Some block) s.records.loans) (Ok (LentOut d region section block s.register.serial)) (lent_tells (Some block) s.records.loans) tt
 there_tells _ d region section s = tt
@@ -220,7 +220,7 @@ rest_of w (HostWrite addr bytes) = trace_room w >> (host_write_event w.limits ad
 rest_of w (Lend region section) = trace_room w >> (loan_on w (device_of_region region w.state) region section >>= λ e. Ok (Makes e))
 rest_of w (Gather lease) = trace_room w >> (gather_event (limits_on lease.device w.limits) lease (view lease.device w.state) >>= λ e. Ok (Makes e))
 
--- it tells others alone
+-- it refuses for no such lack
 rest_tells : (w : World) (call : Call Leased) → Tells (rest_of w call)
 unfolding host_write_event lend_event gather_event
 rest_tells w (Do directive) = search (rules, telling, device_tells, directive_tells)
@@ -245,13 +245,13 @@ other_told w call (Err (NoTickets left)) h = absurd h
 other_told w call (Err (NoAllowance left)) h = absurd h
 other_told w call (Err _) h = tt
 
--- a test whose refusal is told, and what follows it
+-- a test whose refusal may be returned, and what follows it
 tested : (w : World) (call : Call Leased) (b : Bool) (fault : Fault) (r : Result Verdict Fault)
     → (b ≡ true → MayTell w call (Err fault)) → MayTell w call r → MayTell w call (refuse_if b fault >> r)
 tested w call true fault r h k = h refl
 tested w call false fault r h k = k
 
--- so what the tickets leave is told
+-- so may what follows the test for a ticket
 ticket_told : (w : World) (call : Call Leased) (r : Result Verdict Fault) → MayTell w call r → MayTell w call (ticket w >> r)
 ticket_told w call r h =
     tested w call (nat_le w.limits.tickets (event_count w.history)) (NoTickets 0) r (λ full. inl (grind (arith, nat_tests))) h
@@ -265,7 +265,7 @@ told w (Do (directives.Enter device items)) =
 told w (Do directive) = ticket_told w (Do directive) _ (other_told w (Do directive) (rest_of w (Do directive)) (rest_tells w (Do directive)))
 told w call = ticket_told w call _ (other_told w call (rest_of w call) (rest_tells w call))
 
--- where a call is refused for want of a ticket or a region, there are none left
+-- where a call is refused for lack of a ticket or a region, there are none left
 pub refused_short : (w : World) (call : Call Leased) (fault : Fault) → IsRefusal w call fault → is_shortage fault ≡ true → HasNoneLeft w call
 refused_short w call fault refusal short = by (judge w call) (told w call) refusal
   where
@@ -296,7 +296,7 @@ refused_other w call fault ticket region refusal = go (is_shortage fault) refl
     go false is = refl
     go true is = absurd (some (refused_short w call fault refusal is))
 
--- a call for which a table wants memory is one that makes an event
+-- a call for which a table needs memory is one that makes an event
 pub memory_made : (w : World) (call : Call Leased) → IsRefusal w call Memory → (e : Event) × (judge w call ≡ Ok (Makes e))
 memory_made w call refusal = by (judge w call) refl (told w call) refusal
   where

@@ -41,7 +41,7 @@ use Rattle.acc_table.specs.Making.{is_idle, number_told, event_told, reply_told,
 
 -- ---- the event
 
--- where there is something to do, a directive comes to the event that tells the number
+-- where there is something to do, the verdict on a directive is the event with the number
 pub told : (n : ℕ) (d : Directive) (s : State) (dids : List Did) → is_idle d s ≡ false → verdict_of n d s dids ≡ Makes (event_told n d (number_told d s) (in_written_order d dids))
 told n (Step device queue) s dids e = go (head_of queue s.records.queues) e
   where
@@ -50,7 +50,7 @@ told n (Step device queue) s dids e = go (head_of queue s.records.queues) e
     go (Some t) x = refl
 told n _ s dids e = refl
 
--- its reply is the one that tells the number
+-- its reply is the one with the number
 pub replied : (k : ℕ) (d : Directive) (n : ℕ) (did : List Did) (s : State) → reply_told d n ≡ reply_of (event_told k d n did) s
 replied k (Enter device items) n did s = refl
 replied k _ n did s = refl
@@ -125,7 +125,7 @@ own_named w (Update device items if_present queue) = rw (equal_self device) refl
 own_named w (Wait device queue) = rw (equal_self device) refl
 own_named w (Step device queue) = rw (equal_self device) refl
 
--- the verdict on a directive, from what is told before its items are judged and from the plan of the items
+-- the verdict on a directive, from what is refused before its items are judged and from the plan of the items
 pub judge_directive : (w : World) (d : Directive) → judge w (Do d) ≡ (admitted w d >> planned_on w d)
 unfolding judge admitted plan_of
 judge_directive w d = rw (own_named w d) (go (ticket w) (allowance w d) (few_items d) (trace_room w) (device_there w (device_for d w.state)))
@@ -144,11 +144,11 @@ planned_judged w d v h =
     let few = then_ok (few_items d) (own_device n (device_named d) >> verdict_on w n d) v h in
     (then_ok (own_device n (device_named d)) (verdict_on w n d) v few.1).1
 
--- what a plan answers is the verdict, where nothing was told before
+-- the result of a plan is the verdict, where nothing was refused before
 pub judged_plan : (w : World) (d : Directive) (v : Verdict) → admitted w d ≡ Ok tt → planned_on w d ≡ Ok v → judge w (Do d) ≡ Ok v
 judged_plan w d v ok h = judge_directive w d ∙ rw (ok, h) refl
 
--- so is what is told of a plan
+-- so is the refusal of a plan
 pub refused_plan : (w : World) (d : Directive) (fault : Fault) → admitted w d ≡ Ok tt → MayBeToldOf (planned_on w d) fault → IsRefusal w (Do d) fault
 refused_plan w d fault ok told = go (planned_on w d) refl told
   where
@@ -156,7 +156,7 @@ refused_plan w d fault ok told = go (planned_on w d) refl told
     go (Ok v) is h = let says : judge w (Do d) ≡ Ok v = judged_plan w d v ok is in rw says h
     go (Err refusal) is h = let says : judge w (Do d) ≡ Err refusal = judge_directive w d ∙ rw (ok, is) refl in rw says h
 
--- and what is told before
+-- and what is refused before
 pub refused_before : (w : World) (d : Directive) (fault : Fault) → admitted w d ≡ Err fault → IsRefusal w (Do d) fault
 refused_before w d fault e = let v : judge w (Do d) ≡ Err fault = judge_directive w d ∙ rw e refl in rw v refl
 
@@ -291,15 +291,15 @@ pub done_either : (l : Limits) (base : Base) {E : Type 0} (x : Devices) (new : C
 done_either l base x new call e trace longer (Ok reply) set on h m = made_done l base x new call e reply trace longer set on h m
 done_either l base x new call e trace longer (Err back) set on h m = tt
 
--- and may be refused for want of memory
+-- and may be refused for lack of memory
 pub made_wanted : (w : World) (call : Call Leased) (e : Event) → judge w call ≡ Ok (Makes e) → IsRefusal w call Memory
 made_wanted w call e h = rw h refl
 
--- a refusal is told
+-- a refusal is returned
 pub judged_refused : (w : World) (call : Call Leased) (fault : Fault) → judge w call ≡ Err fault → IsRefusal w call fault
 judged_refused w call fault h = rw h refl
 
--- the device of the event that a directive comes to
+-- the device of the event of a directive
 pub device_told : (n : ℕ) (d : Directive) (s : State) (dids : List Did) (e : Event) → verdict_of n d s dids ≡ Makes e → device_in e ≡ n
 device_told n d s dids e h = go (is_idle d s) refl
   where

@@ -1,4 +1,4 @@
--- What a call may do, and what it answers.
+-- What a call may do, and the reply to it.
 use Rattle.std.specs.Prelude.{◌≡◌, MatchResult}
 use Rattle.acc_clauses.specs.Words.{Call, Event, Fault}
 use Rattle.acc_base.specs.declared.events.Event.TheVariants as events
@@ -12,7 +12,8 @@ use Rattle.acc_base.specs.Judge.{Verdict, Makes, Idle, leased}
 use Rattle.acc_table.specs.declared.calls.Reply.{Reply}
 use Rattle.acc_table.specs.declared.calls.Reply.TheVariants as replies
 
--- the answer to an event, by its device's view before: a region's number, a wait's count, or a lease with the block's bytes
+-- the reply to an event, by its device's view before: a region's number, a wait's count, or a lease with the block's
+-- bytes
 abbrev pub reply_of : Event → State → Reply
 reply_of (events.Entered device number items did) s = replies.Entered number
 reply_of (events.Waited device queue count) s = replies.Drained count
@@ -32,11 +33,11 @@ IsCarriedOut w call Idle reply v = (reply ≡ replies.Idle) × (v ≡ w)
 abbrev pub IsDone : World → Call Leased → Reply → World → Type 0
 IsDone w call reply v = MatchResult (judge w call) (λ verdict. IsCarriedOut w call verdict reply v) (λ fault. ⊥)
 
--- where there is something to do, memory may be wanted for it
+-- where there is something to do, memory may be lacking for it
 abbrev pub MayWantMemory : Verdict → Fault → Type 0
 MayWantMemory (Makes e) fault = fault ≡ Memory
 MayWantMemory Idle fault = ⊥
 
--- the fault is the call's first refusal, or want of memory where there is none
+-- the fault is the call's first refusal, or lack of memory where there is none
 abbrev pub IsRefusal : World → Call Leased → Fault → Type 0
 IsRefusal w call fault = MatchResult (judge w call) (λ verdict. MayWantMemory verdict fault) (λ refusal. fault ≡ refusal)

@@ -25,7 +25,7 @@ abbrev pub answers_idle : Reply → Bool
 answers_idle replies.Idle = true
 answers_idle _ = false
 
--- the refusal is for want of a ticket, or of one more region
+-- the refusal is for lack of a ticket, or of one more region
 abbrev pub is_shortage : Fault → Bool
 is_shortage (NoTickets left) = true
 is_shortage (NoAllowance left) = true

@@ -63,12 +63,13 @@ pub record IsLawful (w : World) : Type 0 where
   pub placed : (number d : ℕ) → IsOpenOn number d w.state → d ≡ device_of_region number w.state
   -- the history is legal, and leads to what the devices have
   pub history : IsHistoryLegal w.limits w.history (whole_layout_of w.state)
-  -- with full traces the stored events are legal from the base on, bytes included, and give all memories and all else; of a lent block that is the kept copy
+  -- with full traces the stored events are legal from the base on, bytes included, and give all memories and all else.
+  -- Of a lent block that is the kept copy
   pub replayed : IsReplayed w
   -- there are no more events than tickets and places in the trace, and no more open regions than the limit says
   pub books : AreBooksCounted w
 
--- what is told of a device: nothing
+-- what queries find on a device: nothing
 pub record IsUnknown (w : World) (d : ℕ) : Type 0 where
   pub absent : (s : Section) → where_is s (view d w.state).records.ranges ≡ (if is_empty s then Empty else Absent)
   pub present : (s : Section) → is_inside (where_is s (view d w.state).records.ranges) ≡ false

@@ -27,14 +27,14 @@ abbrev pub is_idle : Directive → State → Bool
 is_idle (Step device queue) s = is_none (option_map (λ t. t.block) (head_of queue s.records.queues))
 is_idle d s = false
 
--- the number that the event of a directive tells of the state before it, and 0 where it tells none
+-- the number that the event of a directive has from the state before it, and 0 where it has none
 abbrev pub number_told : Directive → State → ℕ
 number_told (Enter device items) s = s.register.next
 number_told (Wait device queue) s = length (steps_of queue s.records.queues)
 number_told (Step device queue) s = unwrap_or (option_map (λ t. t.block) (head_of queue s.records.queues)) 0
 number_told d s = 0
 
--- the event of a directive on a device, not idle, that tells this number, and whose items did this, in written order
+-- the event of a directive on a device, not idle, with this number, and whose items did this, in written order
 abbrev pub event_told : ℕ → Directive → ℕ → List Did → Event
 event_told d (Enter device items) n did = events.Entered d n items did
 event_told d (Exit number) n did = events.Left d number did
@@ -44,7 +44,7 @@ event_told d (Update device items if_present queue) n did = events.Updated d ite
 event_told d (Wait device queue) n did = events.Waited d queue n
 event_told d (Step device queue) n did = events.Stepped d queue n
 
--- what a directive is answered whose event tells this number
+-- the reply to a directive whose event has this number
 abbrev pub reply_told : Directive → ℕ → Reply
 reply_told (Enter device items) n = replies.Entered n
 reply_told (Wait device queue) n = replies.Drained n
@@ -66,21 +66,21 @@ write_admitted w section = do
   trace_room w
   in_host w.limits 0 section
 
--- what lending the block of a section comes to, or what it is refused for
+-- the verdict on lending the block of a section, or what it is refused for
 abbrev pub IsLoanJudged : World → ℕ → Section → Result Loan Fault → Type 0
 IsLoanJudged w region section result =
     let d : ℕ = device_of_region region w.state in
     MatchResult result (λ loan. IsLoanPlanned (limits_on d w.limits) region section (view d w.state) loan × (judge w (Lend region section) ≡ Ok (Makes (events.Lent d region section loan.block loan.serial)))) (λ fault. judge w (Lend region section) ≡ Err fault)
 
--- what a lease comes to that is brought back, or what it is refused for
+-- the verdict on a lease that is brought back, or what it is refused for
 abbrev pub IsLeaseJudged : World → Leased → Result ⊤ Fault → Type 0
 IsLeaseJudged w lease result = MatchResult result (λ _. (gather_event (limits_on lease.device w.limits) lease (view lease.device w.state) ≡ Ok (gathered w.limits.full lease)) × (judge w (Gather lease) ≡ Ok (Makes (gathered w.limits.full lease)))) (λ fault. judge w (Gather lease) ≡ Err fault)
 
--- what a directive comes to for which this was planned
+-- the verdict on a directive for which this was planned
 abbrev pub planned_verdict : Directive → Planned → Contents → Verdict
 planned_verdict d p c = verdict_of c.limits.number d c.state p.dids
 
--- the fault is what a judgement refuses, or want of memory where it refuses nothing and there is something to do
+-- the fault is what a judgement refuses, or lack of memory where it refuses nothing and there is something to do
 abbrev pub MayBeToldOf : Result Verdict Fault → Fault → Type 0
 MayBeToldOf judged fault = MatchResult judged (λ verdict. MayWantMemory verdict fault) (λ refusal. fault ≡ refusal)
 
@@ -90,7 +90,7 @@ pub record IsAsBefore (old new : Contents) (before after_it : List Event) : Type
   pub state : new.state ≡ old.state
   pub trace : after_it ≡ before
 
--- a store and a trace after an event, for which a call brought these bytes and which was answered so
+-- a store and a trace after an event, for which a call brought these bytes and got this reply
 pub record IsMadeInto (e : Event) (brought : List ℕ) (answered : Reply) (old new : Contents) (before after_it : List Event) : Type 0 where
   pub reply : answered ≡ reply_of e old.state
   pub limits : new.limits ≡ old.limits

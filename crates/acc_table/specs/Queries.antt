@@ -1,4 +1,4 @@
--- What the queries of a table answer.
+-- What the queries of a table return.
 use Rattle.std.specs.Prelude.{ℕ, ◌-◌, ◌<◌, ◌≤◌, Bool, true, false, ◌||◌, if◌then◌else◌, ◌==◌, ◌&&◌, List, [], ◌∷◌, length, take, drop, find, max, Option, Some, None, IsSome, option_map}
 use Rattle.std.specs.List.{AllByRecursion}
 use Rattle.acc_clauses.specs.Words.{Section, Range, Block, Counters, Loan, Found}
@@ -36,7 +36,8 @@ mapped_as blocks loans r = record { start = r.section.start; len = r.section.len
 abbrev pub mapped_from : ℕ → Records → Option Mapped
 mapped_from address w = option_map (mapped_as w.blocks w.loans) (range_from address w.ranges)
 
--- the answer starts at or above an address, as no mapped range does that starts lower; there is none where each starts below the address
+-- the answer starts at or above an address, as no mapped range does that starts lower; there is none where each starts
+-- below the address
 abbrev pub IsLeastFrom : ℕ → List Range → Option Mapped → Type 0
 IsLeastFrom address ranges None = AllByRecursion (λ r. r.section.start < address) ranges
 IsLeastFrom address ranges (Some m) = (address ≤ m.start) × AllByRecursion (λ r. address ≤ r.section.start → m.start ≤ r.section.start) ranges

@@ -1,4 +1,4 @@
--- Which of the replies a call is answered.
+-- Which of the replies a call gets.
 use Rattle.std.specs.Prelude.{◌≡◌, ◌⊎◌, ⊤}
 use Rattle.acc_clauses.specs.Words.{Call, Directive}
 use Rattle.acc_base.specs.declared.calls.Call.TheVariants.{Do, Lend}
@@ -22,14 +22,14 @@ abbrev pub HasLease : Reply → Type 0
 HasLease (replies.Lease lease) = ⊤
 HasLease _ = ⊥
 
--- a directive is answered by a region's number, a wait's count, whether there was a step, or nothing more
+-- the reply to a directive is a region's number, a wait's count, whether there was a step, or nothing more
 abbrev pub IsReplyToDirective : Directive → Reply → Type 0
 IsReplyToDirective (Enter device items) reply = HasNumber reply
 IsReplyToDirective (Wait device queue) reply = HasCount reply
 IsReplyToDirective (Step device queue) reply = (reply ≡ replies.Done) ⊎ (reply ≡ replies.Idle)
 IsReplyToDirective _ reply = reply ≡ replies.Done
 
--- a call is answered so: a loan its lease
+-- the reply to a call; that to a loan is its lease
 abbrev pub IsReplyTo : Call Leased → Reply → Type 0
 IsReplyTo (Do directive) reply = IsReplyToDirective directive reply
 IsReplyTo (Lend region section) reply = HasLease reply

@@ -28,7 +28,7 @@ pub record IsTurnMade (w : World) (leases : List Leased) (turn : Turn) (reply : 
   pub idle : reply ≡ replies.Idle → kept ≡ leases
   pub few : length (lent_by reply) ≤ lends_in (turn ∷ [])
 
--- the fault is a refusal of what a turn asks, or want of memory where it has none
+-- the fault is a refusal of what a turn asks, or lack of memory where it has none
 abbrev pub IsRefusalOf : World → Result (Call Leased) Fault → Fault → Type 0
 IsRefusalOf w (Ok call) fault = IsRefusal w call fault
 IsRefusalOf w (Err unknown) fault = refuse_back w unknown ≡ Err fault
@@ -39,7 +39,7 @@ pub record IsTurnRefused (w : World) (leases : List Leased) (turn : Turn) (fault
   pub same : next ≡ w
   pub same_leases : kept ≡ leases
 
--- what comes of a turn before it is answered
+-- the outcome of a turn before its answer is listed
 abbrev pub IsTurnTaken : World → List Leased → Turn → Result Reply Fault → World → List Leased → Type 0
 IsTurnTaken w leases turn (Ok reply) next kept = IsTurnMade w leases turn reply next kept
 IsTurnTaken w leases turn (Err fault) next kept = IsTurnRefused w leases turn fault next kept

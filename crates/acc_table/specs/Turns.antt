@@ -73,7 +73,7 @@ pub record StaysIdle (w : World) (leases : List Leased) (answer : Answer) (next 
   pub same : next ≡ w
   pub same_leases : rest ≡ leases
 
--- the refusal of the call is the answer; where there is none and something to do, want of memory may be
+-- the refusal of the call is the answer; where there is none and something to do, lack of memory may be
 abbrev pub MayCome : World → List Leased → List Leased → Call Leased → Result Verdict Fault → Answer → World → List Leased → Type 0
 MayCome w leases kept call (Err fault) answer next rest = StaysRefused w leases fault answer next rest
 MayCome w leases kept call (Ok (Makes e)) answer next rest = StaysRefused w leases Memory answer next rest ⊎ IsTurnDone w kept call e answer next rest

@@ -1,4 +1,4 @@
-//! What a table can be asked and what it answers, and lists of turns.
+//! The calls on a table, their replies, and lists of turns.
 
 use acc_base::{Directive, Fault, List, Section};
 use acc_lend::Lease;
@@ -29,7 +29,7 @@ pub fn abandon_all(leases: Vec<Lease>) {
     leases.destroy_empty();
 }
 
-/// What an accepted call answers. It has to be spent where it may hold a lease.
+/// The reply to an accepted call. It has to be spent where it may hold a lease.
 pub enum Reply {
     /// It is done, and there is nothing more to say.
     Done,
@@ -72,7 +72,7 @@ pub enum Turn {
     HostWrite {
         /// The first host address.
         addr: u64,
-        /// The bytes.
+        /// The bytes to write from there on.
         bytes: List<u8>,
     },
     /// Lend the block of a section in an open data region (OpenACC 3.3, section 2.5, compute constructs).

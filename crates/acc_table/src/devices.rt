@@ -24,8 +24,8 @@ pub(crate) struct Devices {
     pub(crate) spares: Vec<Option<Spare>>,
 }
 
-/// What all devices but the first have on a new table. The store is made behind it, since what owns a store takes long to
-/// check.
+/// What all devices but the first have on a new table. The store is made behind it, since what owns a store takes long
+/// to check.
 fn new_spares(alloc: Global, config: &Config) -> Result<Vec<Option<Spare>>, Fault>
     ensures ok { IfOk result (λ spares. AreNewUpTo config.now config.now.devices spares.items) }
     ensures only { IfErr result (λ fault. fault ≡ Memory) }
@@ -88,7 +88,8 @@ impl Devices {
         }
     }
 
-    /// What all devices have as a base, where so many events had led here: the bytes of all memories with full traces alone.
+    /// What all devices have as a base, where so many events had led here: the bytes of all memories with full traces
+    /// alone.
     pub(crate) fn base(&self, alloc: Global, config: &Config, events: u64) -> Result<Base, Fault>
         requires { AreSet config.now self.now }
         ensures ok { IfOk result (λ base. base ≡ base_of config.now.full (whole_of self.now) events) }

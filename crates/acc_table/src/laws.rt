@@ -32,7 +32,7 @@ pub fn hold(table: &Table)
     }
 }
 
-/// Of a device that is not there each query tells nothing: no section is present on it, and it has no ranges, pointers,
+/// Each query finds nothing on a device that is not there. No section is present on it, and it has no ranges, pointers,
 /// transfers, regions or bytes. Nothing is done.
 pub fn unknown(table: &Table, device: u64)
     ensures { table.now.limits.devices ≤ device → IsUnknown table.now device }

@@ -14,12 +14,12 @@ use acc_base::{Event, Fault, List, Loan, Section};
 use acc_clauses::Store;
 use acc_lend::Lease;
 
-/// Makes room for the event of a loan that was planned, lends its block and stores the event, and answers the lease.
+/// Makes room for the event of a loan that was planned, lends its block and stores the event, and returns the lease.
 ///
 /// # Errors
 ///
-/// [`Fault::Memory`] alone, where there was no room in the trace for one event more, or with full traces none for the copy
-/// of the block that stays, and nothing changed.
+/// [`Fault::Memory`] alone, and nothing changed. There was no room in the trace for one event more, or with full traces
+/// none for the copy of the block that stays.
 pub fn lend(
     store: &mut Store,
     trace: &mut Vec<Event>,
@@ -69,8 +69,8 @@ pub fn take_back(store: &mut Store, trace: &mut Vec<Event>, lease: Lease, bytes:
     Reply::Done
 }
 
-/// Makes room in the trace for the event of a lease, and answers the bytes that it stores: with full traces a copy of those
-/// of the section.
+/// Makes room in the trace for the event of a lease, and returns the bytes that it stores. With full traces these are a
+/// copy of those of the section.
 fn make_room(trace: &mut Vec<Event>, lease: &Lease, full: bool) -> Result<List<u8>, Fault>
     ensures bytes { IfOk result (λ bytes. bytes ≡ recorded full (section_bytes lease.now)) }
     ensures same { trace.new.items ≡ trace.old.items }
@@ -92,8 +92,8 @@ fn make_room(trace: &mut Vec<Event>, lease: &Lease, full: bool) -> Result<List<u
 ///
 /// # Errors
 ///
-/// [`Fault::Memory`] alone, where there was no room in the trace for one event more, or with full traces none for the bytes
-/// of the section, and nothing changed.
+/// [`Fault::Memory`] alone, and nothing changed. There was no room in the trace for one event more, or with full traces
+/// none for the bytes of the section.
 pub fn gather(
     store: &mut Store,
     trace: &mut Vec<Event>,

@@ -25,8 +25,8 @@ fn is_idle(store: &Store, directive: &Directive) -> bool
     }
 }
 
-/// The number that the event of a directive tells of the state before it: that of the region that is entered, of the
-/// transfers that a wait makes, or of the block that a step's transfer names; 0 for all others.
+/// The number that the event of a directive has from the state before it. It is that of the region that is entered, of
+/// the transfers that a wait makes, or of the block that a step's transfer names. It is 0 for all others.
 fn number_told(store: &Store, directive: &Directive) -> u64
     ensures { result ≡ number_told directive.now store.now.state }
 {
@@ -38,7 +38,7 @@ fn number_told(store: &Store, directive: &Directive) -> u64
     }
 }
 
-/// The event of a directive on a device that tells this number, and whose items did this, in written order.
+/// The event of a directive on a device, with this number and what its items did, in written order.
 fn event_told(device: u64, directive: Directive, number: u64, did: List<Did>) -> Event
     ensures { result ≡ event_told device directive number did }
 {
@@ -97,7 +97,7 @@ fn event_told(device: u64, directive: Directive, number: u64, did: List<Did>) ->
     }
 }
 
-/// What a directive is answered whose event tells this number.
+/// The reply to a directive whose event has this number.
 fn reply_told(directive: &Directive, number: u64) -> Reply
     ensures { result ≡ reply_told directive.now number }
 {
@@ -108,8 +108,8 @@ fn reply_told(directive: &Directive, number: u64) -> Reply
     }
 }
 
-/// Makes room for a planned directive in the store and for its event in the trace, and answers what its items will do, as
-/// the event stores it: a list of its own, allocated at its length.
+/// Makes room for a planned directive in the store and for its event in the trace. It returns what the items will do,
+/// as the event stores it: a list of its own, allocated at its length.
 fn make_room(
     store: &mut Store,
     trace: &mut Vec<Event>,
@@ -129,7 +129,7 @@ fn make_room(
     Ok(List::from_vec(did))
 }
 
-/// Does a directive for which this was planned and room was made, and which is not idle, and answers the reply.
+/// Does a directive for which this was planned and room was made, and returns the reply. The directive is not idle.
 fn commit(
     store: &mut Store,
     trace: &mut Vec<Event>,
@@ -153,7 +153,7 @@ fn commit(
     reply
 }
 
-/// Judges a directive, and makes room for it and its event. Answers what its items will do, or `None` where there is
+/// Judges a directive, and makes room for it and its event. It returns what the items will do, or `None` where there is
 /// nothing to do. Nothing but room changes.
 ///
 /// # Errors
@@ -182,8 +182,7 @@ fn prepare(
     Ok(Some(make_room(store, trace, directive, plan)?))
 }
 
-/// Judges a directive, makes room for it, does it and stores its event, and answers the
-/// reply.
+/// Judges a directive, makes room for it, does it and stores its event, and returns the reply.
 ///
 /// # Errors
 ///

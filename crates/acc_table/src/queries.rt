@@ -1,4 +1,4 @@
-//! What a table tells of itself. No query takes memory or is refused.
+//! The queries of a table. None allocates or is refused.
 
 ghost use Rattle.std.specs.Prelude.{◌≡◌, ◌-◌, ◌<◌, ◌≤◌, ◌↔◌, None, IsTrue, IfSome, IfNone, length, option_map};
 ghost use Rattle.acc_base.specs.Blocks.{used_bytes};
@@ -113,8 +113,8 @@ impl Table {
         }
     }
 
-    /// The reference counters of the mapped range of a device that the section is inside (OpenACC 3.3, section 2.6.7), if it
-    /// is inside one.
+    /// The reference counters of the mapped range of a device that the section is inside (OpenACC 3.3, section 2.6.7),
+    /// if it is inside one.
     pub fn counters(&self, device: u64, section: Section) -> Option<Counters>
         ensures { result ≡ counters_of_section section (view device self.now.state).records }
     {

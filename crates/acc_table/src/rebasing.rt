@@ -10,8 +10,8 @@ use acc_clauses::Base;
 use std::marker::Model;
 use std::mem;
 
-/// What a table had before a rebase and no longer needs: its base, and the events that it had stored since. Contracts see
-/// it as that history.
+/// What a table had before a rebase and no longer needs: its base, and the events that it had stored since. Contracts
+/// see it as that history.
 #[derive(Drop)]
 pub struct Folded {
     base: Base,
@@ -36,12 +36,12 @@ impl Folded {
 }
 
 impl Table {
-    /// Makes what the table has its base, empties the stored trace, and answers how many events that had. So a program
-    /// that runs for long need not keep every event: counts over the history begin at the base's values, and there is
+    /// Makes what the table has its base, empties the stored trace, and returns how many events that had. So a program
+    /// that runs for long need not keep every event. Counts over the history begin at the base's values, and there is
     /// room in the trace again. It is no event and takes no ticket, and every query but [`Table::base`] and
-    /// [`Table::trace`] answers as before. The memory of the trace is kept for the events to come; the base takes memory
-    /// for each range, block, attached pointer, queued transfer, loan and open region, and with full traces for the bytes of
-    /// all memories.
+    /// [`Table::trace`] returns what it did. The memory of the trace is kept for the events to come. The base allocates
+    /// for each range, block, attached pointer, queued transfer, loan and open region. With full traces it also
+    /// allocates for the bytes of all memories.
     ///
     /// # Errors
     ///
@@ -58,8 +58,8 @@ impl Table {
         Ok(count)
     }
 
-    /// As [`Table::rebase`], but what the table no longer needs is answered, to be let go where the caller likes, as when a
-    /// lock is free again. The memory of the trace goes with it.
+    /// As [`Table::rebase`], but it returns what the table no longer needs. The caller frees that where it likes, as
+    /// when a lock is free again. The memory of the trace goes with it.
     ///
     /// # Errors
     ///

@@ -38,7 +38,7 @@ fn place_of(leases: &[Lease], serial: u64, bytes: &List<u8>) -> Option<usize>
         .position(|lease| lease.serial() == serial && lease.len() == len)
 }
 
-/// The answer to a turn whose call was replied to so. A lease goes to the end of the list, where there is room for it.
+/// The answer to a turn whose call got this reply. A lease goes to the end of the list, where there is room for it.
 fn answer_to(reply: Reply, leases: &mut Vec<Lease>) -> Answer
     requires room { vec_len leases.old + length (lent_by reply) ≤ vec_capacity leases.old }
     ensures value { result ≡ answer_to reply }
@@ -63,10 +63,10 @@ fn answer_to(reply: Reply, leases: &mut Vec<Lease>) -> Answer
 }
 
 impl Table {
-    /// Takes the turns one after the other, and answers each. A refused turn changes nothing, and the next one follows;
-    /// a turn for which memory cannot be had is answered `Refused(Memory)`.
+    /// Plays the turns one after the other, and returns the answer to each. A refused turn changes nothing, and the
+    /// next one follows. The answer to a turn for which memory cannot be allocated is `Refused(Memory)`.
     ///
-    /// The lease that a [`Turn::Lend`] is answered goes to the end of the list, and the answer has its serial number. A
+    /// The lease of a [`Turn::Lend`] goes to the end of the list, and the answer has its serial number. A
     /// [`Turn::Back`] takes the first lease of its serial number that lends as many bytes as it brings. They are
     /// written over those, and the lease leaves the list. Where there is none, the turn is refused:
     /// [`Fault::NoTickets`], [`Fault::TraceFull`], or else [`Fault::NoLease`]. A lease of a refused turn keeps its
@@ -89,7 +89,7 @@ impl Table {
         Ok(answers)
     }
 
-    /// Takes one turn, and answers it. There is room in the list for a lease, where it asks for one.
+    /// Plays one turn, and returns its answer. There is room in the list for a lease, where it asks for one.
     fn take_turn(&mut self, turn: Turn, leases: &mut Vec<Lease>) -> Answer
         requires room { vec_len leases.old + lends_in (turn ∷ []) ≤ vec_capacity leases.old }
         ensures may { MayAnswer self.old leases.old.items turn (asked_by turn leases.old.items) result self.new leases.new.items }
@@ -102,7 +102,7 @@ impl Table {
         }
     }
 
-    /// Takes one turn. A lease that it brings back leaves the list.
+    /// Plays one turn. A lease that it brings back leaves the list.
     fn make_turn(&mut self, turn: Turn, leases: &mut Vec<Lease>) -> Result<Reply, Fault>
         ensures taken { IsTurnTaken self.old leases.old.items turn result self.new leases.new.items }
         ensures len { vec_len leases.new ≤ vec_len leases.old }

@@ -27,11 +27,12 @@ use acc_lend::Lease;
 use std::alloc::Global;
 use std::marker::Model;
 
-/// The data environment of one to four devices: host memory, and of each device its memory, the mapped ranges and blocks, the
-/// open data regions, the blocks that are lent to kernels and the queues of transfers; and the trace of all events since its
-/// base (OpenACC 3.3, sections 2.5 and 2.6).
+/// The data environment of one to four devices (OpenACC 3.3, sections 2.5 and 2.6). It has host memory, and the trace
+/// of all events since its base. Of each device it has the memory, mapped ranges and blocks, open data regions, blocks
+/// that are lent to kernels, and queues of transfers.
 ///
-/// One call is one event or no change. Contracts see a table as a world: its limits, its history and what its devices have.
+/// One call is one event or no change. Contracts see a table as a world: its limits, its history and what its devices
+/// have.
 #[derive(Drop)]
 pub struct Table {
     // One pointer: so a table is moved, and its owners are checked, as cheaply as a number.
@@ -96,13 +97,14 @@ impl Table {
         })
     }
 
-    /// What holds of every table. On each device mapped ranges and blocks are apart and account for every used byte, each
-    /// range has a block of its own, each other block is named by a queued transfer, no range has both counters zero, every
-    /// counter is what the events of the device give and within its limit, a structured counter is how often open regions
-    /// hold its block, each queue is within its limit and each queued transfer within its block, each loan is of a section
-    /// within a mapped block, each memory has its size where it is not lent, and the device has what its own events alone
-    /// lead to. The history is legal, with full traces all memories are what the events give from the base on (of a lent block
-    /// the copy that is kept), and the limits are within their bounds. Nothing is done.
+    /// What holds of every table; [`laws::hold`](crate::laws::hold) says it law by law. On each device mapped ranges
+    /// and blocks are apart and account for every used byte. Each range has a block of its own, and each other block is
+    /// named by a queued transfer. No range has both counters zero. Every counter is what the events of the device
+    /// give, and within its limit; a structured counter is how often open regions hold its block. Each queue is within
+    /// its limit, and each queued transfer within its block. Each loan is of a section within a mapped block. Each
+    /// memory has its size where it is not lent. The device has what its own events alone lead to. The history is
+    /// legal. With full traces all memories are what the events give from the base on; of a lent block that is the copy
+    /// that is kept. The limits are within their bounds. Nothing is done.
     pub fn laws(&self)
         ensures accounted { IsAccounted self.now }
         ensures bounds { IsWithinBounds self.now.limits }
@@ -110,8 +112,8 @@ impl Table {
         self.kept.config.laws();
     }
 
-    /// The blocks of a device and the holes that [`Table::hole`] answers are the device, with no address in two of them.
-    /// Nothing is done.
+    /// The blocks of a device and the holes that [`Table::hole`] returns are the device, with no address in two of
+    /// them. Nothing is done.
     pub fn holes_laws(&self, device: u64)
         ensures { device < self.now.limits.devices → IsDevice (device_memory (limits_on device self.now.limits)) (view device self.now.state).records.blocks }
     {
@@ -120,17 +122,17 @@ impl Table {
         }
     }
 
-    /// Makes one call: an event, or no change (OpenACC 3.3, section 2.6.5, data construct; section 2.6.6, enter data
-    /// and exit data directives; section 2.16, asynchronous behavior; and the update and wait directives). The step of
-    /// an empty queue is answered [`Reply::Idle`]: it is no event, takes no memory, and changes nothing.
+    /// Makes one call: an event, or no change (OpenACC 3.3, sections 2.6.5, 2.6.6 and 2.16, and the update and wait
+    /// directives). The reply to the step of an empty queue is [`Reply::Idle`]: it is no event, allocates nothing, and
+    /// changes nothing.
     ///
-    /// [`Call::Lend`](acc_base::Call::Lend) is answered a lease, which has the bytes of the block of its section, and
-    /// [`Call::Gather`](acc_base::Call::Gather) moves them back (OpenACC 3.3, section 2.5, compute constructs; section
-    /// 2.6, data environment). Until then no call reads or writes them.
+    /// The reply to [`Call::Lend`](acc_base::Call::Lend) is a lease, which has the bytes of the block of its section
+    /// (OpenACC 3.3, sections 2.5 and 2.6). [`Call::Gather`](acc_base::Call::Gather) moves them back. Until then no
+    /// call reads or writes them.
     ///
     /// # Errors
     ///
-    /// The call comes back, a lease with its bytes, and nothing changed. The first of these that holds is told:
+    /// The call comes back, a lease with its bytes, and nothing changed. The fault is the first of these that holds:
     ///
     /// - [`Fault::NoTickets`] where there are as many events as tickets;
     /// - [`Fault::NoAllowance`] where a region is entered and as many are open as the limit says;
@@ -139,31 +141,34 @@ impl Table {
     /// - [`Fault::NoDevice`] where a directive names a device that is not there;
     /// - [`Fault::NoRegion`] where no region of the number is open that is exited;
     /// - [`Fault::NoQueue`] where the directive names a queue above 15;
-    /// - then, for the items in the order in which they act, each judged in what those before it leave, where a refusal
-    ///   that names an item has its place in the written list:
-    ///   - what the clause tables refuse: for a section that is not empty, [`Fault::OutOfHost`] where it is not in host
-    ///     memory; for the pointer of an item, [`Fault::OutOfHost`] where its eight bytes are not, and
-    ///     [`Fault::Misaligned`] where its address is no multiple of 8; [`Fault::PartlyPresent`] where some of the
-    ///     section's addresses are mapped but no one range has them all, [`Fault::NotPresent`] where `present`, or
-    ///     `update` without `if_present`, names a section that is absent, [`Fault::CounterFull`] where an entry would
-    ///     raise a reference counter above the limit, [`Fault::DeviceFull`] where it needs a new block that fits
-    ///     nowhere;
+    /// - then, for the items in the order in which they act, the first of those below. Each item is judged in what
+    ///   those before it leave. A refusal that names an item has its place in the written list:
+    ///   - for a section that is not empty, [`Fault::OutOfHost`] where it is not in host memory;
+    ///   - for the pointer of an item, [`Fault::OutOfHost`] where its eight bytes are not, and [`Fault::Misaligned`]
+    ///     where its address is no multiple of 8;
+    ///   - [`Fault::PartlyPresent`] where some of the section's addresses are mapped but no one range has them all;
+    ///   - [`Fault::NotPresent`] where `present`, or `update` without `if_present`, names a section that is absent;
+    ///   - [`Fault::CounterFull`] where an entry would raise a reference counter above the limit;
+    ///   - [`Fault::DeviceFull`] where an entry needs a new block that fits nowhere;
     ///   - [`Fault::Lent`] where it would detach a pointer in a block that is lent;
     ///   - [`Fault::Lent`] where its step would take a counter from a block that is lent, or copy its bytes at once;
     ///   - [`Fault::QueueFull`] where its transfer is put into a queue that has as many as the limit says;
-    ///   - for an entry, whose pointer is attached after its step, [`Fault::Lent`] where it would attach it in a block
-    ///     that is lent, and [`Fault::CounterFull`] where it would raise its attachment counter above the limit;
+    ///   - [`Fault::Lent`] where an entry would attach its pointer, after its step, in a block that is lent;
+    ///   - [`Fault::CounterFull`] where that would raise the attachment counter above the limit;
     /// - for a `wait`, or the step of a queue, [`Fault::Lent`] at the first transfer that it makes whose block is lent;
     /// - for a host write of some bytes, [`Fault::OutOfHost`] with item 0 where one of the addresses is not in host
     ///   memory;
-    /// - for a loan, [`Fault::NoRegion`] where no region of the number is open, [`Fault::OutOfHost`] with item 0 where
-    ///   the section is not empty and not in host memory, [`Fault::PartlyPresent`] with item 0 where some of its
-    ///   addresses are mapped but no one range has them all, [`Fault::NotPresent`] with item 0 where it is absent or
-    ///   empty, and [`Fault::Lent`] where its block is lent;
-    /// - for a lease that comes back, [`Fault::NoLease`] where its block is not lent on its device under its serial number,
-    ///   place and length, or is not as long as the lease has bytes, or, with full traces, one of the lease's bytes outside
-    ///   of the section is not what it was when the block was lent;
-    /// - last [`Fault::Memory`], where there is no other refusal, something to do, and memory cannot be had.
+    /// - for a loan, the first of those below, the three of its section with item 0:
+    ///   - [`Fault::NoRegion`] where no region of the number is open;
+    ///   - [`Fault::OutOfHost`] where the section is not empty and not in host memory;
+    ///   - [`Fault::PartlyPresent`] where some of its addresses are mapped but no one range has them all;
+    ///   - [`Fault::NotPresent`] where it is absent or empty;
+    ///   - [`Fault::Lent`] where its block is lent;
+    /// - for a lease that comes back, [`Fault::NoLease`] where one of those below holds:
+    ///   - its block is not lent on its device under its serial number, place and length;
+    ///   - it has not as many bytes as its block;
+    ///   - with full traces, one of its bytes outside of the section is not what it was when the block was lent;
+    /// - last [`Fault::Memory`], where there is no other refusal, something to do, and memory cannot be allocated.
     pub fn apply(&mut self, call: Call) -> Result<Reply, (Call, Fault)>
         ensures done { IfOk result (λ reply. IsDone self.old call reply self.new) }
         ensures refused { IfErr result (λ back. IsRefusal self.old call back.1) }
@@ -302,7 +307,7 @@ impl Table {
         }
     }
 
-    /// What lending the block of a section comes to, or what it is refused for.
+    /// Plans the loan of a section in an open region, on the region's device.
     #[tactic(auto, unfolding(acc_base::specs::Calls::judge))]
     fn admit_loan(&mut self, device: u64, region: u64, section: Section) -> Result<Loan, Fault>
         requires { device ≡ device_of_region region self.old.state }
@@ -316,7 +321,7 @@ impl Table {
         kept.devices.store.plan_loan(region, section)
     }
 
-    /// Lends the block of a section, and answers its lease.
+    /// Lends the block of a section, and returns its lease.
     pub(crate) fn lend(&mut self, region: u64, section: Section) -> Result<Reply, Fault>
         ensures done { IfOk result (λ reply. IsDone self.old (Lend region section) reply self.new) }
         ensures refused { IfErr result (IsRefusal self.old (Lend region section)) }

@@ -142,9 +142,9 @@ pub enum Check {
 pub enum Line {
     /// The call is done, with nothing more to say.
     Does(Ask),
-    /// The call is done, and wants no memory: it is not made once more where memory is refused.
+    /// The call is done, and needs no memory: it is not made once more where memory is refused.
     Spares(Ask),
-    /// The call is done, and answers the number of the region that it enters, or of the loan that it makes.
+    /// The call is done, and returns the number of the region that it enters, or of the loan that it makes.
     Gives(Ask, u64),
     /// A `wait` for this queue, or for all, makes so many transfers.
     Drains(Option<u64>, u64),
@@ -162,8 +162,8 @@ pub enum Line {
     Adds(u64, u8),
     /// The lease of this serial number is brought back as it is.
     Gathers(u64),
-    /// The first lease that another table of the same limits lends after these calls is brought here, and refused for this
-    /// or taken.
+    /// The first lease that another table of the same limits lends after these calls is brought here, and refused for
+    /// this or taken.
     Brings(&'static [Ask], Option<Fault>),
 }
 

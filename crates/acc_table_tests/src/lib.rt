@@ -1,6 +1,6 @@
-//! Tests of `acc_table`, and through it of `acc_clauses`: what no clause says, that calls succeed, and that the definitions
-//! say what is meant. They stand in a crate of their own, so that those crates are proved once and not twice. What a row
-//! says, and how a turn is made of it, `acc_replay` uses too.
+//! Tests of `acc_table`, and through it of `acc_clauses`: what no clause says, that calls succeed, and that the
+//! definitions say what is meant. They stand in a crate of their own, so that those crates are proved once and not
+//! twice. What a row says, and how a turn is made of it, `acc_replay` uses too.
 #![tactic(auto)]
 
 pub mod language;
@@ -13,7 +13,7 @@ use std::fmt::Debug;
 #[cfg(test)]
 use std::process::Abort;
 
-/// Ends the test where what was found is not what is wanted.
+/// Ends the test where what was found is not what is expected.
 #[cfg(test)]
 fn same<T: PartialEq + Debug + Copy>(rt: &impl Abort, row: &str, found: T, wanted: T) {
     assert_eq!(rt; found, wanted, "{row}");

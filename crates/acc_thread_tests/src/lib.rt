@@ -25,7 +25,7 @@ use std::fmt::Debug;
 use std::process::Abort;
 use std::sync::Wait;
 
-/// Ends the test where what was found is not what is wanted.
+/// Ends the test where what was found is not what is expected.
 #[cfg(test)]
 fn same<T: PartialEq + Debug + Copy>(rt: &impl Abort, found: T, wanted: T) {
     assert_eq!(rt; found, wanted);

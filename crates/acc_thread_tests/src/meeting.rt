@@ -93,7 +93,7 @@ impl<R: Clock> Gate<R> for Meeting {
 /// Lets a worker take part in a meeting, under a number of its own for all that it does.
 #[derive(Drop)]
 pub struct Numbered<'a> {
-    /// The meeting.
+    /// Where it meets the others.
     pub meeting: &'a Meeting,
     /// The number of the worker.
     pub number: usize,

@@ -13,7 +13,7 @@ use std::sync::ledger::Ledger;
 use std::test::Fail;
 use std::thread::{Threads, join};
 
-/// The number of the thread that tells, and of the one that is told.
+/// The number of the thread that sends, and of the one that receives.
 const TELLER: usize = 0;
 
 const TOLD: usize = 1;
@@ -38,7 +38,7 @@ fn has_sevens<Regions: Ledger, Tickets: Ledger, Events: Ledger, R: Wait + AllocG
     Ok(bytes.as_slice() == [7; 16].as_slice())
 }
 
-/// Finds with a caller that has no shares, when it is told, that the array is there; then one more call is refused.
+/// Finds with a caller that has no shares, after the message, that the array is there; then one more call is refused.
 fn find_when_told<
     Regions: Ledger,
     Tickets: Ledger,
@@ -73,7 +73,7 @@ fn do_and_tell<
     meeting.after(rt, TELLER);
 }
 
-/// One thread maps the array and writes it. The other finds that when it is told.
+/// One thread maps the array and writes it. The other finds that after the message.
 pub fn tell<
     Regions: Ledger + Send + Sync,
     Tickets: Ledger + Send + Sync,

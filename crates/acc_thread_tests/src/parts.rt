@@ -1,4 +1,4 @@
-//! Parts of a kernel that work at the same time, or in turn where no thread can be had.
+//! Parts of a kernel that work at the same time, or in turn where no thread can be started.
 
 ghost use Rattle.acc_lend.specs.Images.{each_byte, number_image};
 ghost use Rattle.acc_lend.specs.ImageLaws.{each_byte-append, length-each_byte};

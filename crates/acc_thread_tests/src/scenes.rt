@@ -26,7 +26,7 @@ pub const ARRAY: Section = Section {
 pub enum Scene {
     /// Two workers, of which one is held until that of the number is done.
     Workers(usize),
-    /// A thread that is told of what another did.
+    /// A thread that receives a message about what another did.
     Tell,
     /// A thread that exits from what another entered.
     HandOver,

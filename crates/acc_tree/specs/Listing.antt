@@ -10,7 +10,7 @@ use Rattle.acc_tree.specs.declared.entries.Entry.{Entry}
 pub record Listing (T : Type 0) : Type 0 where
   -- by rising key
   pub entries : List (Entry T)
-  -- how many more can be inserted without memory
+  -- how many more can be inserted without allocating
   pub room : ℕ
 
 module _ {T : Type 0} where

@@ -42,7 +42,7 @@ impl<T> Model for Node<T> {
     ghost size_decreases = { child_le };
 }
 
-/// The height of a tree, and what it tells of the number of nodes.
+/// The height of a tree, and what it implies for the number of nodes.
 pub fn height<T>(tree: &Link<T>) -> u64
     ensures value { result ≡ height_of tree.now }
     ensures tall { IsTall result (length (entries_in tree.now)) }
@@ -53,7 +53,7 @@ pub fn height<T>(tree: &Link<T>) -> u64
     }
 }
 
-/// What the height of a tree tells of the number of nodes. Nothing is done.
+/// What the height of a tree implies for the number of nodes. Nothing is done.
 pub fn height_law<T>(tree: &Link<T>)
     ensures { IsTall (height_of tree.now) (length (entries_in tree.now)) }
 {
@@ -167,7 +167,7 @@ pub fn pop<T: Copy>(mut chain: Box<Node<T>>) -> (Box<Node<T>>, Link<T>)
     (chain, next)
 }
 
-/// Puts a node that became free, if one did, before a chain, and answers how many did.
+/// Puts a node that became free, if one did, before a chain, and returns how many did.
 pub fn put_away<T: Copy>(chain: Link<T>, freed: Link<T>) -> (Link<T>, u64)
     requires leaf { IsFreed freed }
     requires chain { IsChain chain }

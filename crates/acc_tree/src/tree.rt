@@ -15,8 +15,8 @@ use std::marker::Model;
 /// Memory is asked for by [`Tree::reserve`] alone: an entry goes into a node that waits, and its node waits again once
 /// it is removed. Contracts see a tree as the list of its entries by rising key, and how many more there is room for.
 ///
-/// A walk comes to at most two nodes for each binary digit of the number of entries. That of [`Tree::first_fit_from`]
-/// goes down twice, so it comes to at most four.
+/// A walk visits at most two nodes for each binary digit of the number of entries. That of [`Tree::first_fit_from`]
+/// goes down twice, so it visits at most four.
 pub struct Tree<T: Copy> {
     alloc: Global,
     // What stands in nodes that wait.
@@ -56,7 +56,7 @@ impl<T: Copy> Drop for Tree<T> {
 
 impl<T: Copy> Tree<T> {
     /// A tree without entries and without room. It needs no memory. The blank value stands in nodes that hold no entry,
-    /// and no call answers it.
+    /// and no call returns it.
     pub fn new(alloc: Global, blank: T) -> Tree<T>
         ensures entries { result.entries ≡ [] }
         ensures room { result.room ≡ 0 }
@@ -176,8 +176,8 @@ impl<T: Copy> Tree<T> {
         self.first_fit_counted(size, &mut Steps::new())
     }
 
-    /// The entry of least key whose size is at least `size`, which is not 0, by at most two steps for each binary digit
-    /// of the number of entries. At most 2^32 were counted before.
+    /// The entry of least key whose size is at least `size`, which is not 0. It makes at most two steps for each binary
+    /// digit of the number of entries. At most 2^32 were counted before.
     pub fn first_fit_counted(&self, size: u64, steps: &mut Steps) -> Option<Entry<T>>
         requires some { 0 < size }
         requires limit { steps.old ≤ 2 ^ 32 }
@@ -214,7 +214,7 @@ impl<T: Copy> Tree<T> {
         self.len += 1;
     }
 
-    /// Takes out the entry of a key that is there, and answers it.
+    /// Takes out the entry of a key that is there, and returns it.
     pub fn remove(&mut self, key: u128) -> Entry<T>
         requires there { IsSome (at_key key self.old.entries) }
         ensures entry { at_key key self.old.entries ≡ Some result }
@@ -241,9 +241,9 @@ impl<T: Copy> Tree<T> {
         walks::write_value(&mut self.root, key, value);
     }
 
-    /// Takes the first `size` of the entry of least key that is so large, and answers the entry as it was: its key rises
-    /// by `size` and its size falls by it, or the entry goes where nothing of it is left. The size is not 0. It needs no
-    /// memory.
+    /// Takes the first `size` of the entry of least key that is so large, and returns the entry as it was. Its key
+    /// rises by `size` and its size falls by it, or the entry goes where nothing of it is left. The size is not 0. It
+    /// needs no memory.
     pub fn take_front(&mut self, size: u64) -> Entry<T>
         requires some { 0 < size }
         requires ranges { AreRanges self.old.entries }
@@ -273,7 +273,7 @@ impl<T: Copy> Tree<T> {
     }
 }
 
-/// Adds nodes that wait until `count` do, or answers that there is no memory for them.
+/// Adds nodes that wait until `count` do. It returns whether there was memory for all of them.
 fn make_nodes<T: Copy>(
     alloc: Global,
     blank: Entry<T>,

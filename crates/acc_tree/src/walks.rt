@@ -63,8 +63,8 @@ pub fn find_large<'a, T: Copy>(
     }
 }
 
-/// The first entry from a key on that is at least so large. Trees without one so large are passed over, so the walk
-/// comes to at most two other nodes at each height: one on the way to the key, and one on the way to the entry.
+/// The first entry from a key on that is at least so large. Trees without one so large are passed over. So the walk
+/// visits at most two other nodes at each height: one towards the key, and one towards the entry.
 pub fn find_large_from<'a, T: Copy>(tree: &'a Link<T>, key: u128, size: u64) -> Option<&'a Entry<T>>
     requires some { 0 < size }
     requires rising { KeysRise (entries_in tree.now) }

@@ -128,7 +128,7 @@ none_gathered e v serial T place same t =
 
 -- ---- the bytes of a lease
 
--- numbers are told apart by the test
+-- the test distinguishes numbers
 equal_true : (a b : ℕ) → a ≡ b → (a == b) ≡ true
 equal_true a b same = subst (λ (n : ℕ). (a == n) ≡ true) same (equal_self a)
 

@@ -39,20 +39,20 @@ module _ {C : Type 0} (f : ℕ → Option C) (place i : ℕ) (items : List RawIt
   turns_over past so_far =
       ap Ok (sym (append-nil done)) ∙ (ap (λ rest. read_then done (items_from f place rest)) (sym (drop_all i items past)) ∙ so_far)
 
--- what all items come to, where the list of the first ones is not kept
+-- the outcome of all items, where the list of the first ones is not kept
 pub record IsReadSoFar {C : Type 0} (rest whole : Result (List (Item C)) Refusal) : Type 0 where
   pub done : List (Item C)
   pub before : read_then done rest ≡ whole
 
--- the refusal of an item is what all come to
+-- the refusal of an item is the outcome of all
 pub refused_so : {C : Type 0} (r : Result (List (Item C)) Refusal) (refusal : Refusal) → Err refusal ≡ r → IsRead r (Err refusal)
 refused_so r refusal is = subst (λ x. IsRead x (Err refusal)) is refl
 
--- where none is refused, memory may be wanted
+-- where none is refused, memory may be lacking
 pub wanted_so : {C : Type 0} (r : Result (List (Item C)) Refusal) (items : List (Item C)) → Ok items ≡ r → IsRead r (Err (OfTable Memory))
 wanted_so r items is = subst (λ x. IsRead x (Err (OfTable Memory))) is (inr refl)
 
--- the items are answered, where all were read
+-- the items are returned, where all were read
 pub all_read : {C : Type 0} (r : Result (List (Item C)) Refusal) (items : List (Item C)) → Ok items ≡ r → IsRead r (Ok items)
 all_read r items is = subst (λ x. IsRead x (Ok items)) is (inl refl)
 

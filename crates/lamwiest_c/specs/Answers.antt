@@ -1,5 +1,5 @@
--- What a call comes to. Each definition is given how that is told: by the result of a function, or by a status and the
--- fields of a refusal.
+-- The outcome of a call. Each definition is given how the caller gets it: as the result of a function, or as a status
+-- and the fields of a refusal.
 use Rattle.std.specs.Prelude.{ℕ, ◌≡◌, ◌⊎◌, ◌==◌, Bool, List, [], ◌++◌, length, find, Option, Some, None, Result, Ok, Err, MatchOption}
 use Rattle.std.specs.List.{remove, position_or_len}
 use Rattle.acc_base.specs.declared.items.Section.{Section}
@@ -23,7 +23,7 @@ use Rattle.lamwiest_c.specs.Environments.{DataEnvironment}
 abbrev pub section_at : ℕ → ℕ → Section
 section_at start len = record { start = start; len = len }
 
--- how what came of a call is told
+-- how the caller gets the outcome of a call
 abbrev pub Told : Type 1
 Told = Result ℕ Refusal → Type 0
 
@@ -37,7 +37,8 @@ number_in replies.Idle = 0
 
 -- ---- calls that move no lease
 
--- a refusal is told, and nothing changed; or the number of the reply is told, and the world is that after the event. Memory may be wanted where there is something to do
+-- the caller gets a refusal, and nothing changed; or the number of the reply, and the world is that after the event.
+-- Memory may be lacking where there is something to do
 abbrev pub CameOf : World → Call Leased → Result Verdict Fault → Told → World → Type 0
 CameOf w call (Err fault) T v = T (Err (OfTable fault)) × (v ≡ w)
 CameOf w call (Ok Idle) T v = T (Ok (number_in replies.Idle)) × (v ≡ w)
@@ -50,7 +51,7 @@ IsMade w call T v = CameOf w call (judge w call) T v
 abbrev pub IsMadeIn : DataEnvironment → Call Leased → Told → DataEnvironment → Type 0
 IsMadeIn e call T v = IsMade e.world call T v.world × (v.leases ≡ e.leases)
 
--- what was asked is made, or was read wrong; where it was read right, memory may be wanted before it is asked
+-- what was asked is made, or was read wrong; where it was read right, memory may be lacking before it is asked
 abbrev pub IsAsked : DataEnvironment → Result (Call Leased) Refusal → Told → DataEnvironment → Type 0
 IsAsked e (Err refusal) T v = T (Err refusal) × (v ≡ e)
 IsAsked e (Ok call) T v = (T (Err (OfTable Memory)) × (v ≡ e)) ⊎ IsMadeIn e call T v
@@ -60,7 +61,7 @@ abbrev pub IsDirected : DataEnvironment → Result Directive Refusal → Told �
 IsDirected e (Err refusal) T v = IsAsked e (Err refusal) T v
 IsDirected e (Ok directive) T v = IsAsked e (Ok (Do directive)) T v
 
--- the world's base is what it had, and how many events that folded is told; or memory was wanted
+-- the world's base is what it had, and the caller gets how many events that folded; or memory was lacking
 abbrev pub IsRebased : DataEnvironment → Told → DataEnvironment → Type 0
 IsRebased e T v =
     (T (Err (OfTable Memory)) × (v ≡ e))
@@ -68,7 +69,7 @@ IsRebased e T v =
 
 -- ---- loans
 
--- the block is lent, and its lease is the last one; memory may be wanted before all else
+-- the block is lent, and its lease is the last one; memory may be lacking before all else
 abbrev pub CameOfLoan : DataEnvironment → Call Leased → Result Verdict Fault → Told → DataEnvironment → Type 0
 CameOfLoan e call (Err fault) T v = T (Err (OfTable fault)) × (v ≡ e)
 CameOfLoan e call (Ok Idle) T v = ⊥

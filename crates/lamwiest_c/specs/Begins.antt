@@ -34,7 +34,7 @@ abbrev pub IsBegunAs : RawLimits → Result DataEnvironment Refusal → Type 0
 IsBegunAs l (Ok e) = (e ≡ new_environment (limits_in l)) × IsWithinBounds (limits_in l)
 IsBegunAs l (Err refusal) = IsNotBegun l refusal
 
--- the handle has a new table of these limits, or stays as it is, and it is told why
+-- the handle has a new table of these limits, or stays as it is, and C gets the refusal
 abbrev pub IsBegun : RawLimits → Option DataEnvironment → Option DataEnvironment → Told → Type 0
 IsBegun l old new T =
     (T (Ok 0) × (new ≡ Some (new_environment (limits_in l))) × IsWithinBounds (limits_in l))

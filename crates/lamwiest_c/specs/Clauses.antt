@@ -63,7 +63,7 @@ queue_of queue = if queue == NO_QUEUE_GIVEN then None else Some queue
 abbrev pub item_of : {C : Type 0} → C → RawItem → Item C
 item_of clause item = record { clause = clause; section = record { start = item.start; len = item.len }; pointer = pointer_of item.pointer }
 
--- an item before others, if its number is that of a clause; its place is told where it is not
+-- an item before others, if its number is that of a clause; where it is not, the refusal has its place
 abbrev pub item_then : {C : Type 0} → Option C → ℕ → RawItem → Result (List (Item C)) Refusal → Result (List (Item C)) Refusal
 item_then None place item others = Err (BadClause place)
 item_then (Some clause) place item (Err refusal) = Err refusal
@@ -74,7 +74,7 @@ abbrev pub items_from : {C : Type 0} → (ℕ → Option C) → ℕ → List Raw
 items_from numbered place [] = Ok []
 items_from numbered place (item ∷ items) = item_then (numbered item.clause) place item (items_from numbered (place + 1) items)
 
--- they were read so; where none is refused, memory may be wanted for their list
+-- they were read so; where none is refused, memory may be lacking for their list
 abbrev pub IsRead : {C : Type 0} → Result (List (Item C)) Refusal → Result (List (Item C)) Refusal → Type 0
 IsRead (Err refusal) result = result ≡ Err refusal
 IsRead (Ok items) result = (result ≡ Ok items) ⊎ (result ≡ Err (OfTable Memory))

@@ -9,12 +9,12 @@ use Rattle.lamwiest_c.specs.declared.queries.RawMapped.{RawMapped}
 use Rattle.lamwiest_c.specs.Environments.{DataEnvironment}
 use Rattle.lamwiest_c.specs.Answers.{Told}
 
--- the bytes stand in the buffer, where there are some; else the buffer stays as it was, and a refusal is told
+-- the bytes stand in the buffer, where there are some; else the buffer stays as it was, and C gets a refusal
 abbrev pub IsCopied : Option (List ℕ) → Refusal → List ℕ → List ℕ → Told → Type 0
 IsCopied None refusal old new T = T (Err refusal) × (new ≡ old)
 IsCopied (Some bytes) refusal old new T = T (Ok (length bytes)) × (new ≡ bytes)
 
--- ---- queries, which answer a status alone
+-- ---- queries, which return a status alone
 
 -- what was found stands in its place, or nothing was, and what stood there stays
 abbrev pub IsFoundOrAbsent : {A : Type 0} → Option A → ℕ → A → A → Type 0

@@ -1,4 +1,4 @@
--- What reading and writing the bytes of a lease comes to.
+-- The outcome of reading and writing the bytes of a lease.
 use Rattle.std.specs.Prelude.{ℕ, ◌≡◌, ◌==◌, List, length, slice_set, Err, Ok, MatchOption, MatchBool}
 use Rattle.std.specs.List.{position_or_len}
 use Rattle.acc_base.specs.declared.faults.Fault.TheVariants.{NoLease}
@@ -8,7 +8,7 @@ use Rattle.lamwiest_c.specs.declared.statuses.Refusal.TheVariants.{BadLength, Of
 use Rattle.lamwiest_c.specs.Environments.{DataEnvironment}
 use Rattle.lamwiest_c.specs.Answers.{Told, is_serial, lease_of}
 
--- a buffer as long as the lease has its bytes; another stays as it was, and the length that is wanted is told
+-- a buffer as long as the lease has its bytes; another stays as it was, and C gets the length that is expected
 abbrev pub IsLeaseRead : DataEnvironment → ℕ → List ℕ → List ℕ → Told → Type 0
 IsLeaseRead e serial old new T =
     MatchOption (lease_of serial e)

@@ -8,14 +8,14 @@ use Rattle.lamwiest_c.specs.declared.statuses.Refusal.TheVariants.{Ended, BadCla
 use Rattle.lamwiest_c.specs.Answers.{Told}
 
 -- the text is at the front of a buffer that has room for it, and the other bytes stay. A shorter one stays whole. The
--- length of the text is told
+-- text's length goes to C
 abbrev pub IsPut : List ℕ → List ℕ → List ℕ → Told → Type 0
 IsPut text old new T =
     MatchBool (nat_le (length text) (length old))
     (T (Ok (length text)) × (new ≡ text ++ drop (length text) old))
     (T (Err (BadLength (length text))) × (new ≡ old))
 
--- the same, where memory may be wanted for the text before that
+-- the same, where memory may be lacking for the text before that
 abbrev pub IsShown : List ℕ → List ℕ → List ℕ → Told → Type 0
 IsShown text old new T = (T (Err (OfTable Memory)) × (new ≡ old)) ⊎ IsPut text old new T
 

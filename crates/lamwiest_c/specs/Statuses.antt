@@ -58,7 +58,7 @@ abbrev pub fields_in : Result ℕ Refusal → FaultFields
 fields_in (Ok n) = record { status = 0; item = 0; value = 0 }
 fields_in (Err refusal) = fields_of refusal
 
--- the number that was answered, or what stood in its place
+-- the number that was returned, or what stood in its place
 abbrev pub number_after : Result ℕ Refusal → ℕ → ℕ
 number_after (Ok n) old = n
 number_after (Err refusal) old = old
@@ -92,7 +92,7 @@ refusal_with status item value =
 abbrev pub refusal_in : FaultFields → Option Refusal
 refusal_in fields = refusal_with fields.status fields.item fields.value
 
--- the call answered this status and these fields
+-- the call returned this status and these fields
 abbrev pub IsAnswered : ℕ → FaultFields → Result ℕ Refusal → Type 0
 IsAnswered status fields made = (status ≡ status_in made) × (fields ≡ fields_in made)
 

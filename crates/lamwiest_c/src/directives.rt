@@ -13,8 +13,8 @@ use crate::statuses::{FaultFields, Refusal, tell, tell_number};
 use acc_base::Directive;
 use std::alloc::Global;
 
-/// Enters a data region with these items: the start of a `data` construct (OpenACC 3.3, section 2.6.5). Where it is done,
-/// `region` is the number by which [`lw_exit`] exits from it.
+/// Enters a data region with these items: the start of a `data` construct (OpenACC 3.3, section 2.6.5). Where it is
+/// done, `region` is the number by which [`lw_exit`] exits from it.
 #[unsafe(no_mangle)]
 pub extern "C" fn lw_enter(
     alloc: Global,
@@ -74,8 +74,8 @@ pub extern "C" fn lw_enter_data(
     tell(made, fault)
 }
 
-/// The `exit data` directive (OpenACC 3.3, section 2.6.6), with the `finalize` clause or without it. The queue is as that
-/// of [`lw_enter_data`].
+/// The `exit data` directive (OpenACC 3.3, section 2.6.6), with the `finalize` clause or without it. The queue is as
+/// that of [`lw_enter_data`].
 #[unsafe(no_mangle)]
 pub extern "C" fn lw_exit_data(
     alloc: Global,
@@ -140,8 +140,8 @@ pub extern "C" fn lw_wait(
     tell_number(made, count, fault)
 }
 
-/// Makes the next transfer of a queue, as the device does while the host goes on (OpenACC 3.3, section 2.16). Where it is
-/// done, `count` is 1, or 0 where the queue was empty, which is no event.
+/// Makes the next transfer of a queue, as the device does while the host goes on (OpenACC 3.3, section 2.16). Where it
+/// is done, `count` is 1, or 0 where the queue was empty, which is no event.
 #[unsafe(no_mangle)]
 pub extern "C" fn lw_step(
     alloc: Global,

@@ -88,7 +88,7 @@ impl Environment {
         }
     }
 
-    /// Carries out a directive, and answers the number of its reply.
+    /// Carries out a directive, and returns the number of its reply.
     ///
     /// # Errors
     ///
@@ -99,7 +99,7 @@ impl Environment {
         self.make(Call::Do(directive))
     }
 
-    /// Enters a data region with the items of an array (OpenACC 3.3, section 2.6.5), and answers its number.
+    /// Enters a data region with the items of an array (OpenACC 3.3, section 2.6.5), and returns its number.
     ///
     /// # Errors
     ///
@@ -182,7 +182,7 @@ impl Environment {
         self.make(Call::HostWrite { addr, bytes })
     }
 
-    /// Makes what the table has its base, and answers how many events that folded; `Memory` is the only error.
+    /// Makes what the table has its base, and returns how many events that folded; `Memory` is the only error.
     pub fn rebase(&mut self) -> Result<u64, Refusal>
         ensures { IsRebased self.old (λ r. result ≡ r) self.new }
     {

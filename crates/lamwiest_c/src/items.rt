@@ -162,7 +162,7 @@ fn item_of<C: Clause>(clause: C, item: RawItem) -> Item<C>
     }
 }
 
-/// A clause number that is none of the directive's is told before want of memory for the list of items.
+/// A clause number that is none of the directive's is refused before lack of memory for the list of items.
 fn refusal_without_memory<C: Clause>(items: &[RawItem]) -> Refusal
     ensures { IsRead (items_from C.numbered 0 items.now) (Err result) }
 {
@@ -180,8 +180,8 @@ fn refusal_without_memory<C: Clause>(items: &[RawItem]) -> Refusal
 ///
 /// # Errors
 ///
-/// [`Refusal::BadClause`] at the first item whose clause number is none of the directive's; else `Memory` where there is
-/// none for the list.
+/// [`Refusal::BadClause`] at the first item whose clause number is none of the directive's; else `Memory` where there
+/// is none for the list.
 pub fn items_of<C: Clause>(alloc: Global, items: &[RawItem]) -> Result<List<Item<C>>, Refusal>
     ensures { IsRead (items_from C.numbered 0 items.now) result }
 {

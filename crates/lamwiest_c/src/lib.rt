@@ -1,7 +1,7 @@
 //! The data environment for C, C++ and Rust: a table behind a handle, and each of its calls under a name of its own.
-//! `include/lamwiest.h` declares them, and `docs/C.md` tells how the library is built, linked and used.
+//! `include/lamwiest.h` declares them, and `docs/C.md` says how the library is built, linked and used.
 //!
-//! Each export takes the table out of its handle, makes one call of it, and puts it back. It tells what came of it: a
+//! Each export takes the table out of its handle, makes one call of it, and puts it back. It returns the outcome: a
 //! status, and the fields of a refusal. Its contract says what the call says. It takes a [`Global`](std::alloc::Global)
 //! first, for which C passes nothing.
 //!

@@ -44,7 +44,7 @@ fn restore(call: Call, leases: &mut Vec<Lease>, at: usize)
     }
 }
 
-/// Puts the lease of a reply at the end of the list, where there is room for it, and answers the number of the reply.
+/// Puts the lease of a reply at the end of the list, where there is room for it, and returns the number of the reply.
 fn keep(reply: Reply, leases: &mut Vec<Lease>) -> u64
     requires room { vec_len leases.old + 1 ≤ vec_capacity leases.old }
     ensures value { result ≡ number_in reply }
@@ -64,7 +64,7 @@ fn keep(reply: Reply, leases: &mut Vec<Lease>) -> u64
 }
 
 impl Environment {
-    /// Lends the block of a section in an open data region, and answers the serial number of its lease.
+    /// Lends the block of a section in an open data region, and returns the serial number of its lease.
     fn lend(&mut self, region: u64, section: Section) -> Result<u64, Refusal>
         ensures { IsLent self.old region section (λ r. result ≡ r) self.new }
     {
@@ -154,8 +154,8 @@ pub extern "C" fn lw_lend(
     tell_number(made, lease, fault)
 }
 
-/// Brings a lease back, with its bytes as they were last written (OpenACC 3.3, section 2.5, compute constructs). A lease
-/// that is refused stays, with its bytes; one that was spent is `NoLease`.
+/// Brings a lease back, with its bytes as they were last written (OpenACC 3.3, section 2.5, compute constructs). A
+/// lease that is refused stays, with its bytes; one that was spent is `NoLease`.
 #[unsafe(no_mangle)]
 pub extern "C" fn lw_gather(
     alloc: Global,

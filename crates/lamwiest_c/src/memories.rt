@@ -47,8 +47,8 @@ impl Environment {
     }
 }
 
-/// The host writes bytes into its memory, from a host address on. The device's bytes stay as they are until an `update`,
-/// as OpenACC has it.
+/// The host writes bytes into its memory, from a host address on. The device's bytes stay as they are until an
+/// `update`, as OpenACC has it.
 #[unsafe(no_mangle)]
 pub extern "C" fn lw_host_write(
     alloc: Global,

@@ -1,5 +1,5 @@
-//! What a table tells of itself. No query takes memory, changes anything or is refused; where there is nothing to find,
-//! what stands in the place of the answer stays. What is asked of a device is asked of the one that a table of C has.
+//! The queries of a table. None allocates, changes anything or is refused. Where there is nothing to find, the place of
+//! the result keeps what it has. A query of a device is for the one that a table of C has.
 
 ghost use Rattle.std.specs.Prelude.{◌≡◌, Some, length, option_map};
 ghost use Rattle.acc_base.specs.Blocks.{used_bytes};
@@ -46,7 +46,7 @@ pub struct RawMapped {
     pub lent: u64,
 }
 
-/// A truth as a number.
+/// 1 for yes and 0 for no, as C reads them.
 fn number_of_bool(truth: bool) -> u64
     ensures { result ≡ number_of_bool truth }
 {
@@ -75,7 +75,7 @@ fn raw_mapped(mapped: Mapped) -> RawMapped
     }
 }
 
-/// Puts what was found into its place, and answers the status.
+/// Puts what was found into its place, and returns the status.
 pub fn found<T: Copy + Drop>(answer: Option<T>, place: &mut T) -> u32
     ensures { IsFoundOrAbsent answer result place.old place.new }
 {

@@ -1,4 +1,4 @@
-//! What a call answers C: a status, and the fields of a refusal.
+//! What a call returns to C: a status, and the fields of a refusal.
 
 ghost use Rattle.std.specs.Prelude.{◌≡◌, Option};
 ghost use Rattle.acc_base.specs.Faults.{number_of};
@@ -32,9 +32,9 @@ pub enum Refusal {
         /// The place of the item in the array, counted from 0.
         item: u64,
     },
-    /// The length of a buffer is not the one that is wanted.
+    /// The length of a buffer is not the one that is expected.
     BadLength {
-        /// The length that is wanted, in bytes.
+        /// The length that is expected, in bytes.
         len: u64,
     },
     /// There is no such thing.
@@ -219,7 +219,7 @@ impl<T: Drop> From<AllocFailed<T>> for Refusal {
     }
 }
 
-/// Tells C what came of a call: its status, the fields of its refusal, and the number that it answered. Of a refused
+/// Gives C the outcome of a call: its status, the fields of its refusal, and the number that it returned. Of a refused
 /// call the number stays as it was.
 pub fn tell_number(made: Result<u64, Refusal>, number: &mut u64, fault: &mut FaultFields) -> u32
     ensures status { result ≡ status_in made }
@@ -232,7 +232,7 @@ pub fn tell_number(made: Result<u64, Refusal>, number: &mut u64, fault: &mut Fau
     tell(made, fault)
 }
 
-/// Tells C what came of a call that answers no number: its status, and the fields of its refusal.
+/// Gives C the outcome of a call that returns no number: its status, and the fields of its refusal.
 pub fn tell(made: Result<u64, Refusal>, fault: &mut FaultFields) -> u32
     ensures status { result ≡ status_in made }
     ensures fields { fault.new ≡ fields_in made }

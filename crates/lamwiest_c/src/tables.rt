@@ -83,8 +83,8 @@ pub extern "C" fn lw_limits_default(limits: &mut RawLimits)
     };
 }
 
-/// Puts a new table into a handle: nothing is mapped, no region is open, and host memory is zero. What the handle had is
-/// ended. Where it is refused, the handle stays as it is.
+/// Puts a new table into a handle: nothing is mapped, no region is open, and host memory is zero. What the handle had
+/// is ended. Where it is refused, the handle stays as it is.
 #[unsafe(no_mangle)]
 pub extern "C" fn lw_table_new(
     alloc: Global,
@@ -112,7 +112,7 @@ pub extern "C" fn lw_table_end(alloc: Global, table: &mut Handle)
 }
 
 /// Makes what the table has its base, and empties the stored trace, so that there is room in it again. It is no event,
-/// and every query answers as before. Where it is done, `folded` is how many events the trace had.
+/// and every query returns what it did before. Where it is done, `folded` is how many events the trace had.
 #[unsafe(no_mangle)]
 pub extern "C" fn lw_rebase(
     alloc: Global,

@@ -31,7 +31,7 @@ impl fmt::Display for Refusal {
     }
 }
 
-/// Puts a text at the front of a buffer that is long enough for it, and answers its length in bytes.
+/// Puts a text at the front of a buffer that is long enough for it, and returns its length in bytes.
 ///
 /// # Errors
 ///

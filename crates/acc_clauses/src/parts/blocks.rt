@@ -1,4 +1,4 @@
-//! What the parts tell of device blocks and of loans.
+//! Queries of the parts for device blocks and loans.
 
 ghost use Rattle.std.specs.Prelude.{◌≡◌, ◌+◌, ◌++◌, All, length};
 ghost use Rattle.acc_base.specs.Limits.{IsFromOne};
@@ -33,8 +33,8 @@ impl Parts {
         }
     }
 
-    /// Where a block of `len` bytes would lie after births at the listed places and of the listed lengths. `None` exactly
-    /// where it fits nowhere.
+    /// Where a block of `len` bytes would lie after births at the listed places and of the listed lengths. `None`
+    /// exactly where it fits nowhere.
     pub(crate) fn would_take(&self, listed: &[(u64, u64)], len: u64) -> Option<u64>
         requires len { IsFromOne MEMORY_MAX len }
         requires listed { All (IsTakeBelow (end_of (device_memory self.now.limits))) listed.now }
@@ -72,8 +72,8 @@ impl Parts {
     }
 
     /// Whether a lease brings back a block of the device that is lent. The lease is of this device, and has the serial
-    /// number, the block and the section of the loan. It has as many bytes as the block, and with full traces those that
-    /// were kept outside of the section.
+    /// number, the block and the section of the loan. It has as many bytes as the block, and with full traces those
+    /// that were kept outside of the section.
     pub(crate) fn is_returnable(&self, lease: &Lease) -> bool
         ensures { result ≡ is_returnable self.now.limits.full self.now.limits.number lease.now self.now.state.records.blocks self.now.state.records.loans self.now.state.memories }
     {

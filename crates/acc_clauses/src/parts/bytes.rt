@@ -44,7 +44,8 @@ impl Parts {
         address
     }
 
-    /// The address that a pointer in a block holds on the device, where the block, which is not lent, has its eight bytes.
+    /// The address that a pointer in a block holds on the device, where the block, which is not lent, has its eight
+    /// bytes.
     pub(crate) fn device_pointer(&self, block: u64, pointer: u64, hint: Hint) -> u64
         ensures { block_with pointer self.now.state.records.ranges ≡ Some block → is_lent block self.now.state.records.loans ≡ false → result ≡ device_pointer block pointer self.now.state }
     {

@@ -1,4 +1,4 @@
-//! What changes the parts. Nothing is judged here; making room alone takes memory, and nothing else is refused.
+//! What changes the parts. Nothing is judged here; making room alone allocates, and nothing else is refused.
 
 ghost use Rattle.std.specs.Prelude.{◌≡◌, ◌^◌, ◌<◌, ◌≤◌, All, IfOk, IfErr, OnOk, OnErr, IsSome, None, Ok, length, take, true, false};
 ghost use Rattle.acc_base.specs.declared.faults.Fault.TheVariants.{Memory};
@@ -27,8 +27,8 @@ use acc_lend::Lease;
 use acc_present::Hint;
 
 impl Parts {
-    /// Does what a task is judged to do, where there is room for it. It takes no memory and is never refused. The hint is
-    /// of the range of the task.
+    /// Does what a task is judged to do, where there is room for it. It allocates nothing and is never refused. The
+    /// hint is of the range of the task.
     pub(crate) fn act(&mut self, task: Task, did: Did, hint: Hint)
         requires judged { IsJudged self.old.limits task did self.old.state.records }
         requires known { IsKnown self.old.state.records task }
@@ -43,7 +43,8 @@ impl Parts {
         act_on(&mut self.environment, &mut self.host, task, did, hint);
     }
 
-    /// Makes the first transfer of a queue, if it has one; its block is not lent. It takes no memory and is never refused.
+    /// Makes the first transfer of a queue, if it has one; its block is not lent. It allocates nothing and is never
+    /// refused.
     pub(crate) fn step(&mut self, q: u64)
         requires free { none_lent (take 1 (queue_at q self.old.state.records.queues)) self.old.state.records.loans ≡ Ok tt }
         ensures limits { self.new.limits ≡ self.old.limits }
@@ -53,12 +54,13 @@ impl Parts {
         step(&mut self.environment, &mut self.host, q);
     }
 
-    /// Makes room for births of blocks of these lengths, in this order, for so many regions, the next of which has so many
-    /// holdings, and for so many attachment counters. Nothing else changes, also where it is refused.
+    /// Makes room for births of blocks of these lengths, in this order. It also makes room for so many regions, the
+    /// next of which has so many holdings, and for so many attachment counters. Nothing else changes, also where it is
+    /// refused.
     ///
     /// # Errors
     ///
-    /// [`Fault::Memory`] alone, where some of that room was missing; the bytes of a birth are always made anew.
+    /// [`Fault::Memory`] alone, where some of that room was missing. The bytes of a birth are always made anew.
     pub(crate) fn reserve(
         &mut self,
         lens: &[u64],
@@ -107,7 +109,7 @@ impl Parts {
         self.environment.queues.reserve(q, puts)
     }
 
-    /// Opens a region of the next number with these holdings, where there is room for them. It takes no memory.
+    /// Opens a region of the next number with these holdings, where there is room for them. It allocates nothing.
     pub(crate) fn enter(&mut self, holdings: &[Holding])
         requires next { self.old.state.register.next < 2 ^ 48 }
         requires new { region_at self.old.state.register.next self.old.state.register.regions ≡ None }
@@ -143,8 +145,9 @@ impl Parts {
         };
     }
 
-    /// Moves the bytes of a block that is not lent into a lease, for a loan under the next serial number of a section that
-    /// lies in the range of the block. The lease tells the number of the device. With full traces a copy of the bytes stays.
+    /// Moves the bytes of a block that is not lent into a lease, for a loan under the next serial number. The section
+    /// lies in the range of the block. The lease has the number of the device. With full traces a copy of the bytes
+    /// stays.
     ///
     /// # Errors
     ///
@@ -171,7 +174,7 @@ impl Parts {
         Ok(lease)
     }
 
-    /// Moves the bytes of a lease back into its block. It takes no memory and is never refused.
+    /// Moves the bytes of a lease back into its block. It allocates nothing and is never refused.
     pub(crate) fn gather(&mut self, lease: Lease)
         requires { is_returnable self.old.limits.full self.old.limits.number lease self.old.state.records.blocks self.old.state.records.loans self.old.state.memories ≡ true }
         ensures limits { self.new.limits ≡ self.old.limits }

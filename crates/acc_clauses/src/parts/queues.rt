@@ -1,4 +1,4 @@
-//! What the parts tell of queues.
+//! Queries of the parts for queues.
 
 ghost use Rattle.std.specs.Prelude.{◌≡◌, ◌≤◌, length, option_map, slice_get};
 ghost use Rattle.acc_base.specs.Queues.{queue_at, head_of};

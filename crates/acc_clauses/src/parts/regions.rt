@@ -1,4 +1,4 @@
-//! What the parts tell of open data regions.
+//! Queries of the parts for open data regions.
 
 ghost use Rattle.std.specs.Prelude.{◌≡◌, MatchOption, None, Some};
 ghost use Rattle.acc_base.specs.Register.{holdings_at};

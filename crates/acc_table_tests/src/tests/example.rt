@@ -12,7 +12,7 @@ fn new_table(alloc: Global) -> Result<Table, Fault> {
     Table::new(alloc, config)
 }
 
-/// Maps the first 20 bytes of host memory, and answers how many bytes of the device are in use then.
+/// Maps the first 20 bytes of host memory, and returns how many bytes of the device are in use then.
 fn map_one_array(table: &mut Table, alloc: Global) -> Result<u64, Fault> {
     let section = Section {
         start: HOST_BASE,

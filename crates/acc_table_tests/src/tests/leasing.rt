@@ -52,7 +52,7 @@ fn came_back(rt: &impl Abort, row: &str, call: Call, before: ToldBy) {
     }
 }
 
-/// Brings a lease back, and answers what that is refused for.
+/// Brings a lease back, and returns what that is refused for.
 fn gather(rt: &impl Abort, row: &str, table: &mut Table, lease: Lease) -> Option<Fault> {
     let before = told_by(&lease);
     match apply_twice(rt, row, table, Call::Gather(lease)) {

@@ -19,7 +19,7 @@ pub struct Play {
     pub limits: Limits,
     /// The number of the line that is played, counted from 1.
     pub line: usize,
-    /// Its table.
+    /// The table on which the lines are played.
     pub table: Box<Table>,
     /// The leases that are out.
     pub leases: Vec<Lease>,
@@ -153,7 +153,7 @@ fn keep(rt: &impl Abort, leases: &mut Vec<Lease>, lease: Lease) {
     }
 }
 
-/// The answer of a turn whose call is answered so.
+/// The answer to a turn whose call has this outcome.
 fn answer_of(rt: &impl Abort, reply: Reply, leases: &mut Vec<Lease>) -> Answer {
     let (number, count) = match reply {
         Reply::Done => (0, 0),
@@ -196,7 +196,7 @@ fn run_twice(rt: &(impl Abort + AllocGlobal), play: &mut Play, ask: Ask) -> Resu
     }
 }
 
-/// Makes a call, and answers what a turn would be answered.
+/// Makes a call, and returns what the answer to a turn would be.
 fn make(rt: &impl Abort, play: &mut Play, call: Call, spares: bool) -> Answer {
     let answer = if spares {
         play.table.apply(call)
@@ -288,7 +288,7 @@ pub fn play_other(
     Ok(())
 }
 
-/// Plays a line.
+/// Makes the call of a line, or asks its queries, and compares.
 fn play_line(rt: &(impl Abort + AllocGlobal), play: &mut Play, line: Line) -> Result<(), Fault> {
     play.line = play.line.saturating_add(1);
     match asked(line) {

@@ -3,6 +3,6 @@ use Rattle.std.specs.List.{flat_map}
 use Rattle.acc_base.specs.Loans.{none_lent}
 use Rattle.acc_clauses.proofs.lending.wait_free.Given as goal
 
--- the queues that are left tell what all of them tell
+-- the queues that are left decide as all of them do
 abbrev pub invariant-loop-q : goal.invariant-loop-q
 invariant-loop-q l = none_lent (flat_map (λ transfers. transfers) (drop l.q l.parts.state.records.queues)) l.parts.state.records.loans ≡ none_lent (flat_map (λ transfers. transfers) l.parts.state.records.queues) l.parts.state.records.loans

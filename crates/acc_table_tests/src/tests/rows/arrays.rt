@@ -1,4 +1,4 @@
-//! The life of an array, and what the queries tell of it.
+//! The life of an array, and what the queries return of it.
 
 use crate::language::Ask::{EnterData, ExitData, Update, UpdateIfPresent, Write};
 use crate::language::Check::{
@@ -14,7 +14,7 @@ use acc_base::UpdateClause::{ToDevice, ToSelf};
 use acc_base::{Fault, Found, Step};
 use acc_table::Mapped;
 
-/// The rows.
+/// Each shows one part of the life of an array.
 pub const ROWS: &[Row] = &[
     Row {
         name: "the trace has the step of each event",

@@ -9,7 +9,7 @@ use acc_base::EnterClause::Copyin;
 use acc_base::RegionClause;
 use acc_base::UpdateClause::ToSelf;
 
-/// The rows.
+/// Each shows what one kind of trace stores.
 pub const ROWS: &[Row] = &[
     Row {
         name: "a full trace stores the bytes of a write, and those that a kernel leaves",

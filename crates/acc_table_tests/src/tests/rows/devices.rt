@@ -37,7 +37,7 @@ const MANY: &[(EnterClause, u64, u64)] = &[(Copyin, A, 1); 65];
 /// What another table does, which lends the first block of a device.
 const LENDING: &[Ask] = &[EnterData(&[(Copyin, A, 16)]), Enter(&[]), Lend(1, (A, 16))];
 
-/// The rows.
+/// Each shows what devices have alone or together.
 pub const ROWS: &[Row] = &[
     Row {
         name: "an array is mapped on each device by itself, at addresses of that device",
@@ -165,7 +165,7 @@ pub const ROWS: &[Row] = &[
     },
 ];
 
-/// What is counted over all devices, and what is told of one that is not there.
+/// What is counted over all devices, and what queries return of one that is not there.
 pub const MANY_ROWS: &[Row] = &[
     Row {
         name: "a device that is not there is told behind too many items, and before an unknown queue and each item",

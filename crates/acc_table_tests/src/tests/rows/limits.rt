@@ -1,4 +1,4 @@
-//! Limits: each holds to the last, and a refusal of the limit is told in its turn.
+//! Limits: each holds to the last, and its refusal comes in its turn.
 
 use crate::language::Ask::{Back, Enter, EnterData, Exit, ExitData, Lend, Update, Write};
 use crate::language::Check::{Counted, Events, Host, Present, TicketBook, Used};
@@ -14,7 +14,7 @@ const NO_TICKET: Fault = Fault::NoTickets { left: 0 };
 
 const NO_ROOM: Fault = Fault::TraceFull { len: 1 };
 
-/// The rows.
+/// Each shows one limit, met and passed.
 pub const ROWS: &[Row] = &[
     Row {
         name: "one ticket makes one event, and is told before the items are counted",

@@ -27,7 +27,8 @@ const REGION: Ask = Enter(&[]);
 
 const LEND_MIDDLE: Ask = Lend(1, (A + 4, 8));
 
-/// What another table does. Its lease is of the same loan, a longer block, a second loan, a second block, the first bytes, or the last ones.
+/// What another table does. Its lease is of the same loan, a longer block, a second loan, a second block, the first
+/// bytes, or the last ones.
 const OF_THE_BLOCK: &[Ask] = &[ARRAY, REGION, Lend(1, (A, 16))];
 
 const OF_A_LONGER_BLOCK: &[Ask] = &[EnterData(&[(Copyin, A, 32)]), REGION, Lend(1, (A, 16))];
@@ -54,7 +55,7 @@ const OF_ITS_END: &[Ask] = &[ARRAY, REGION, Lend(1, (A + 1, 15))];
 /// Two sections of 16 bytes side by side.
 const TWO: &[(EnterClause, u64, u64)] = &[(Copyin, A, 16), (Copyin, A + 16, 16)];
 
-/// The rows.
+/// Each shows what a lent block is refused, or how it comes back.
 pub const ROWS: &[Row] = &[
     Row {
         name: "a block that is lent is neither copied nor let go, and can be entered; its bytes come back with the lease",

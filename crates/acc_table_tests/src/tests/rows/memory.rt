@@ -38,7 +38,7 @@ const THREE_POINTERS: &[u8] = &[
     0, 0x20, 0, 0, 0, 0, 0, 0, 0x10, 0x20, 0, 0, 0, 0, 0, 0, 0x20, 0x20, 0, 0, 0, 0, 0, 0,
 ];
 
-/// The rows.
+/// Each is of a size or a number that is not small.
 pub const ROWS: &[Row] = &[
     Row {
         name: "blocks of 17 and of 4,096 bytes are lent and come back, with a full trace",

@@ -47,7 +47,7 @@ const CLEARED: Aim = Aim::Cleared {
 /// Both arrays.
 const BOTH: Ask = EnterData(&[(Copyin, A, 16), (Copyin, B, 16)]);
 
-/// The rows.
+/// Each shows an attachment or a detachment.
 pub const ROWS: &[Row] = &[
     Row {
         name: "each item's pointer is attached in what the items before it leave",

@@ -12,7 +12,7 @@ use acc_base::ExitClause::Copyout;
 use acc_base::UpdateClause::{ToDevice, ToSelf};
 use acc_base::{Ended, Fault, Hole};
 
-/// The rows.
+/// Each shows transfers that wait or are made.
 pub const ROWS: &[Row] = &[
     Row {
         name: "a queue has as many transfers as the limit says, also within one directive",

@@ -18,10 +18,10 @@ const SHORT: Limits = Limits {
     ..WIDE
 };
 
-/// A write of no bytes wants no memory but room in the trace.
+/// A write of no bytes needs no memory but room in the trace.
 const NO_BYTES: Ask = Write(A, &[]);
 
-/// The rows.
+/// Each shows what a rebase leaves.
 pub const ROWS: &[Row] = &[
     Row {
         name: "a full trace has room after a rebase",

@@ -11,7 +11,7 @@ use acc_base::EnterClause::Copyin;
 use acc_base::ExitClause::Copyout;
 use acc_base::{Fault, RegionClause, Step};
 
-/// The rows.
+/// Each shows what an open region holds.
 pub const ROWS: &[Row] = &[
     Row {
         name: "as many regions are open as the limit says, and a refused entry uses no number",

@@ -45,7 +45,8 @@ use Rattle.acc_lend.proofs.slices.cut.Met.{met as cut_met}
 use Rattle.acc_lend.specs.contracts.taking.Parts.handed as handed
 use Rattle.acc_lend.proofs.taking.Parts.handed.Met.{met as handed_met}
 
--- `next_part` takes `self` apart and makes two calls. That the bytes that are left end as those of the part and of the parts after it is said by `cut` of its pair, and `handed` keeps the names of the pair's borrows.
+-- `next_part` takes `self` apart and makes two calls. `cut` says of its pair that the bytes that are left end as those
+-- of the part and of the parts after it. `handed` keeps the names of the pair's borrows.
 
 abbrev stayed : Stays f.ended.signature.params f.ended.kept
 stayed = (stay_dropped _ no, tt)

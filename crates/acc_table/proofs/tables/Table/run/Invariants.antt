@@ -4,7 +4,7 @@ use Rattle.acc_table.specs.Turns.{IsRun}
 use Rattle.acc_table.specs.Turning.{lends_in}
 use Rattle.acc_table.proofs.tables.Table.run.Given as goal
 
--- the turns so far led here, with one answer each, and there is room for all answers and for a lease of each loan to come
+-- the turns so far led here, with one answer each. There is room for all answers and for a lease of each loan to come
 abbrev pub invariant-loop-turn : goal.invariant-loop-turn
 invariant-loop-turn l = record {
   next : (goal.iterator-loop-turn).can_next l.turn-iterator;

@@ -1,6 +1,6 @@
-/* Broken runtimes: libgomp of GCC 12 with one mistake each. The library is preloaded, BROKEN names the mistake, and each
-   call of a program goes on to libgomp, but for what the mistake changes. So a suite of programs can be tried: some
-   program has to see each mistake. README.md says more. BROKEN=none changes nothing; BROKEN=list prints all mistakes.
+/* Broken runtimes: libgomp of GCC 12 with one mistake each. The library is preloaded, BROKEN names the mistake, and
+   each call of a program goes on to libgomp, but for what the mistake changes. So a suite of programs can be tried:
+   some program has to see each mistake. README.md says more. BROKEN=none changes nothing; BROKEN=list prints all mistakes.
 
    The programs are of one thread, and have no `wait` clause on another directive, and no attach clause. */
 #define _GNU_SOURCE
@@ -17,6 +17,7 @@
 #define MISTAKES(MISTAKE)                                                                                              \
     MISTAKE(none, "nothing")                                                                                           \
     MISTAKE(attach_ignored, "acc_attach does nothing")                                                                 \
+    MISTAKE(attach_of_mapping, "acc_attach takes the first byte of the mapping for the target")                        \
     MISTAKE(detach_ignored, "acc_detach and acc_detach_finalize do nothing")                                           \
     MISTAKE(detach_at_once, "acc_detach sets the attachment counter to zero")                                          \
     MISTAKE(detach_finalize_once, "acc_detach_finalize takes one away")                                                \
@@ -194,8 +195,15 @@ static void widen(void **start, size_t *length)
 
 void acc_attach(void **pointer)
 {
+    size_t length = 1;
     if (!is(attach_ignored))
         NEXT(acc_attach)(pointer);
+    if (is(attach_of_mapping) && is_present(pointer, sizeof *pointer) && is_present(*pointer, length)) {
+        void *target = *pointer;
+        widen(&target, &length);
+        target = NEXT(acc_deviceptr)(target);
+        NEXT(acc_memcpy_to_device)(NEXT(acc_deviceptr)(pointer), &target, sizeof target);
+    }
 }
 
 void acc_detach_finalize(void **pointer)

@@ -1,9 +1,10 @@
 /* A device for libgomp of GCC 12 whose memory is its own, so that data directives do on it what they do on a discrete
-   accelerator. The runtime is libgomp's, with its table, counters and queues. This file gives it memory, and copies bytes.
-   Kernels run on the host, with device addresses. README.md says how it is used. It is for programs of one thread.
+   accelerator. The runtime is libgomp's, with its table, counters and queues. This file gives it memory, and copies
+   bytes. Kernels run on the host, with device addresses. README.md says how it is used.
 
    The functions GOMP_OFFLOAD_* are those that libgomp asks of a plugin; the declarations are those of GCC 12. */
 #define _GNU_SOURCE
+#include <pthread.h>
 #include <stdbool.h>
 #include <stddef.h>
 #include <stdint.h>
@@ -27,15 +28,16 @@ union goacc_property_value {
 /* ---- Device memory: units of 16 bytes, given out at the least address. A unit that nothing has filled has the byte
    0xa5, and one that was given back 0x5a. */
 
-enum { UNIT = 16, NEW = 0xa5, OLD = 0x5a };
+enum { UNIT = 16, NEW = 0xa5, OLD = 0x5a, FREE = 0, FIRST, MORE };
 
 /* Where the memory begins, if the system has room there. */
 #define FIRST_ADDRESS 0x100000000ul
 
 static unsigned char *memory;
 static size_t units;
-static enum { FREE, FIRST, MORE } *use;
+static unsigned char *use; /* of each unit: FREE, or the FIRST or one MORE of a block */
 static size_t least_free;
+static pthread_mutex_t of_memory = PTHREAD_MUTEX_INITIALIZER;
 static bool is_eager, has_totals;
 static size_t births, ends, copies_in, copies_out, units_used;
 
@@ -52,10 +54,9 @@ static bool make_memory(void)
     return true;
 }
 
-void *GOMP_OFFLOAD_alloc(int device, size_t size)
+static void *take(size_t wanted)
 {
-    size_t wanted = size == 0 ? 1 : (size + UNIT - 1) / UNIT, found = 0, unit = least_free;
-    (void)device;
+    size_t found = 0, unit = least_free;
     while (unit < units && found < wanted) {
         found = use[unit] == FREE ? found + 1 : 0;
         unit++;
@@ -63,8 +64,8 @@ void *GOMP_OFFLOAD_alloc(int device, size_t size)
     if (found < wanted)
         return NULL;
     unit -= wanted;
-    for (size_t i = 0; i < wanted; i++)
-        use[unit + i] = i == 0 ? FIRST : MORE;
+    memset(use + unit, MORE, wanted);
+    use[unit] = FIRST;
     if (unit == least_free)
         least_free = unit + wanted;
     memset(memory + unit * UNIT, NEW, wanted * UNIT);
@@ -73,12 +74,8 @@ void *GOMP_OFFLOAD_alloc(int device, size_t size)
     return memory + unit * UNIT;
 }
 
-bool GOMP_OFFLOAD_free(int device, void *block)
+static bool give_back(size_t unit)
 {
-    size_t unit = block == NULL ? 0 : (size_t)((unsigned char *)block - memory) / UNIT;
-    (void)device;
-    if (block == NULL)
-        return true;
     if (unit >= units || use[unit] != FIRST)
         return false;
     if (unit < least_free)
@@ -91,6 +88,28 @@ bool GOMP_OFFLOAD_free(int device, void *block)
     } while (unit < units && use[unit] == MORE);
     ends++;
     return true;
+}
+
+void *GOMP_OFFLOAD_alloc(int device, size_t size)
+{
+    void *block;
+    (void)device;
+    pthread_mutex_lock(&of_memory);
+    block = take(size == 0 ? 1 : (size - 1) / UNIT + 1);
+    pthread_mutex_unlock(&of_memory);
+    return block;
+}
+
+bool GOMP_OFFLOAD_free(int device, void *block)
+{
+    bool is_block;
+    (void)device;
+    if (block == NULL)
+        return true;
+    pthread_mutex_lock(&of_memory);
+    is_block = give_back((size_t)((unsigned char *)block - memory) / UNIT);
+    pthread_mutex_unlock(&of_memory);
+    return is_block;
 }
 
 /* ---- The device */

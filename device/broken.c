@@ -1,6 +1,7 @@
 /* Broken runtimes: libgomp of GCC 12 with one mistake each. The library is preloaded, BROKEN names the mistake, and
    each call of a program goes on to libgomp, but for what the mistake changes. So a suite of programs can be tried:
-   some program has to see each mistake. README.md says more. BROKEN=none changes nothing; BROKEN=list prints all mistakes.
+   some program has to see each mistake. README.md says more. BROKEN=none changes nothing, and BROKEN=list prints all
+   mistakes.
 
    The programs are of one thread, and have no `wait` clause on another directive, and no attach clause. */
 #define _GNU_SOURCE

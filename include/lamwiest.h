@@ -18,7 +18,6 @@
 #ifndef LAMWIEST_H
 #define LAMWIEST_H
 
-#include <stdbool.h>
 #include <stddef.h>
 #include <stdint.h>
 
@@ -95,7 +94,7 @@ typedef struct lw_limits {
     uint64_t counter_max; /* the greatest value of a counter: 1 to 4,294,967,295 */
     uint64_t queue_cap;   /* how many transfers may wait in one queue: 1 to 4,096 */
     uint64_t trace_cap;   /* how many events the stored trace may have: 1 to 16,777,216 */
-    bool full;            /* whether the trace stores the bytes that calls bring, too */
+    uint64_t full;        /* 1 where the trace stores the bytes that calls bring, too; else 0 */
 } lw_limits;
 
 /* The limits that the program accrun gives its tables: two memories of 65,536 bytes, and room for 262,144 events. */
@@ -159,12 +158,12 @@ uint32_t lw_exit(lw_table *table, uint64_t region, lw_fault *fault);
 /* enter data (section 2.6.6). With async its copies wait in a queue, from 0 to 15 (section 2.16). */
 uint32_t lw_enter_data(lw_table *table, const lw_item *items, size_t count, uint64_t queue, lw_fault *fault);
 
-/* exit data (section 2.6.6), with the finalize clause or without it. */
-uint32_t lw_exit_data(lw_table *table, const lw_item *items, size_t count, bool finalize, uint64_t queue,
+/* exit data (section 2.6.6), without the finalize clause where that is 0, and else with it. */
+uint32_t lw_exit_data(lw_table *table, const lw_item *items, size_t count, uint32_t finalize, uint64_t queue,
                       lw_fault *fault);
 
-/* update, with the if_present clause or without it. */
-uint32_t lw_update(lw_table *table, const lw_item *items, size_t count, bool if_present, uint64_t queue,
+/* update, without the if_present clause where that is 0, and else with it. */
+uint32_t lw_update(lw_table *table, const lw_item *items, size_t count, uint32_t if_present, uint64_t queue,
                    lw_fault *fault);
 
 /* wait: all copies of a queue are made, or those of all queues. made: how many they were. LW_LENT where the block of

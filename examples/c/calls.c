@@ -52,7 +52,7 @@ typedef struct row {
     uint64_t region;
     uint64_t len;
     uint64_t bytes;
-    bool option; /* finalize, or if_present */
+    uint32_t option; /* finalize, or if_present */
     uint32_t status;
     uint64_t item;
     uint64_t value;
@@ -438,7 +438,7 @@ static const row USUAL[] = {
     {"update with a clause of data", update, {{LW_SELF, A, 8, 0}, {LW_COPYIN, A, 8, 0}}, 2, .queue = NO_QUEUE,
      REFUSED(LW_BAD_CLAUSE, 1, 0)},
     {"update of an absent section", update, {{LW_SELF, C, 8, 0}}, 1, .queue = NO_QUEUE, REFUSED(LW_NOT_PRESENT, 0, 0)},
-    {"update of it if_present", update, {{LW_SELF, C, 8, 0}}, 1, .queue = NO_QUEUE, .option = true, DONE},
+    {"update of it if_present", update, {{LW_SELF, C, 8, 0}}, 1, .queue = NO_QUEUE, .option = 1, DONE},
     {"which did nothing", did, .at = 0, ANSWERS(0)},
     {"and copied nothing", did_copy, .at = 0, ANSWERS(0)},
 
@@ -476,7 +476,7 @@ static const row USUAL[] = {
     {"what it did", did, .at = 0, ANSWERS(DID(LW_DROPPED, 0, 2, 0, UINT64_C(0)))},
     {"dynamic counter after one exit", dynamic, .at = B, .len = 16, ANSWERS(1)},
     {"enter data again", enter_data, {{LW_CREATE, B, 16, 0}}, 1, .queue = NO_QUEUE, DONE},
-    {"exit data finalize", exit_data, {{LW_COPYOUT, B, 16, 0}}, 1, .queue = NO_QUEUE, .option = true, DONE},
+    {"exit data finalize", exit_data, {{LW_COPYOUT, B, 16, 0}}, 1, .queue = NO_QUEUE, .option = UINT32_MAX, DONE},
     {"what it did", did, .at = 0, ANSWERS(DID(LW_ENDED_RANGE, 0, 2, 0, UINT64_C(0)))},
     {"what it copied", did_copy, .at = 0, ANSWERS(COPIED(LW_OUT, 16, 0, 0))},
     {"its range is there no more", range_at, .at = B, REFUSED(LW_ABSENT, 0, 0)},
@@ -592,11 +592,11 @@ typedef struct scene {
 
 static const scene SCENES[] = {
     {"usual", {HOST_SIZE, 64, 2, 1000, 2, 1, 1000, false}, ROWS(USUAL)},
-    {"usual, full traces", {HOST_SIZE, 64, 2, 1000, 2, 1, 1000, true}, ROWS(USUAL)},
+    {"usual, full traces", {HOST_SIZE, 64, 2, 1000, 2, 1, 1000, 1}, ROWS(USUAL)},
     {"few events", {HOST_SIZE, 64, 2, 3, 2, 1, 1, false}, ROWS(FEW_EVENTS)},
-    {"few events, full traces", {HOST_SIZE, 64, 2, 3, 2, 1, 1, true}, ROWS(FEW_EVENTS)},
+    {"few events, full traces", {HOST_SIZE, 64, 2, 3, 2, 1, 1, 1}, ROWS(FEW_EVENTS)},
     {"several leases", {32768, 32768, 3, 1000, 2, 1, 1000, false}, ROWS(SEVERAL)},
-    {"several leases, full traces", {32768, 32768, 3, 1000, 2, 1, 1000, true}, ROWS(SEVERAL)},
+    {"several leases, full traces", {32768, 32768, 3, 1000, 2, 1, 1000, 1}, ROWS(SEVERAL)},
 };
 
 static unsigned wrong;
@@ -776,6 +776,7 @@ static const struct {
     {"counter_max", offsetof(lw_limits, counter_max), 1, UINT64_C(4294967295)},
     {"queue_cap", offsetof(lw_limits, queue_cap), 1, 4096},
     {"trace_cap", offsetof(lw_limits, trace_cap), 1, 16777216},
+    {"full", offsetof(lw_limits, full), 0, 1},
 };
 
 /* What a table with one limit other than the default answers. A table that it had stays where it is refused. */

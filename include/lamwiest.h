@@ -18,13 +18,20 @@
 #ifndef LAMWIEST_H
 #define LAMWIEST_H
 
-#include <stdbool.h>
 #include <stddef.h>
 #include <stdint.h>
 
 #ifdef __cplusplus
 extern "C" {
 #endif
+
+/* ---- Versions ---- */
+
+/* The version of this header, 0.1.0: a million times the first number, a thousand times the second, and the third. */
+#define LW_VERSION 1000
+
+/* The version of the library that the program is linked with. */
+uint32_t lw_version(void);
 
 /* ---- Statuses ---- */
 
@@ -87,7 +94,7 @@ typedef struct lw_limits {
     uint64_t counter_max; /* the greatest value of a counter: 1 to 4,294,967,295 */
     uint64_t queue_cap;   /* how many transfers may wait in one queue: 1 to 4,096 */
     uint64_t trace_cap;   /* how many events the stored trace may have: 1 to 16,777,216 */
-    bool full;            /* whether the trace stores the bytes that calls bring, too */
+    uint64_t full;        /* 1 where the trace stores the bytes that calls bring, too; else 0 */
 } lw_limits;
 
 /* The limits that the program accrun gives its tables: two memories of 65,536 bytes, and room for 262,144 events. */
@@ -151,12 +158,12 @@ uint32_t lw_exit(lw_table *table, uint64_t region, lw_fault *fault);
 /* enter data (section 2.6.6). With async its copies wait in a queue, from 0 to 15 (section 2.16). */
 uint32_t lw_enter_data(lw_table *table, const lw_item *items, size_t count, uint64_t queue, lw_fault *fault);
 
-/* exit data (section 2.6.6), with the finalize clause or without it. */
-uint32_t lw_exit_data(lw_table *table, const lw_item *items, size_t count, bool finalize, uint64_t queue,
+/* exit data (section 2.6.6), without the finalize clause where that is 0, and else with it. */
+uint32_t lw_exit_data(lw_table *table, const lw_item *items, size_t count, uint32_t finalize, uint64_t queue,
                       lw_fault *fault);
 
-/* update, with the if_present clause or without it. */
-uint32_t lw_update(lw_table *table, const lw_item *items, size_t count, bool if_present, uint64_t queue,
+/* update, without the if_present clause where that is 0, and else with it. */
+uint32_t lw_update(lw_table *table, const lw_item *items, size_t count, uint32_t if_present, uint64_t queue,
                    lw_fault *fault);
 
 /* wait: all copies of a queue are made, or those of all queues. made: how many they were. LW_LENT where the block of
@@ -233,6 +240,9 @@ uint32_t lw_attachment(lw_table *table, uint64_t pointer, uint64_t *count);
 /* The mapped range of least start at or above a host address. LW_ABSENT where there is none. */
 uint32_t lw_mapped(lw_table *table, uint64_t from, lw_mapped_range *mapped);
 
+/* The mapped range that a host address is in. LW_ABSENT where it is in none. */
+uint32_t lw_range_at(lw_table *table, uint64_t address, lw_mapped_range *mapped);
+
 /* len: how many copies wait in a queue; 0 where there is no such queue. */
 uint32_t lw_queue_len(lw_table *table, uint64_t queue, uint64_t *len);
 
@@ -263,21 +273,35 @@ enum {
     LW_CLEARED = 4       /* it was detached at once: its counter is zero */
 };
 
+/* Which way an item copied its section, or put the copy into a queue. */
+enum {
+    LW_IN = 1,           /* to the device */
+    LW_OUT = 2           /* to the host */
+};
+
 /* What one item did. All numbers that do not apply are 0. */
 typedef struct lw_item_did {
     uint32_t step;    /* LW_COUNTED to LW_MOVED, or 0 where the item took no action */
     uint32_t aim;     /* LW_AIMED to LW_CLEARED, or 0 where no pointer was attached or detached */
+    uint32_t way;     /* LW_IN, LW_OUT, or 0 where nothing is copied. The items of lw_exit, and the copy of lw_step,
+                         have 0 in any case: what they copy is told of the items that asked for it */
+    uint32_t back;    /* of lw_enter: 1 where lw_exit copies the section to the host, if that is LW_ENDED_RANGE */
+    uint64_t len;     /* how many bytes are copied this way, if way is not 0 */
     uint64_t block;   /* the number of the block whose counter, mapping or bytes it was; from 1 on */
     uint64_t place;   /* of LW_BORN: the device address of the block's first byte */
     uint64_t pointer; /* the host address of the pointer */
     uint64_t holder;  /* the number of the block that has the pointer's copy */
     uint64_t target;  /* of LW_AIMED: the device address that the copy holds now */
+    uint64_t times;   /* how often the pointer is attached behind the event, if aim is not 0 */
 } lw_item_did;
 
 /* What an item of the last event did, counted from 0 in the order in which the items were written; of lw_exit, in that
    of the entry. The copy of lw_step is one item, LW_MOVED. LW_ABSENT where the last event has no such item, and behind
-   lw_rebase. */
+   lw_rebase. lw_range_at tells its range and both counters. */
 uint32_t lw_did(lw_table *table, uint64_t item, lw_item_did *did);
+
+/* The same of the items from 0 on, as many as the array has elements. An element without an item stays as it was. */
+uint32_t lw_dids(lw_table *table, lw_item_did *dids, size_t count);
 
 /* ---- Texts, in ASCII, without a zero at the end ---- */
 

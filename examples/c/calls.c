@@ -52,7 +52,7 @@ typedef struct row {
     uint64_t region;
     uint64_t len;
     uint64_t bytes;
-    bool option; /* finalize, or if_present */
+    uint32_t option; /* finalize, or if_present */
     uint32_t status;
     uint64_t item;
     uint64_t value;
@@ -249,6 +249,60 @@ static uint32_t did(lw_table *table, const row *row, uint64_t *number, lw_fault 
     return asked(status, fault);
 }
 
+/* Which way it copied, how many bytes, whether the end of its region copies them back, and how often its pointer is
+   attached then, as one number. */
+#define COPIED(way, len, back, times) ((uint64_t)(len) << 24 | (times) << 16 | (back) << 8 | (way))
+
+static uint32_t did_copy(lw_table *table, const row *row, uint64_t *number, lw_fault *fault)
+{
+    lw_item_did told;
+    uint32_t status = lw_did(table, row->at, &told);
+
+    if (status == LW_DONE) {
+        *number = COPIED(told.way, told.len, told.back, told.times);
+    }
+    return asked(status, fault);
+}
+
+/* Whether an array of so many elements has what each item did, and else stays: how many are told so. */
+static uint32_t all_did(lw_table *table, const row *row, uint64_t *number, lw_fault *fault)
+{
+    lw_item_did all[ITEMS], one, untouched;
+    uint32_t status;
+
+    memset(&untouched, 0xEE, sizeof untouched);
+    memset(all, 0xEE, sizeof all);
+    status = lw_dids(table, row->count != 0 ? all : NULL, row->count);
+    if (status == LW_DONE) {
+        *number = 0;
+        for (size_t i = 0; i < ITEMS; i++) {
+            const bool is_told = i < row->count && lw_did(table, i, &one) == LW_DONE;
+
+            if (memcmp(&all[i], is_told ? &one : &untouched, sizeof one) != 0) {
+                *number = UNTOUCHED;
+                break;
+            }
+            *number += is_told;
+        }
+    }
+    return asked(status, fault);
+}
+
+/* The start and the length of the mapped range that has an address, and its counters, as one number. */
+#define RANGE(start, len, structured, dynamic) \
+    ((uint64_t)(start) << 24 | (uint64_t)(len) << 16 | (structured) << 8 | (dynamic))
+
+static uint32_t range_at(lw_table *table, const row *row, uint64_t *number, lw_fault *fault)
+{
+    lw_mapped_range range;
+    uint32_t status = lw_range_at(table, row->at, &range);
+
+    if (status == LW_DONE) {
+        *number = RANGE(range.start, range.len, range.structured, range.dynamic);
+    }
+    return asked(status, fault);
+}
+
 /* The pointer that it attached or detached. */
 static uint32_t did_to(lw_table *table, const row *row, uint64_t *number, lw_fault *fault)
 {
@@ -310,7 +364,10 @@ static const row USUAL[] = {
     {"data", enter, {{LW_COPY, A, 16, 0}}, 1, ANSWERS(1)},
     {"what it did", did, .at = 0, ANSWERS(DID(LW_BORN, 0, 1, 0, LW_DEVICE_BASE))},
     {"with no pointer", did_to, .at = 0, ANSWERS(0)},
+    {"what it copied", did_copy, .at = 0, ANSWERS(COPIED(LW_IN, 16, 1, 0))},
     {"it has one item", did, .at = 1, REFUSED(LW_ABSENT, 0, 0)},
+    {"all that it did", all_did, .count = 3, ANSWERS(1)},
+    {"nothing of it", all_did, .count = 0, ANSWERS(0)},
     {"data without items", enter, .count = 0, ANSWERS(2)},
     {"which did nothing", did, .at = 0, REFUSED(LW_ABSENT, 0, 0)},
     {"data in as many regions as may be", enter, {{LW_PRESENT, A, 16, 0}}, 1, REFUSED(LW_NO_ALLOWANCE, 0, 0)},
@@ -345,10 +402,15 @@ static const row USUAL[] = {
     {"counters of an absent section", structured, .at = B, .len = 16, REFUSED(LW_ABSENT, 0, 0)},
     {"first mapped range", mapped, .at = 0, ANSWERS(A)},
     {"mapped range behind the last", mapped, .at = A + 1, REFUSED(LW_ABSENT, 0, 0)},
+    {"the range at its first address", range_at, .at = A, ANSWERS(RANGE(A, 16, 1, 0))},
+    {"the range at its last address", range_at, .at = A + 15, ANSWERS(RANGE(A, 16, 1, 0))},
+    {"the range behind it", range_at, .at = A + 16, REFUSED(LW_ABSENT, 0, 0)},
+    {"the range before it", range_at, .at = A - 1, REFUSED(LW_ABSENT, 0, 0)},
     {"used", used, ANSWERS(16)},
     {"regions", regions, ANSWERS(1)},
 
     {"enter data async", enter_data, {{LW_COPYIN, B, 16, 0}}, 1, .queue = 3, DONE},
+    {"what it put there", did_copy, .at = 0, ANSWERS(COPIED(LW_IN, 16, 0, 0))},
     {"queue length", queue_len, .at = 3, ANSWERS(1)},
     {"length of no queue", queue_len, .at = 16, ANSWERS(0)},
     {"enter data async in no queue", enter_data, {{LW_CREATE, C, 16, 0}}, 1, .queue = 16, REFUSED(LW_NO_QUEUE, 0, 16)},
@@ -360,40 +422,49 @@ static const row USUAL[] = {
      REFUSED(LW_DEVICE_FULL, 0, 48)},
     {"step", step, .at = 3, ANSWERS(1)},
     {"what it copied", did, .at = 0, ANSWERS(DID(LW_MOVED, 0, 2, 0, UINT64_C(0)))},
+    {"which way is told before", did_copy, .at = 0, ANSWERS(0)},
+    {"all of it", all_did, .count = 2, ANSWERS(1)},
     {"it copied once", did, .at = 1, REFUSED(LW_ABSENT, 0, 0)},
     {"step of an empty queue", step, .at = 3, ANSWERS(0)},
     {"step of no queue", step, .at = 16, REFUSED(LW_NO_QUEUE, 0, 16)},
     {"update async", update, {{LW_DEVICE, B, 16, 0}}, 1, .queue = 15, DONE},
+    {"what it put there", did_copy, .at = 0, ANSWERS(COPIED(LW_IN, 16, 0, 0))},
     {"wait for all queues", wait_for, .at = NO_QUEUE, ANSWERS(1)},
     {"wait for an empty queue", wait_for, .at = 15, ANSWERS(0)},
     {"wait for no queue", wait_for, .at = 16, REFUSED(LW_NO_QUEUE, 0, 16)},
     {"update", update, {{LW_SELF, A, 8, 0}}, 1, .queue = NO_QUEUE, DONE},
     {"what it did", did, .at = 0, ANSWERS(DID(LW_MOVED, 0, 1, 0, UINT64_C(0)))},
+    {"what it copied", did_copy, .at = 0, ANSWERS(COPIED(LW_OUT, 8, 0, 0))},
     {"update with a clause of data", update, {{LW_SELF, A, 8, 0}, {LW_COPYIN, A, 8, 0}}, 2, .queue = NO_QUEUE,
      REFUSED(LW_BAD_CLAUSE, 1, 0)},
     {"update of an absent section", update, {{LW_SELF, C, 8, 0}}, 1, .queue = NO_QUEUE, REFUSED(LW_NOT_PRESENT, 0, 0)},
-    {"update of it if_present", update, {{LW_SELF, C, 8, 0}}, 1, .queue = NO_QUEUE, .option = true, DONE},
+    {"update of it if_present", update, {{LW_SELF, C, 8, 0}}, 1, .queue = NO_QUEUE, .option = 1, DONE},
     {"which did nothing", did, .at = 0, ANSWERS(0)},
+    {"and copied nothing", did_copy, .at = 0, ANSWERS(0)},
 
     {"host write of a pointer to A", host_write, .at = C, .len = 8, .bytes = 0x0010000000000000, DONE},
     {"enter data of the pointer", enter_data, {{LW_COPYIN, C, 16, 0}}, 1, .queue = NO_QUEUE, DONE},
     {"attach", enter_data, {{LW_ATTACH, C, 0, 0}}, 1, .queue = NO_QUEUE, DONE},
     {"what it did", did, .at = 0, ANSWERS(DID(0, LW_AIMED, 0, 3, LW_DEVICE_BASE))},
+    {"once", did_copy, .at = 0, ANSWERS(COPIED(0, 0, 0, 1))},
     {"to the pointer", did_to, .at = 0, ANSWERS(C)},
     {"attachment counter", attachment, .at = C, ANSWERS(1)},
     {"the device has a pointer to A's place", device_read, .at = C, .len = 8, ANSWERS(0x0000000001000000)},
     {"detach", exit_data, {{LW_DETACH, C, 0, 0}}, 1, .queue = NO_QUEUE, DONE},
     {"what it did", did, .at = 0, ANSWERS(DID(0, LW_DETACHED, 0, 3, UINT64_C(0)))},
+    {"for good", did_copy, .at = 0, ANSWERS(0)},
     {"attachment counter of a detached pointer", attachment, .at = C, ANSWERS(0)},
     {"the device has the host's pointer", device_read, .at = C, .len = 8, ANSWERS(0x0010000000000000)},
     {"data of a section and its pointer", enter, {{LW_PRESENT, A, 16, C}}, 1, ANSWERS(3)},
     {"what it did", did, .at = 0, ANSWERS(DID(LW_COUNTED, LW_AIMED, 1, 3, LW_DEVICE_BASE))},
+    {"with no copy", did_copy, .at = 0, ANSWERS(COPIED(0, 0, 0, 1))},
     {"the pointer is attached", attachment, .at = C, ANSWERS(1)},
     {"the end of that data", leave, .at = 3, DONE},
     {"what it did", did, .at = 0, ANSWERS(DID(LW_DROPPED, LW_DETACHED, 1, 3, UINT64_C(0)))},
     {"the pointer is detached", attachment, .at = C, ANSWERS(0)},
 
     {"enter data once more", enter_data, {{LW_CREATE, B, 16, 0}}, 1, .queue = NO_QUEUE, DONE},
+    {"the range is counted twice", range_at, .at = B + 8, ANSWERS(RANGE(B, 16, 0, 2))},
     {"enter data counting more than may be", enter_data, {{LW_CREATE, B, 16, 0}}, 1, .queue = NO_QUEUE,
      REFUSED(LW_COUNTER_FULL, 0, 0)},
     {"exit data with a clause of enter data", exit_data, {{LW_COPYIN, B, 16, 0}}, 1, .queue = NO_QUEUE,
@@ -405,8 +476,10 @@ static const row USUAL[] = {
     {"what it did", did, .at = 0, ANSWERS(DID(LW_DROPPED, 0, 2, 0, UINT64_C(0)))},
     {"dynamic counter after one exit", dynamic, .at = B, .len = 16, ANSWERS(1)},
     {"enter data again", enter_data, {{LW_CREATE, B, 16, 0}}, 1, .queue = NO_QUEUE, DONE},
-    {"exit data finalize", exit_data, {{LW_COPYOUT, B, 16, 0}}, 1, .queue = NO_QUEUE, .option = true, DONE},
+    {"exit data finalize", exit_data, {{LW_COPYOUT, B, 16, 0}}, 1, .queue = NO_QUEUE, .option = UINT32_MAX, DONE},
     {"what it did", did, .at = 0, ANSWERS(DID(LW_ENDED_RANGE, 0, 2, 0, UINT64_C(0)))},
+    {"what it copied", did_copy, .at = 0, ANSWERS(COPIED(LW_OUT, 16, 0, 0))},
+    {"its range is there no more", range_at, .at = B, REFUSED(LW_ABSENT, 0, 0)},
     {"B is not present then", is_present, .at = B, .len = 16, ANSWERS(0)},
     {"A's and C's blocks are used", used, ANSWERS(32)},
 
@@ -439,6 +512,7 @@ static const row USUAL[] = {
     {"the device has the kernel's bytes", device_read, .at = A, .len = 8, ANSWERS(0x0102030411121314)},
     {"the host has its own", host_read, .at = A, .len = 8, ANSWERS(0x0102030405060708)},
     {"end data copies out", leave, .at = 1, DONE},
+    {"which its start told", did_copy, .at = 0, ANSWERS(0)},
     {"the host has the kernel's bytes", host_read, .at = A, .len = 8, ANSWERS(0x0102030411121314)},
     {"the block stays while a copy waits", used, ANSWERS(32)},
     {"step of that copy", step, .at = 5, ANSWERS(1)},
@@ -466,11 +540,14 @@ static const row FEW_EVENTS[] = {
 static const row SEVERAL[] = {
     {"host write", host_write, .at = LARGE, .len = 8, .bytes = 0x0102030405060708, DONE},
     {"data of A and B", enter, {{LW_COPY, A, 16, 0}, {LW_COPY, B, 16, 0}}, 2, ANSWERS(1)},
+    {"all that it did", all_did, .count = 2, ANSWERS(2)},
+    {"its first item alone", all_did, .count = 1, ANSWERS(1)},
     {"data of C and many bytes", enter, {{LW_COPY, C, 16, 0}, {LW_COPY, LARGE, LARGE_SIZE, 0}}, 2, ANSWERS(2)},
     {"data of 24 bytes", enter, {{LW_COPY, ODD, ODD_SIZE, 0}}, 1, ANSWERS(3)},
     {"all five blocks are used", used, ANSWERS(16 + 16 + 16 + 8192 + 32)},
     {"rebase of four events", rebase, ANSWERS(4)},
     {"what the last event did is not stored any more", did, .at = 0, REFUSED(LW_ABSENT, 0, 0)},
+    {"so nothing is told of it", all_did, .count = 2, ANSWERS(0)},
 
     {"the first lease", lend, .region = 1, .at = A, .len = 16, ANSWERS(1)},
     {"the second lease", lend, .region = 1, .at = B + 8, .len = 8, ANSWERS(2)},
@@ -515,11 +592,11 @@ typedef struct scene {
 
 static const scene SCENES[] = {
     {"usual", {HOST_SIZE, 64, 2, 1000, 2, 1, 1000, false}, ROWS(USUAL)},
-    {"usual, full traces", {HOST_SIZE, 64, 2, 1000, 2, 1, 1000, true}, ROWS(USUAL)},
+    {"usual, full traces", {HOST_SIZE, 64, 2, 1000, 2, 1, 1000, 1}, ROWS(USUAL)},
     {"few events", {HOST_SIZE, 64, 2, 3, 2, 1, 1, false}, ROWS(FEW_EVENTS)},
-    {"few events, full traces", {HOST_SIZE, 64, 2, 3, 2, 1, 1, true}, ROWS(FEW_EVENTS)},
+    {"few events, full traces", {HOST_SIZE, 64, 2, 3, 2, 1, 1, 1}, ROWS(FEW_EVENTS)},
     {"several leases", {32768, 32768, 3, 1000, 2, 1, 1000, false}, ROWS(SEVERAL)},
-    {"several leases, full traces", {32768, 32768, 3, 1000, 2, 1, 1000, true}, ROWS(SEVERAL)},
+    {"several leases, full traces", {32768, 32768, 3, 1000, 2, 1, 1000, 1}, ROWS(SEVERAL)},
 };
 
 static unsigned wrong;
@@ -699,6 +776,7 @@ static const struct {
     {"counter_max", offsetof(lw_limits, counter_max), 1, UINT64_C(4294967295)},
     {"queue_cap", offsetof(lw_limits, queue_cap), 1, 4096},
     {"trace_cap", offsetof(lw_limits, trace_cap), 1, 16777216},
+    {"full", offsetof(lw_limits, full), 0, 1},
 };
 
 /* What a table with one limit other than the default answers. A table that it had stays where it is refused. */
@@ -830,6 +908,7 @@ int main(void)
     check_limits();
     check_texts();
     check_longest_text();
+    check(lw_version() == LW_VERSION, "version", "the header has another one");
     check(refused_growths != 0, "memory", "no growth was refused");
     check(blocks_held() == 0, "memory", "a block is lost");
     printf(wrong == 0 ? "each call answers as it has to\n" : "%u answers are wrong\n", wrong);

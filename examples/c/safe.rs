@@ -50,7 +50,7 @@ mod raw {
         pub counter_max: u64,
         pub queue_cap: u64,
         pub trace_cap: u64,
-        pub full: bool,
+        pub full: u64,
     }
 
     #[repr(C)]

@@ -3,7 +3,7 @@
  * the device.
  *
  * Blocks do not overlap in the program's addresses, so a tree has them in order, and finds one that meets a section: if
- * it has not all of it, none has.
+ * it has not all of it, none has. What was found last stands at the top.
  *
  * Table addresses are taken when a section is to be mapped, and given back when it is mapped no more and none of its
  * copies waits. Behind each section lies an address that is never mapped, and so one lies before each.
@@ -13,7 +13,6 @@
  * and members of a structure lie as in the program, whichever of them are mapped.
  */
 #define _GNU_SOURCE
-#include <search.h>
 #include <stdlib.h>
 #include <string.h>
 #include <sys/mman.h>
@@ -37,8 +36,7 @@ typedef struct range {
 
 /* What is kept beside one table. */
 static struct {
-    /* The blocks by the program's addresses, and by those of the device. */
-    void *tree, *device_tree;
+    lwa_block *tree; /* by the program's addresses */
 
     window *windows;
     size_t window_count, window_room;
@@ -49,30 +47,55 @@ static struct {
 } all[LWA_DEVICES];
 
 #define OWN all[lwa_on]
+size_t lwa_mapped[LWA_DEVICES];
 
 /* ---- Finding ---- */
 
-/* Two are equal where they meet. */
-static int compare(const void *a, const void *b)
-{
-    const lwa_block *x = a, *y = b;
+/* On which side of a block a section lies, or that it meets the block. */
+enum { BEFORE, BEHIND, HERE };
 
-    return x->at + x->len <= y->at ? -1 : x->at >= y->at + y->len;
+static int side_of(const lwa_block *block, uintptr_t at, size_t len)
+{
+    return at + len <= block->at ? BEFORE : at >= block->at + block->len ? BEHIND : HERE;
 }
 
-static int compare_on_device(const void *a, const void *b)
+/* A splay tree: the block that meets a section comes to the top, or else one beside it. What lies on the way down is
+   hung into two trees, of what lies before the section and of what lies behind it. */
+static lwa_block *bring_up(lwa_block *top, uintptr_t at, size_t len)
 {
-    const lwa_block *x = a, *y = b;
+    lwa_block *beside[2] = {NULL, NULL}, **free_ends[2] = {&beside[BEFORE], &beside[BEHIND]};
 
-    return x->device + x->len <= y->device ? -1 : x->device >= y->device + y->len;
+    for (int side; top != NULL && (side = side_of(top, at, len)) != HERE && top->child[side] != NULL;) {
+        lwa_block *child = top->child[side];
+
+        if (side_of(child, at, len) == side) {
+            top->child[side] = child->child[!side];
+            child->child[!side] = top;
+            top = child;
+            if (top->child[side] == NULL) {
+                break;
+            }
+        }
+        *free_ends[!side] = top;
+        free_ends[!side] = &top->child[side];
+        top = top->child[side];
+    }
+    if (top != NULL) {
+        *free_ends[BEFORE] = top->child[BEFORE];
+        *free_ends[BEHIND] = top->child[BEHIND];
+        top->child[BEFORE] = beside[BEFORE];
+        top->child[BEHIND] = beside[BEHIND];
+    }
+    return top;
 }
 
 lwa_block *lwa_meets(uintptr_t at, size_t len)
 {
-    const lwa_block key = {.at = at, .len = len};
-    lwa_block **found = len != 0 ? tfind(&key, &OWN.tree, compare) : NULL;
-
-    return found != NULL ? *found : NULL;
+    if (len == 0 || OWN.tree == NULL) {
+        return NULL;
+    }
+    OWN.tree = bring_up(OWN.tree, at, len);
+    return side_of(OWN.tree, at, len) == HERE ? OWN.tree : NULL;
 }
 
 bool lwa_has(const lwa_block *block, uintptr_t at, size_t len)
@@ -183,15 +206,27 @@ uintptr_t lwa_device_of(const lwa_block *block, uintptr_t at)
     return block->device + (at - block->at);
 }
 
+uint64_t lwa_place_of(const lwa_block *block, uint64_t told)
+{
+    return block->root->place + (told - block->root->told);
+}
+
+/* A device address in a window is that of the program's address as far behind the first; another is of acc_malloc, and
+   its own. */
 lwa_block *lwa_on_device(uintptr_t device, uintptr_t *at)
 {
-    const lwa_block key = {.device = device, .len = 1};
-    lwa_block **found = tfind(&key, &OWN.device_tree, compare_on_device), *block;
+    lwa_block *block;
 
-    if (found == NULL) {
+    *at = device;
+    for (size_t i = 0; i < OWN.window_count; i++) {
+        const window *w = &OWN.windows[i];
+
+        *at = device - w->device < w->len ? w->at + (device - w->device) : *at;
+    }
+    block = lwa_meets(*at, 1);
+    if (block == NULL || lwa_device_of(block, *at) != device) {
         return NULL;
     }
-    block = *found;
     for (lwa_block *part = block->parts; part != NULL; part = part->next) {
         block = part->mapped && device - part->device < part->len ? part : block;
     }
@@ -201,34 +236,56 @@ lwa_block *lwa_on_device(uintptr_t device, uintptr_t *at)
 
 /* ---- Births and ends ---- */
 
-static void insert(lwa_block *block, void **tree, int (*by)(const void *, const void *))
+/* It meets none that is there. */
+static void insert(lwa_block *block)
 {
-    if (tsearch(block, tree, by) == NULL) {
-        lwa_unserved("no memory for the library's own lists");
+    lwa_block *top = bring_up(OWN.tree, block->at, block->len);
+
+    if (top != NULL) {
+        const int side = side_of(top, block->at, block->len);
+
+        block->child[!side] = top;
+        block->child[side] = top->child[side];
+        top->child[side] = NULL;
     }
+    OWN.tree = block;
+    lwa_mapped[lwa_on]++;
 }
 
-lwa_block *lwa_born(uintptr_t at, size_t len, uint64_t told, uintptr_t device)
+static void take_out(const lwa_block *block)
 {
-    lwa_block *block = lwa_memory(NULL, sizeof *block);
+    lwa_block *top = bring_up(OWN.tree, block->at, block->len), *before = top->child[BEFORE];
 
-    *block = (lwa_block){.at = at, .len = len, .told = told, .mapped = true};
-    block->device = device != 0 ? device : device_for(at, len);
+    OWN.tree = top->child[BEHIND];
+    if (before != NULL) {
+        before = bring_up(before, block->at, block->len);
+        before->child[BEHIND] = OWN.tree;
+        OWN.tree = before;
+    }
+    lwa_mapped[lwa_on]--;
+}
+
+lwa_block *lwa_born(const lwa_item *item, uintptr_t device)
+{
+    lwa_block *block = lwa_piece(sizeof *block);
+
+    *block = (lwa_block){.at = item->at, .len = item->len, .told = item->told.start, .mapped = true};
+    block->place = item->did.place;
+    block->device = device != 0 ? device : device_for(item->at, item->len);
     block->bytes = (uint8_t *)block->device;
     block->root = block;
-    insert(block, &OWN.tree, compare);
-    insert(block, &OWN.device_tree, compare_on_device);
+    insert(block);
     return block;
 }
 
 void lwa_map_part(lwa_block *root, uintptr_t at, size_t len, uintptr_t device)
 {
-    lwa_block *part = lwa_memory(NULL, sizeof *part);
+    lwa_block *part = lwa_piece(sizeof *part);
 
     *part = (lwa_block){.at = at, .len = len, .told = root->told + (device - root->device), .device = device,
                         .bytes = (uint8_t *)device, .mapped = true, .part = true, .root = root, .next = root->parts};
     root->parts = part;
-    insert(part, &OWN.tree, compare);
+    insert(part);
 }
 
 static void drop(lwa_block *block)
@@ -237,7 +294,7 @@ static void drop(lwa_block *block)
         free(block->bytes);
     }
     free(block->pointers);
-    free(block);
+    rattle_dealloc(block);
 }
 
 /* Its addresses can be taken again where nothing more is to be read or written there. A part stays as long as its root,
@@ -265,10 +322,7 @@ void lwa_ended(lwa_block *block)
         part->root = part;
         drop_unused(part);
     }
-    tdelete(block, &OWN.tree, compare);
-    if (!block->part) {
-        tdelete(block, &OWN.device_tree, compare_on_device);
-    }
+    take_out(block);
     block->mapped = false;
     if (block->waiting != 0) {
         block->bytes = memcpy(lwa_memory(NULL, block->len), block->bytes, block->len);
@@ -282,26 +336,30 @@ void lwa_made(lwa_block *block)
     drop_unused(block);
 }
 
-static void act_on(const void *node, VISIT when, void *act)
-{
-    if (when == preorder || when == leaf) {
-        (*(void (**)(lwa_block *))act)(*(lwa_block *const *)node);
-    }
-}
-
+/* What lies before a block comes above it, until nothing does. */
 void lwa_each_block(void (*act)(lwa_block *))
 {
-    twalk_r(OWN.tree, act_on, &act);
+    for (lwa_block **at = &OWN.tree; *at != NULL;) {
+        lwa_block *block = *at, *before = block->child[BEFORE];
+
+        if (before != NULL) {
+            block->child[BEFORE] = before->child[BEHIND];
+            before->child[BEHIND] = block;
+            *at = before;
+        } else {
+            act(block);
+            at = &block->child[BEHIND];
+        }
+    }
 }
 
 /* The windows stay, since a kernel may run while the program ends. */
 void lwa_forget_blocks(void)
 {
     while (OWN.tree != NULL) {
-        lwa_block *block = *(lwa_block **)OWN.tree;
+        lwa_block *block = OWN.tree;
 
-        tdelete(block, &OWN.tree, compare);
-        tdelete(block, &OWN.device_tree, compare_on_device);
+        take_out(block);
         drop(block);
     }
     OWN.started = false;

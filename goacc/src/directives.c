@@ -1,5 +1,5 @@
 /*
- * Directives: for each item the call of the table that decides, and what follows from what did.c tells of it.
+ * Directives: for the items the call of the table that decides, and what follows from what it tells that each did.
  */
 #include <stdlib.h>
 #include <string.h>
@@ -11,11 +11,6 @@
 bool lwa_copies_in(uint32_t clause)
 {
     return clause == LW_COPY || clause == LW_COPYIN;
-}
-
-bool lwa_copies_out(uint32_t clause)
-{
-    return clause == LW_COPY || clause == LW_COPYOUT || clause == LW_COPYOUT_ZERO;
 }
 
 bool lwa_enters(const lwa_directive *d)
@@ -89,33 +84,40 @@ static void note(const lwa_item *item, int first, int second)
     lwa_note(second, item->block, item->at, item->len);
 }
 
-/* Does what the table has told. */
-static void after(const lwa_directive *d, lwa_item *item, const lwa_did *did)
+/* Does what the table has told. At the end of a region it tells of its start what is copied where the mapping ends. */
+static void after(const lwa_directive *d, lwa_item *item)
 {
-    if (did->step == LWA_BORN) {
+    const bool out = item->did.way == LW_OUT || d->way == LWA_END_DATA;
+
+    if (d->way == LWA_DATA) {
+        item->back = item->did.back != 0;
+    } else if (d->way == LWA_END_DATA && item->did.step == LW_ENDED_RANGE && item->back) {
+        item->did.way = LW_OUT;
+    }
+    if (item->did.step == LW_BORN) {
         item->taken = false;
-        item->block = lwa_born(item->at, item->len, item->told.start, d->device);
-        if (!did->copied || d->queue != LW_NO_QUEUE_GIVEN) {
+        item->block = lwa_born(item, d->device);
+        if (item->did.way == 0 || d->queue != LW_NO_QUEUE_GIVEN) {
             memset(item->block->bytes, NEW_BYTE, item->len);
         }
         note(item, acc_ev_alloc, acc_ev_create);
     }
-    if (did->copied) {
-        note(item, did->out ? acc_ev_enqueue_download_start : acc_ev_enqueue_upload_start,
-             did->out ? acc_ev_enqueue_download_end : acc_ev_enqueue_upload_end);
+    if (item->did.way != 0) {
+        note(item, out ? acc_ev_enqueue_download_start : acc_ev_enqueue_upload_start,
+             out ? acc_ev_enqueue_download_end : acc_ev_enqueue_upload_end);
         if (d->queue != LW_NO_QUEUE_GIVEN) {
-            lwa_put_waiting(d->queue, item->block, item->at, item->len, did->out);
+            lwa_put_waiting(d->queue, item->block, item->at, item->len, out);
         } else {
-            lwa_copy(item->block, item->at, item->len, did->out);
+            lwa_copy(item->block, item->at, item->len, out);
         }
     }
-    lwa_aimed(item, did);
+    lwa_aimed(item);
 }
 
 /* ---- The call ---- */
 
-/* The most items of one directive of the table. */
-#define MOST_ITEMS 64
+/* The most items of one directive of the table, which judges each in what those before it leave. */
+#define MOST_ITEMS 8
 
 static uint32_t ask(const lwa_directive *d, size_t first, size_t end, lw_fault *fault)
 {
@@ -204,11 +206,10 @@ static size_t tell_some(lwa_directive *d, size_t first)
 static void finish(lwa_directive *d, size_t i)
 {
     lwa_item *item = &d->items.at[i];
-    const lwa_did did = lwa_what_became(d, item);
 
-    after(d, item, &did);
-    lwa_log_item(d, i, &did);
-    if (did.step == LWA_ENDED) {
+    after(d, item);
+    lwa_log_item(d, i);
+    if (item->did.step == LW_ENDED_RANGE) {
         note(item, acc_ev_delete, acc_ev_free);
         lwa_ended(item->block->root);
     }
@@ -218,6 +219,7 @@ static void finish(lwa_directive *d, size_t i)
    there was no room on the device. */
 static size_t act(lwa_directive *d, size_t first, size_t end)
 {
+    static lw_item_did dids[MOST_ITEMS];
     uint32_t status;
     lw_fault fault;
 
@@ -229,7 +231,6 @@ static size_t act(lwa_directive *d, size_t first, size_t end)
             if (lwa_enters(d)) {
                 lwa_aim(&d->items.at[i]);
             }
-            lwa_look(&d->items.at[i]);
         }
         status = ask(d, first, end, &fault);
         if (status != LW_DONE) {
@@ -244,8 +245,12 @@ static size_t act(lwa_directive *d, size_t first, size_t end)
     }
     lwa_script_items(d, first, end, status == LW_DONE);
     lwa_must(status, &fault);
+    lwa_must(lw_dids(lwa_table(), dids, end - first), &fault);
     for (size_t i = first; i < end; i++) {
-        finish(d, d->way == LWA_END_DATA ? first + end - 1 - i : i);
+        const size_t at = d->way == LWA_END_DATA ? first + end - 1 - i : i;
+
+        d->items.at[at].did = dids[at - first];
+        finish(d, at);
     }
     return end;
 }
@@ -280,14 +285,14 @@ bool lwa_direct(lwa_directive *d)
 {
     const bool done = act_on_all(d);
 
-    free(d->items.at);
+    rattle_dealloc(d->items.at);
     return done;
 }
 
 /* A region of no item is one of an item that does nothing, since a kernel wants one. */
 lwa_region *lwa_enter(lwa_directive *d)
 {
-    lwa_region *region = lwa_memory(NULL, sizeof *region);
+    lwa_region *region = lwa_piece(sizeof *region);
 
     d->queue = LW_NO_QUEUE_GIVEN;
     if (d->items.count == 0) {
@@ -302,6 +307,6 @@ lwa_region *lwa_enter(lwa_directive *d)
 void lwa_exit(lwa_region *region)
 {
     act_on_all(&region->directive);
-    free(region->directive.items.at);
-    free(region);
+    rattle_dealloc(region->directive.items.at);
+    rattle_dealloc(region);
 }

@@ -2,8 +2,8 @@
  * What the files of liblamwiest_acc.so share. All of it is used under the lock, which each entry point and each routine
  * takes once, by lwa_take. A kernel runs without it.
  *
- * The table is told some items at a time, of which no two name one block, so that what became of each is what the table
- * answers before and after. A directive may be several directives of the table, in their order, and a region several.
+ * The table is told some items at a time, of which no two name one block, and tells what each of them did. A directive
+ * may be several directives of the table, in their order, and a region several.
  *
  * Four kinds of addresses: the program's own; table addresses, of the host memory that the table has; places, of the
  * table's device memory; and device addresses, of the memory of this process in which kernels find a block's bytes.
@@ -50,10 +50,12 @@ typedef struct lwa_block {
     uintptr_t at; /* the program's address; of acc_malloc, the device address, since there is no other */
     size_t len;
     uint64_t told;    /* the table's address */
+    uint64_t place;   /* the device address that the table has for it */
     uintptr_t device; /* the device address */
     uint8_t *bytes;   /* that the device has; at the device address while it is mapped */
     bool mapped;
     struct lwa_block *root, *parts, *next; /* a part that acc_map_data maps has another root, until that ends */
+    struct lwa_block *child[2];            /* in the tree of all */
     bool part;
     size_t waiting; /* the copies that wait */
     size_t kernels; /* the kernels that have it; while there are some it is lent */
@@ -73,7 +75,8 @@ typedef struct lwa_item {
     bool taken;       /* table addresses were taken for it, which are no block's yet */
     lwa_block *block; /* that has the section; of a region's item, until the region ends */
     uint64_t region;  /* the number of its region */
-    lw_mapped_range before; /* the block's range before the directive, for the log */
+    bool back;        /* whether the region's end copies the section to the program, where it ends the mapping */
+    lw_item_did did;  /* what the table did with it */
 } lwa_item;
 
 /* The items of a directive. */
@@ -94,15 +97,6 @@ typedef struct lwa_directive {
     uintptr_t device; /* of acc_malloc, the device address */
     uint64_t queue;   /* of enter data, exit data and update */
 } lwa_directive;
-
-/* What the table did with an item. */
-typedef struct lwa_did {
-    enum lwa_step { LWA_NOTHING, LWA_BORN, LWA_COUNTED, LWA_DROPPED, LWA_KEPT, LWA_ENDED, LWA_MOVED } step;
-    bool copied, out;      /* whether its bytes are copied, or put into the queue, and which way */
-    lw_mapped_range range; /* with the counters behind it; of one that has ended, those before */
-    enum { LWA_NO_AIM, LWA_AIMED, LWA_ATTACHED, LWA_DETACHED } aim;
-    uint64_t attached, target; /* the pointer's counter behind it, and what the device has there */
-} lwa_did;
 
 /* A data region of a thread; regions of one thread are nested. */
 typedef struct lwa_region {
@@ -168,6 +162,10 @@ void lwa_must(uint32_t status, const lw_fault *fault);
 /* Memory of this library's own, as realloc has it; where there is none, the program ends. */
 void *lwa_memory(void *old, size_t size);
 
+/* The same of what is given back soon, by the second. */
+void *lwa_piece(size_t size);
+void rattle_dealloc(void *at);
+
 /* Makes room for one more element of a list; room is how many it has room for. */
 void *lwa_grown(void *list, size_t count, size_t *room, size_t size);
 
@@ -203,8 +201,8 @@ void lwa_give_addresses(uint64_t told, size_t len);
 #define LWA_NOWHERE LW_HOST_BASE
 uint64_t lwa_outside(void);
 
-/* A section that is mapped now, at table addresses that were taken for it. */
-lwa_block *lwa_born(uintptr_t at, size_t len, uint64_t told, uintptr_t device);
+/* An item's section that is mapped now, at table addresses that were taken for it. */
+lwa_block *lwa_born(const lwa_item *item, uintptr_t device);
 
 /* A part of a block of acc_malloc gets an address of the program. */
 void lwa_map_part(lwa_block *root, uintptr_t at, size_t len, uintptr_t device);
@@ -213,12 +211,14 @@ void lwa_map_part(lwa_block *root, uintptr_t at, size_t len, uintptr_t device);
 void lwa_ended(lwa_block *block);
 void lwa_made(lwa_block *block);
 
-/* The device address of a byte of a block. */
+/* The device address of a byte of a block, and that of the table for a table address. */
 uintptr_t lwa_device_of(const lwa_block *block, uintptr_t at);
+uint64_t lwa_place_of(const lwa_block *block, uint64_t told);
 
 /* The block of a device address; at: the program's address of that byte. */
 lwa_block *lwa_on_device(uintptr_t device, uintptr_t *at);
 
+extern size_t lwa_mapped[LWA_DEVICES]; /* how many are mapped */
 void lwa_each_block(void (*act)(lwa_block *));
 void lwa_forget_blocks(void);
 
@@ -240,8 +240,6 @@ bool lwa_step(uint64_t queue);
 /* Makes what waits in a queue, or in all. */
 void lwa_wait(uint64_t queue);
 
-/* How many copies wait in a queue. */
-uint64_t lwa_queue_len(uint64_t queue);
 void lwa_forget_waiting(void);
 
 /* ---- pointers.c: pointers that were attached ---- */
@@ -252,23 +250,16 @@ uint64_t lwa_told_pointer(const lwa_item *item);
 /* Before an item may attach its pointer: tells the table its target, and what a kernel has left there. After it: gives
    the device what it has then. */
 void lwa_aim(const lwa_item *item);
-void lwa_aimed(const lwa_item *item, const lwa_did *did);
+void lwa_aimed(const lwa_item *item);
 
 /* The place of the first pointer of a block that ends behind an address. */
 size_t lwa_first_pointer(const lwa_block *block, uintptr_t at);
-
-/* ---- did.c: what the table did ---- */
-
-/* Before the call of an item, and behind it. */
-void lwa_look(lwa_item *item);
-lwa_did lwa_what_became(const lwa_directive *directive, const lwa_item *item);
 
 /* ---- directives.c ---- */
 
 bool lwa_is_pointer(const lwa_item *item);
 bool lwa_enters(const lwa_directive *directive);
 bool lwa_copies_in(uint32_t clause);
-bool lwa_copies_out(uint32_t clause);
 
 /* enter data, exit data or update. What the items take is given back. No: there was no room on the device. */
 bool lwa_direct(lwa_directive *directive);
@@ -335,7 +326,7 @@ void lwa_start_log(void);
 
 /* The head line of a directive; of each of its items; and the region's line. */
 void lwa_log_directive(const lwa_directive *directive);
-void lwa_log_item(const lwa_directive *directive, size_t i, const lwa_did *did);
+void lwa_log_item(const lwa_directive *directive, size_t i);
 void lwa_log_region(const lwa_directive *directive);
 
 /* wait and step, and the copies that they made. */

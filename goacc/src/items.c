@@ -152,6 +152,8 @@ static void add_map(lwa_items *items, const lwa_maps *maps, size_t i, lwa_way wa
 void lwa_read_maps(const lwa_maps *maps, lwa_way way, lwa_directive *directive)
 {
     *directive = (lwa_directive){.way = way, .queue = LW_NO_QUEUE_GIVEN};
+    directive->items.at = lwa_piece(maps->count * sizeof(lwa_item));
+    directive->items.room = maps->count;
     for (size_t i = 0; i < maps->count; i++) {
         directive->option |= says_option(kind_of(maps, i), way);
         add_map(&directive->items, maps, i, way);

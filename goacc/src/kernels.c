@@ -6,7 +6,6 @@
  * Kernels that run at a time share what is lent, and the last one brings it back. The compiled function finds the bytes
  * at their device addresses, which stay as they are between kernels.
  */
-#include <stdlib.h>
 #include <string.h>
 
 #include "inner.h"
@@ -57,10 +56,8 @@ static lwa_block *block_of(const void *at, size_t len)
 }
 
 /* The address that the kernel has in place of one of the program: the device's, or its own where it is not mapped. */
-static void *found_or_own(void *at, size_t len)
+static void *found_or_own(const lwa_block *block, void *at)
 {
-    const lwa_block *block = block_of(at, len);
-
     return block != NULL ? (void *)lwa_device_of(block, (uintptr_t)at) : at;
 }
 
@@ -91,13 +88,14 @@ static void *own_pointer(const lwa_maps *maps, size_t i, void **slots)
         && block_of(value, 1) == NULL) {
         return &slots[i - 1];
     }
-    return (char *)found_or_own(value + maps->sizes[i], 1) - maps->sizes[i];
+    value += maps->sizes[i];
+    return (char *)found_or_own(block_of(value, 1), value) - maps->sizes[i];
 }
 
-/* What the compiled function gets for a map. slots: pointers of the kernel's own, for the maps that are of one. */
-static void *device_address(const lwa_maps *maps, size_t i, void **slots)
+/* What the compiled function gets for a map, of which a block has the first byte, or none. slots: pointers of the
+   kernel's own, for the maps that are of one. */
+static void *device_address(const lwa_maps *maps, size_t i, const lwa_block *block, void **slots)
 {
-
     if (maps->at[i] == NULL) {
         return NULL;
     }
@@ -111,49 +109,41 @@ static void *device_address(const lwa_maps *maps, size_t i, void **slots)
     case KIND_MEMBERS:
         return structure_address(maps, i);
     default:
-        return found_or_own(maps->at[i], maps->sizes[i]);
+        return found_or_own(block != NULL && lwa_has(block, (uintptr_t)maps->at[i], maps->sizes[i]) ? block : NULL,
+                            maps->at[i]);
     }
 }
 
 /* ---- Kernels ---- */
 
-/* The blocks that a kernel is lent. One may stand there several times, and is brought back as often. */
-typedef struct lent {
-    lwa_block **at;
-    size_t count, room;
-} lent;
-
-static void lend_blocks(lent *list, const lwa_maps *maps, uint64_t region)
-{
-    for (size_t i = 0; i < maps->count; i++) {
-        lwa_block *block = block_of(maps->at[i], 1);
-
-        if (block != NULL) {
-            block = block->root;
-            list->at = lwa_grown(list->at, list->count, &list->room, sizeof *list->at);
-            list->at[list->count++] = block;
-            lend(block, region);
-        }
-    }
-}
-
+/* Each map has an address that the kernel gets, a pointer of the kernel's own, and the block that is lent. One block may
+   stand there several times, and is brought back as often. Items stand in the order of their maps. */
 void lwa_kernel(void (*run)(void *), const lwa_maps *maps, const lwa_region *region)
 {
-    void **device = lwa_memory(NULL, maps->count * sizeof *device);
-    void **slots = lwa_memory(NULL, maps->count * sizeof *slots);
-    lent list = {NULL, 0, 0};
+    const lwa_items *items = &region->directive.items;
+    void **device = lwa_piece(3 * maps->count * sizeof *device), **slots = device + maps->count;
+    lwa_block **blocks = (lwa_block **)(slots + maps->count);
 
+    for (size_t i = 0, next = 0; i < maps->count; i++) {
+        const lwa_item *item = next < items->count ? &items->at[next] : NULL;
+        const bool is_item = item != NULL && item->block != NULL && item->at == (uintptr_t)maps->at[i];
+
+        blocks[i] = is_item ? item->block : block_of(maps->at[i], 1);
+        next += item != NULL && item->at == (uintptr_t)maps->at[i];
+        device[i] = device_address(maps, i, blocks[i], slots);
+    }
     for (size_t i = 0; i < maps->count; i++) {
-        device[i] = device_address(maps, i, slots);
+        if (blocks[i] != NULL) {
+            lend(blocks[i]->root, items->at[0].region);
+        }
     }
-    lend_blocks(&list, maps, region->directive.items.at[0].region);
     lwa_run_free(run, device, true);
-    while (list.count != 0) {
-        bring_back(list.at[--list.count]);
+    for (size_t i = 0; i < maps->count; i++) {
+        if (blocks[i] != NULL) {
+            bring_back(blocks[i]->root);
+        }
     }
-    free(list.at);
-    free(device);
-    free(slots);
+    rattle_dealloc(device);
 }
 
 /* In a region of no item, since a loan is made in one. */

@@ -140,86 +140,92 @@ void lwa_log_region(const lwa_directive *d)
 
 /* ---- Items ---- */
 
-static void say_range(size_t i, const char *what, const lwa_block *block, const lw_mapped_range *range)
+static void say_range(size_t i, const char *what, const lwa_block *block)
 {
+    lw_mapped_range range = {0};
+
+    lw_range_at(lwa_table(), block->told, &range);
     say("  item %zu: %s %#" PRIxPTR " %zu at %#" PRIx64 " structured %" PRIu64 " dynamic %" PRIu64, i, what, block->at,
-        block->len, range->place, range->structured, range->dynamic);
+        block->len, range.place, range.structured, range.dynamic);
 }
 
-/* The copy of an item, or why it is none, if it could be one. */
-static void say_item_copy(const lwa_directive *d, size_t i, const lwa_did *did, bool could, const char *why_not)
+/* The copy of an item. */
+static void say_item_copy(const lwa_directive *d, const lwa_item *item, size_t i)
 {
-    const lwa_item *item = &d->items.at[i];
-
-    if (did->copied) {
-        say_copy(i, &(copy){d->queue, item->at, item->len, did->range.place + (item->at - item->block->at), did->out});
-    } else if (could) {
-        say("  item %zu: skipped %s %#" PRIxPTR " %zu %s", i, did->out ? "out" : "in", item->at, item->len, why_not);
+    if (item->did.way != 0) {
+        say_copy(i, &(copy){d->queue, item->at, item->len, lwa_place_of(item->block, item->told.start),
+                            item->did.way == LW_OUT});
     }
 }
 
-static void say_pointer(const lwa_item *item, size_t i, const lwa_did *did)
+static void say_pointer(const lwa_item *item, size_t i)
 {
     const uintptr_t at = lwa_is_pointer(item) ? item->at : item->pointer;
+    const lw_item_did *did = &item->did;
 
-    if (did->aim == LWA_AIMED) {
-        say("  item %zu: attached %#" PRIxPTR " to %#" PRIx64 " count %" PRIu64, i, at, did->target, did->attached);
-    } else if (did->aim != LWA_NO_AIM) {
-        say("  item %zu: %s %#" PRIxPTR " count %" PRIu64, i, did->aim == LWA_ATTACHED ? "attached" : "detached", at,
-            did->attached);
+    if (did->aim == LW_AIMED) {
+        say("  item %zu: attached %#" PRIxPTR " to %#" PRIx64 " count %" PRIu64, i, at, did->target, did->times);
+    } else if (did->aim != 0) {
+        say("  item %zu: %s %#" PRIxPTR " count %" PRIu64, i, did->aim == LW_AIMED_AGAIN ? "attached" : "detached", at,
+            did->times);
     } else if (lwa_is_pointer(item)) {
         say("  item %zu: unattached %#" PRIxPTR, i, at);
     }
 }
 
-static void say_nothing(const lwa_item *item, size_t i, const lwa_did *did)
+static void say_nothing(const lwa_item *item, size_t i)
 {
     if (lwa_is_pointer(item)) {
-        say_pointer(item, i, did);
+        say_pointer(item, i);
     } else if (item->len == 0) {
         say("  item %zu: empty", i);
+    } else if (item->block != NULL) {
+        say_range(i, "kept", item->block);
     } else {
         say("  item %zu: absent %#" PRIxPTR " %zu", i, item->at, item->len);
     }
 }
 
 /* At the end of a region only of what it holds. */
-void lwa_log_item(const lwa_directive *d, size_t i, const lwa_did *did)
+void lwa_log_item(const lwa_directive *d, size_t i)
 {
     const lwa_item *item = &d->items.at[i];
 
     if (!lwa_logged) {
         return;
     }
-    switch (did->step) {
-    case LWA_NOTHING:
-        if (d->way != LWA_END_DATA || did->aim != LWA_NO_AIM) {
-            say_nothing(item, i, did);
+    switch (item->did.step) {
+    case LW_MOVED:
+        say_item_copy(d, item, i);
+        break;
+    case LW_BORN:
+    case LW_COUNTED:
+        OWN.mapped += item->did.step == LW_BORN;
+        say_range(i, item->did.step == LW_BORN ? "mapped" : "counted", item->block);
+        say_item_copy(d, item, i);
+        if (item->did.way == 0 && lwa_copies_in(item->clause)) {
+            say("  item %zu: skipped in %#" PRIxPTR " %zu present", i, item->at, item->len);
         }
+        say_pointer(item, i);
         break;
-    case LWA_MOVED:
-        say_item_copy(d, i, did, false, NULL);
+    case LW_DROPPED:
+        say_pointer(item, i);
+        if (item->back || item->clause == LW_COPYOUT) {
+            say("  item %zu: skipped out %#" PRIxPTR " %zu held", i, item->at, item->len);
+        }
+        say_range(i, "dropped", item->block);
         break;
-    case LWA_KEPT:
-        say_range(i, "kept", item->block, &did->range);
-        break;
-    case LWA_BORN:
-    case LWA_COUNTED:
-        OWN.mapped += did->step == LWA_BORN;
-        say_range(i, did->step == LWA_BORN ? "mapped" : "counted", item->block, &did->range);
-        say_item_copy(d, i, did, lwa_copies_in(item->clause), "present");
-        say_pointer(item, i, did);
-        break;
-    case LWA_DROPPED:
-        say_pointer(item, i, did);
-        say_item_copy(d, i, did, lwa_copies_out(item->clause), "held");
-        say_range(i, "dropped", item->block, &did->range);
-        break;
-    case LWA_ENDED:
+    case LW_ENDED_RANGE:
         OWN.ended++;
-        say_pointer(item, i, did);
-        say_item_copy(d, i, did, false, NULL);
-        say("  item %zu: ended %#" PRIxPTR " %zu at %#" PRIx64, i, item->block->at, item->block->len, did->range.place);
+        say_pointer(item, i);
+        say_item_copy(d, item, i);
+        say("  item %zu: ended %#" PRIxPTR " %zu at %#" PRIx64, i, item->block->at, item->block->len,
+            lwa_place_of(item->block, item->block->told));
+        break;
+    default:
+        if (d->way != LWA_END_DATA || item->did.aim != 0) {
+            say_nothing(item, i);
+        }
     }
 }
 
@@ -227,11 +233,9 @@ void lwa_log_item(const lwa_directive *d, size_t i, const lwa_did *did)
 
 void lwa_log_loan(const char *what, const lwa_block *block)
 {
-    uint64_t place = 0;
-
     if (lwa_logged) {
-        lw_device_address(lwa_table(), block->told, &place);
-        say("  %s %#" PRIxPTR " %zu at %#" PRIx64 " serial %" PRIu64, what, block->at, block->len, place, block->lease);
+        say("  %s %#" PRIxPTR " %zu at %#" PRIx64 " serial %" PRIu64, what, block->at, block->len,
+            lwa_place_of(block, block->told), block->lease);
     }
 }
 

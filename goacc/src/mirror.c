@@ -105,14 +105,6 @@ static waiting take_first(uint64_t queue)
     return first;
 }
 
-uint64_t lwa_queue_len(uint64_t queue)
-{
-    uint64_t len = 0;
-
-    lw_queue_len(lwa_table(), queue, &len);
-    return len;
-}
-
 bool lwa_step(uint64_t queue)
 {
     uint64_t made = 0;
@@ -121,13 +113,16 @@ bool lwa_step(uint64_t queue)
     waiting w;
 
     do {
-        if (lwa_queue_len(queue) == 0) {
+        if (OWN[queue].first == OWN[queue].end) {
             return false;
         }
         lwa_room();
         status = lw_step(lwa_table(), queue, &made, &fault);
     } while (lwa_is_lent(status));
     lwa_must(status, &fault);
+    if (made != 1) {
+        lwa_unserved("the table has no copy in the queue %zu", (size_t)queue);
+    }
     lwa_script_copies("step", queue);
     w = take_first(queue);
     lwa_copy(w.block, w.at, w.len, w.out);
@@ -157,6 +152,9 @@ void lwa_wait(uint64_t queue)
     lwa_room();
     status = lw_wait(lwa_table(), queue, &made, &fault);
     lwa_must(status, &fault);
+    if (made != 0) {
+        lwa_unserved("the table had %zu copies more", (size_t)made);
+    }
 }
 
 void lwa_forget_waiting(void)

@@ -40,8 +40,8 @@ static lwa_pointer *keep_pointer(lwa_block *block, uintptr_t at)
     if (find_pointer(block, at) == NULL) {
         block->pointers = lwa_grown(block->pointers, block->pointer_count, &block->pointer_room, sizeof(lwa_pointer));
         memmove(block->pointers + i + 1, block->pointers + i, (block->pointer_count++ - i) * sizeof(lwa_pointer));
+        block->pointers[i] = (lwa_pointer){.at = at};
     }
-    block->pointers[i] = (lwa_pointer){.at = at};
     return &block->pointers[i];
 }
 
@@ -128,22 +128,24 @@ void lwa_aim(const lwa_item *item)
     }
 }
 
-void lwa_aimed(const lwa_item *item, const lwa_did *did)
+/* One that is aimed at the same place again may have another value there: it is told how far it points before that. */
+void lwa_aimed(const lwa_item *item)
 {
     const uintptr_t at = pointer_of(item);
-    lwa_block *block = did->aim != LWA_NO_AIM ? lwa_inside(at, LWA_POINTER) : NULL, *target;
+    lwa_block *block = item->did.aim != 0 ? lwa_inside(at, LWA_POINTER) : NULL, *target;
     lwa_pointer *p;
 
     if (block == NULL) {
         return;
     }
-    if (did->aim != LWA_DETACHED) {
+    if (item->did.aim == LW_AIMED || item->did.aim == LW_AIMED_AGAIN) {
         target = lwa_meets(value_at(at) + item->bias, 1);
         p = keep_pointer(block, at);
-        p->place = did->target;
+        p->place = item->did.aim == LW_AIMED ? item->did.target : p->place;
+        p->other = false;
         p->device = lwa_device_of(target, value_at(at));
         memcpy(block->bytes + (at - block->at), &p->device, LWA_POINTER);
-    } else if (did->attached == 0) {
+    } else if (item->did.times == 0) {
         drop_pointer(block, at);
         lwa_copy(block, at, LWA_POINTER, false);
     }

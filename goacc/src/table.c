@@ -11,8 +11,10 @@
 
 #include "inner.h"
 
-/* The events of the stored trace; when they are so many, they are folded into the table's base. */
+/* The events of the stored trace at most. They are folded into the table's base when they are so few, and one for each
+   mapped range, which the base has a copy of: so those that are stored lie near. */
 #define TRACE 16384
+#define LEAST_TRACE 256
 
 _Thread_local unsigned lwa_on;
 lw_limits lwa_limits;
@@ -248,7 +250,7 @@ void lwa_end_table(void)
 
 void lwa_room(void)
 {
-    if (stored[lwa_on] >= TRACE) {
+    if (stored[lwa_on] >= TRACE || stored[lwa_on] >= LEAST_TRACE + lwa_mapped[lwa_on]) {
         uint64_t folded;
         lw_fault fault;
 

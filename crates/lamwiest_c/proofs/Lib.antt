@@ -2,3 +2,4 @@ pub mod Reading
 pub mod Values
 pub mod Leasing
 pub mod Copying
+pub mod Telling

@@ -1,5 +1,5 @@
 -- What the numbers in the arrays of C stand for.
-use Rattle.std.specs.Prelude.{ℕ, ◌≡◌, ◌⊎◌, ◌+◌, Bool, false, true, ◌==◌, if◌then◌else◌, List, [], ◌∷◌, Option, Some, None, Result, Ok, Err}
+use Rattle.std.specs.Prelude.{ℕ, ◌≡◌, ◌⊎◌, ◌+◌, Bool, false, true, not, ◌==◌, if◌then◌else◌, List, [], ◌∷◌, Option, Some, None, Result, Ok, Err}
 use Rattle.acc_base.specs.declared.faults.Fault.TheVariants.{Memory}
 use Rattle.acc_base.specs.declared.items.EnterClause.{EnterClause}
 use Rattle.acc_base.specs.declared.items.ExitClause.{ExitClause}
@@ -58,6 +58,10 @@ pointer_of pointer = if pointer == 0 then None else Some pointer
 -- the queue of a directive; the last number stands for none
 abbrev pub queue_of : ℕ → Option ℕ
 queue_of queue = if queue == NO_QUEUE_GIVEN then None else Some queue
+
+-- whether a clause without arguments is given; 0 says that it is not
+abbrev pub is_given : ℕ → Bool
+is_given clause = not (clause == 0)
 
 -- an item under its clause
 abbrev pub item_of : {C : Type 0} → C → RawItem → Item C

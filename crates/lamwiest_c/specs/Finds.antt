@@ -1,13 +1,18 @@
 -- What a query of C finds.
-use Rattle.std.specs.Prelude.{ℕ, ◌≡◌, Bool, if◌then◌else◌, List, length, Option, None, Some, Ok, Err, MatchOption}
+use Rattle.std.specs.Prelude.{ℕ, ◌≡◌, ◌-◌, Bool, if◌then◌else◌, List, length, Option, None, Some, Ok, Err, MatchOption}
 use Rattle.acc_base.specs.declared.mappings.Counters.{Counters}
+use Rattle.acc_base.specs.declared.mappings.Found.{Found}
+use Rattle.acc_base.specs.declared.mappings.Found.TheVariants.{Inside}
+use Rattle.acc_base.specs.Ranges.{where_is}
+use Rattle.acc_base.specs.Records.{Records}
 use Rattle.acc_table.specs.declared.calls.Mapped.{Mapped}
+use Rattle.acc_table.specs.Queries.{mapped_from}
 use Rattle.lamwiest_c.specs.declared.statuses.TheConstants.{ENDED, ABSENT}
 use Rattle.lamwiest_c.specs.declared.statuses.Refusal.{Refusal}
 use Rattle.lamwiest_c.specs.declared.queries.RawCounters.{RawCounters}
 use Rattle.lamwiest_c.specs.declared.queries.RawMapped.{RawMapped}
 use Rattle.lamwiest_c.specs.Environments.{DataEnvironment}
-use Rattle.lamwiest_c.specs.Answers.{Told}
+use Rattle.lamwiest_c.specs.Answers.{Told, section_at}
 
 -- the bytes stand in the buffer, where there are some; else the buffer stays as it was, and C gets a refusal
 abbrev pub IsCopied : Option (List ℕ) → Refusal → List ℕ → List ℕ → Told → Type 0
@@ -29,6 +34,15 @@ IsAskedOf {A} handle same ask status old new =
 -- a truth as a number
 abbrev pub number_of_bool : Bool → ℕ
 number_of_bool b = if b then 1 else 0
+
+-- the mapped range in which a section was found
+abbrev pub range_found : Found → ℕ → Records → Option Mapped
+range_found (Inside block offset) start w = mapped_from (start - offset) w
+range_found _ start w = None
+
+-- the mapped range that a host address is in
+abbrev pub range_at : ℕ → Records → Option Mapped
+range_at address w = range_found (where_is (section_at address 1) w.ranges) address w
 
 -- counters as C sees them
 abbrev pub raw_counters : Counters → RawCounters

@@ -1,14 +1,17 @@
 //! What each item of the last directive did, so that a caller reads it and works nothing out.
 
-ghost use Rattle.std.specs.Prelude.{◌≡◌, option_map};
+ghost use Rattle.std.specs.Prelude.{◌≡◌, Some};
 ghost use Rattle.std.specs.List.{slice_get};
+ghost use Rattle.acc_base.specs.Clauses.{copies_in, copies_out};
+ghost use Rattle.acc_base.specs.Devices.{view};
 ghost use Rattle.lamwiest_c.specs.Finds.{IsAskedOf};
-ghost use Rattle.lamwiest_c.specs.Dids.{step_fields, aim_fields, raw_did, dids_in, did_at};
+ghost use Rattle.lamwiest_c.specs.Dids.{is_born, is_ended, is_moved, step_fields, aim_fields, copy_fields, of_entry, of_enter, of_exit, of_update, copy_at, raw_did, times_of, dids_in, did_in, did_at, told_over};
 
 use crate::handles::{Handle, put_back, take_out};
 use crate::queries::found;
-use crate::statuses::{ABSENT, ENDED};
-use acc_base::{Aim, Did, Event, Step};
+use crate::statuses::{DONE, ENDED};
+use acc_base::{Aim, Did, EnterClause, Event, ExitClause, Item, RegionClause, Step, UpdateClause};
+use acc_table::Table;
 use std::alloc::Global;
 
 /// What an item of the last event did.
@@ -19,6 +22,12 @@ pub struct RawDid {
     pub step: u32,
     /// What it did to its pointer, as `LW_AIMED`; 0 where it did nothing.
     pub aim: u32,
+    /// Which way its section was copied or put into a queue, as `LW_IN`; 0 where no byte was.
+    pub way: u32,
+    /// Of an entry to a region: 1 where the exit copies the section to the host, if it ends the mapping; else 0.
+    pub back: u32,
+    /// How many bytes were copied or put into a queue.
+    pub len: u64,
     /// The number of the block that the step names; 0 where it names none.
     pub block: u64,
     /// The device address of the first byte of a new block; else 0.
@@ -29,12 +38,20 @@ pub struct RawDid {
     pub holder: u64,
     /// The device address at which the pointer is aimed now; 0 where it was not aimed anew.
     pub target: u64,
+    /// How often the pointer is attached behind the event; 0 where it did nothing to a pointer.
+    pub times: u64,
 }
 
 struct StepFields {
     step: u32,
     block: u64,
     place: u64,
+}
+
+struct CopyFields {
+    way: u32,
+    back: u32,
+    len: u64,
 }
 
 struct AimFields {
@@ -83,8 +100,137 @@ fn aim_fields(aim: Aim) -> AimFields
     }
 }
 
-fn raw_did(did: Did) -> RawDid
-    ensures { result ≡ raw_did did }
+fn is_born(step: Step) -> bool
+    ensures { result ≡ is_born step }
+{
+    matches!(step, Step::Born { .. })
+}
+
+fn is_ended(step: Step) -> bool
+    ensures { result ≡ is_ended step }
+{
+    matches!(step, Step::Dropped { ended: true, .. })
+}
+
+fn is_moved(step: Step) -> bool
+    ensures { result ≡ is_moved step }
+{
+    matches!(step, Step::Moved { .. })
+}
+
+/// A new block gets the bytes of the section.
+fn copies_in(clause: RegionClause) -> bool
+    ensures { result ≡ copies_in clause }
+{
+    matches!(clause, RegionClause::Copy | RegionClause::Copyin)
+}
+
+/// Just before the mapping ends, host memory gets the bytes of the section.
+fn copies_out(clause: RegionClause) -> bool
+    ensures { result ≡ copies_out clause }
+{
+    matches!(clause, RegionClause::Copy | RegionClause::Copyout { .. })
+}
+
+/// A copy of so many bytes this way, if it was made or put into a queue.
+fn copy_fields(way: u32, copied: bool, back: bool, len: u64) -> CopyFields
+    ensures { result ≡ copy_fields way copied back len }
+{
+    let back = if back { 1 } else { 0 };
+    if copied {
+        CopyFields { way, back, len }
+    } else {
+        CopyFields {
+            way: 0,
+            back,
+            len: 0,
+        }
+    }
+}
+
+/// The copy of an item of a region's entry.
+fn of_entry(step: Step, item: Option<Item<RegionClause>>) -> CopyFields
+    ensures { result ≡ of_entry step item }
+{
+    match item {
+        Some(item) => {
+            let copied = is_born(step) && copies_in(item.clause);
+            copy_fields(1, copied, copies_out(item.clause), item.section.len)
+        }
+        None => copy_fields(0, false, false, 0),
+    }
+}
+
+/// The copy of an item of `enter data`.
+fn of_enter(step: Step, item: Option<Item<EnterClause>>) -> CopyFields
+    ensures { result ≡ of_enter step item }
+{
+    match item {
+        Some(item) => {
+            let copied = is_born(step) && matches!(item.clause, EnterClause::Copyin);
+            copy_fields(1, copied, false, item.section.len)
+        }
+        None => copy_fields(0, false, false, 0),
+    }
+}
+
+/// The copy of an item of `exit data`.
+fn of_exit(step: Step, item: Option<Item<ExitClause>>) -> CopyFields
+    ensures { result ≡ of_exit step item }
+{
+    match item {
+        Some(item) => {
+            let copied = is_ended(step) && matches!(item.clause, ExitClause::Copyout);
+            copy_fields(2, copied, false, item.section.len)
+        }
+        None => copy_fields(0, false, false, 0),
+    }
+}
+
+/// The copy of an item of `update`.
+fn of_update(step: Step, item: Option<Item<UpdateClause>>) -> CopyFields
+    ensures { result ≡ of_update step item }
+{
+    match item {
+        Some(item) => {
+            let way = match item.clause {
+                UpdateClause::ToSelf => 2,
+                UpdateClause::ToDevice => 1,
+            };
+            copy_fields(way, is_moved(step), false, item.section.len)
+        }
+        None => copy_fields(0, false, false, 0),
+    }
+}
+
+/// The copy of the item of a place in an event.
+fn copy_at(event: &Event, place: usize, step: Step) -> CopyFields
+    ensures { result ≡ copy_at place step event.now }
+{
+    match event {
+        Event::Entered { items, .. } => of_entry(step, items.as_slice().get(place).copied()),
+        Event::EnteredData { items, .. } => of_enter(step, items.as_slice().get(place).copied()),
+        Event::ExitedData { items, .. } => of_exit(step, items.as_slice().get(place).copied()),
+        Event::Updated { items, .. } => of_update(step, items.as_slice().get(place).copied()),
+        _ => copy_fields(0, false, false, 0),
+    }
+}
+
+/// How often the pointer of an item is attached now, where the item did something to it.
+fn times_of(table: &Table, aim: Aim) -> u64
+    ensures { result ≡ times_of aim (view 0 table.now.state).records }
+{
+    match aim {
+        Aim::None => 0,
+        Aim::New { pointer, .. } => table.attachment(0, pointer),
+        Aim::Again { pointer, .. } => table.attachment(0, pointer),
+        Aim::Less { pointer, .. } => table.attachment(0, pointer),
+        Aim::Cleared { pointer, .. } => table.attachment(0, pointer),
+    }
+}
+
+fn raw_did(did: Did, copy: CopyFields, times: u64) -> RawDid
+    ensures { result ≡ raw_did did copy times }
 {
     let StepFields { step, block, place } = step_fields(did.step);
     let AimFields {
@@ -93,14 +239,19 @@ fn raw_did(did: Did) -> RawDid
         holder,
         target,
     } = aim_fields(did.aim);
+    let CopyFields { way, back, len } = copy;
     RawDid {
         step,
         aim,
+        way,
+        back,
+        len,
         block,
         place,
         pointer,
         holder,
         target,
+        times,
     }
 }
 
@@ -117,26 +268,54 @@ fn did_in(event: &Event, place: usize) -> Option<Did>
     }
 }
 
-/// What the item of a place did in the last event of a trace.
-fn did_at(trace: &[Event], place: usize) -> Option<Did>
-    ensures { result ≡ did_at place trace.now }
+/// What the item of a place did in the last event of a table.
+fn did_at(table: &Table, place: usize) -> Option<RawDid>
+    ensures { result ≡ did_at place table.now }
 {
-    did_in(trace.last()?, place)
+    let event = table.trace().last()?;
+    let did = did_in(event, place)?;
+    let copy = copy_at(event, place, did.step);
+    Some(raw_did(did, copy, times_of(table, did.aim)))
 }
 
 /// What the item of a place, from 0 on, did in the last event. It is `ABSENT` where there is no such item, as behind a
 /// rebase, which leaves no event stored. The items of an exit from a region are those of its entry, in the same order.
 #[unsafe(no_mangle)]
 pub extern "C" fn lw_did(alloc: Global, table: &mut Handle, item: u64, did: &mut RawDid) -> u32
-    ensures { IsAskedOf table.old.value table.new.value (λ e. option_map raw_did (did_at item e.world.history.trace)) result did.old did.new }
+    ensures { IsAskedOf table.old.value table.new.value (λ e. did_at item e.world) result did.old did.new }
 {
     let Some(environment) = take_out(alloc, table) else {
         return ENDED;
     };
-    let answer = did_at(environment.table.trace(), item as usize);
+    let answer = did_at(&environment.table, item as usize);
     put_back(table, environment);
-    match answer {
-        Some(told) => found(Some(raw_did(told)), did),
-        None => ABSENT,
+    found(answer, did)
+}
+
+/// Tells each item of the last event in the same way. An element of the array stays where the event has no item of its
+/// place.
+fn tell_all(table: &Table, dids: &mut [RawDid])
+    ensures { dids.new ≡ told_over (λ place. did_at place table.now) 0 dids.old }
+{
+    let mut place = 0;
+    while place < dids.len() {
+        match did_at(table, place) {
+            Some(told) => dids[place] = told,
+            None => {}
+        }
+        place += 1;
     }
+}
+
+/// What the items of the last event did, from the first on, as [`lw_did`] tells each. An element behind them stays.
+#[unsafe(no_mangle)]
+pub extern "C" fn lw_dids(alloc: Global, table: &mut Handle, dids: &mut [RawDid]) -> u32
+    ensures { IsAskedOf table.old.value table.new.value (λ e. Some (told_over (λ place. did_at place e.world) 0 dids.old)) result dids.old dids.new }
+{
+    let Some(environment) = take_out(alloc, table) else {
+        return ENDED;
+    };
+    tell_all(&environment.table, dids);
+    put_back(table, environment);
+    DONE
 }

@@ -3,7 +3,7 @@
 ghost use Rattle.std.specs.Prelude.{◌≡◌};
 ghost use Rattle.acc_base.specs.declared.calls.Call.TheVariants.{Do};
 ghost use Rattle.acc_base.specs.declared.directives.Directive.TheVariants.{Exit, Wait, Step};
-ghost use Rattle.lamwiest_c.specs.Clauses.{queue_of, enter_of, enter_data_of, exit_data_of, update_of};
+ghost use Rattle.lamwiest_c.specs.Clauses.{queue_of, is_given, enter_of, enter_data_of, exit_data_of, update_of};
 ghost use Rattle.lamwiest_c.specs.Statuses.{IsAnswered, IsNumberAnswered};
 ghost use Rattle.lamwiest_c.specs.Answers.{IsMadeIn, IsDirected, IsOf};
 
@@ -12,6 +12,13 @@ use crate::items::{RawItem, queue_of};
 use crate::statuses::{FaultFields, Refusal, tell, tell_number};
 use acc_base::Directive;
 use std::alloc::Global;
+
+/// Whether a clause without arguments is given, of which C tells a number.
+fn is_given(clause: u32) -> bool
+    ensures { result ≡ is_given clause }
+{
+    clause != 0
+}
 
 /// Enters a data region with these items: the start of a `data` construct (OpenACC 3.3, section 2.6.5). Where it is
 /// done, `region` is the number by which [`lw_exit`] exits from it.
@@ -74,46 +81,46 @@ pub extern "C" fn lw_enter_data(
     tell(made, fault)
 }
 
-/// The `exit data` directive (OpenACC 3.3, section 2.6.6), with the `finalize` clause or without it. The queue is as
-/// that of [`lw_enter_data`].
+/// The `exit data` directive (OpenACC 3.3, section 2.6.6), without the `finalize` clause where that is 0, and else
+/// with it. The queue is as that of [`lw_enter_data`].
 #[unsafe(no_mangle)]
 pub extern "C" fn lw_exit_data(
     alloc: Global,
     table: &mut Handle,
     items: &[RawItem],
-    finalize: bool,
+    finalize: u32,
     queue: u64,
     fault: &mut FaultFields,
 ) -> u32
     ensures { IsOf table.old.value table.new.value (IsAnswered result fault.new)
-        (λ e v. IsDirected e (exit_data_of items.now finalize queue) (IsAnswered result fault.new) v) }
+        (λ e v. IsDirected e (exit_data_of items.now (is_given finalize) queue) (IsAnswered result fault.new) v) }
 {
     let Some(mut environment) = take_out(alloc, table) else {
         return tell(Err(Refusal::Ended), fault);
     };
-    let made = environment.exit_data(alloc, items, finalize, queue);
+    let made = environment.exit_data(alloc, items, is_given(finalize), queue);
     put_back(table, environment);
     tell(made, fault)
 }
 
-/// The `update` directive (OpenACC 3.3, the update directive), with the `if_present` clause or without it. The queue is
-/// as that of [`lw_enter_data`].
+/// The `update` directive (OpenACC 3.3, the update directive), without the `if_present` clause where that is 0, and else
+/// with it. The queue is as that of [`lw_enter_data`].
 #[unsafe(no_mangle)]
 pub extern "C" fn lw_update(
     alloc: Global,
     table: &mut Handle,
     items: &[RawItem],
-    if_present: bool,
+    if_present: u32,
     queue: u64,
     fault: &mut FaultFields,
 ) -> u32
     ensures { IsOf table.old.value table.new.value (IsAnswered result fault.new)
-        (λ e v. IsDirected e (update_of items.now if_present queue) (IsAnswered result fault.new) v) }
+        (λ e v. IsDirected e (update_of items.now (is_given if_present) queue) (IsAnswered result fault.new) v) }
 {
     let Some(mut environment) = take_out(alloc, table) else {
         return tell(Err(Refusal::Ended), fault);
     };
-    let made = environment.update(alloc, items, if_present, queue);
+    let made = environment.update(alloc, items, is_given(if_present), queue);
     put_back(table, environment);
     tell(made, fault)
 }

@@ -20,3 +20,4 @@ mod queries;
 mod statuses;
 mod tables;
 mod texts;
+mod versions;

@@ -10,12 +10,12 @@ ghost use Rattle.acc_base.specs.Queues.{queue_at};
 ghost use Rattle.acc_base.specs.Ranges.{where_is};
 ghost use Rattle.acc_table.specs.Queries.{is_inside, counters_of_section, mapped_from};
 ghost use Rattle.lamwiest_c.specs.Answers.{section_at};
-ghost use Rattle.lamwiest_c.specs.Finds.{number_of_bool, raw_counters, raw_mapped, IsFoundOrAbsent, IsAskedOf};
+ghost use Rattle.lamwiest_c.specs.Finds.{number_of_bool, raw_counters, raw_mapped, range_at, IsFoundOrAbsent, IsAskedOf};
 
 use crate::handles::{Handle, put_back, take_out};
 use crate::statuses::{ABSENT, DONE, ENDED};
-use acc_base::{Counters, Section};
-use acc_table::Mapped;
+use acc_base::{Counters, Found, Section};
+use acc_table::{Mapped, Table};
 use std::alloc::Global;
 
 /// The two reference counters of a mapped range (OpenACC 3.3, section 2.6.7).
@@ -179,6 +179,41 @@ pub extern "C" fn lw_mapped(
         return ENDED;
     };
     let answer = environment.table.mapped(0, from);
+    put_back(table, environment);
+    match answer {
+        Some(told) => found(Some(raw_mapped(told)), mapped),
+        None => ABSENT,
+    }
+}
+
+/// The mapped range that a host address is in.
+fn range_at(table: &Table, address: u64) -> Option<Mapped>
+    ensures { result ≡ range_at address (view 0 table.now.state).records }
+{
+    let only = Section {
+        start: address,
+        len: 1,
+    };
+    match table.find(0, only) {
+        Found::Inside { offset, .. } => table.mapped(0, address.saturating_sub(offset)),
+        Found::Empty | Found::Partly | Found::Absent => None,
+    }
+}
+
+/// The mapped range that a host address is in, with its counters; `ABSENT` where it is in none.
+#[unsafe(no_mangle)]
+pub extern "C" fn lw_range_at(
+    alloc: Global,
+    table: &mut Handle,
+    address: u64,
+    mapped: &mut RawMapped,
+) -> u32
+    ensures { IsAskedOf table.old.value table.new.value (λ e. option_map raw_mapped (range_at address (view 0 e.world.state).records)) result mapped.old mapped.new }
+{
+    let Some(environment) = take_out(alloc, table) else {
+        return ENDED;
+    };
+    let answer = range_at(&environment.table, address);
     put_back(table, environment);
     match answer {
         Some(told) => found(Some(raw_mapped(told)), mapped),

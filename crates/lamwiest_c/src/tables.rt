@@ -8,7 +8,7 @@ ghost use Rattle.lamwiest_c.specs.Begins.{default_limits, IsConfig, IsNotBegun, 
 use crate::environments::Environment;
 use crate::handles::{Handle, put_back, take_out};
 use crate::statuses::{FaultFields, Refusal, tell, tell_number};
-use acc_base::Config;
+use acc_base::{Config, Fault};
 use std::alloc::Global;
 use std::mem;
 
@@ -30,8 +30,8 @@ pub struct RawLimits {
     pub queue_cap: u64,
     /// How many events the stored trace may have: 1 to 16,777,216.
     pub trace_cap: u64,
-    /// Whether traces are full: they store the bytes that calls bring, too.
-    pub full: bool,
+    /// 1 where traces are full: they store the bytes that calls bring, too. Else 0.
+    pub full: u64,
 }
 
 /// The configuration of these limits.
@@ -51,10 +51,10 @@ fn config_of(limits: &RawLimits) -> Result<Config, Refusal>
         limits.queue_cap,
         limits.trace_cap,
     )?;
-    if limits.full {
-        Ok(config.with_full_trace())
-    } else {
-        Ok(config)
+    match limits.full {
+        0 => Ok(config),
+        1 => Ok(config.with_full_trace()),
+        _ => Err(Refusal::OfTable(Fault::BadConfig)),
     }
 }
 
@@ -79,7 +79,7 @@ pub extern "C" fn lw_limits_default(limits: &mut RawLimits)
         counter_max: 4_294_967_295,
         queue_cap: 256,
         trace_cap: 262_144,
-        full: false,
+        full: 0,
     };
 }
 

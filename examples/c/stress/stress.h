@@ -6,6 +6,7 @@
 #define STRESS_H
 
 #include "lamwiest.h"
+#include <stdbool.h>
 #include <stdio.h>
 
 /* The limits of accrun and of its scripts (docs/SCRIPTS.md), and sizes of this program. */

@@ -190,11 +190,11 @@ impl<T: Copy> Tree<T> {
         ensures room { self.old.room ≤ self.new.room }
     {
         height_law(&self.root);
-        let blank = Entry {
+        let mut entry = Entry {
             key,
             value: self.blank.value,
         };
-        let (entry, freed) = take_out(&mut self.root, blank);
+        let freed = take_out(&mut self.root, &mut entry);
         let (spare, count) = put_away(self.spare.take(), freed);
         self.spare = spare;
         self.waiting += count;
@@ -280,33 +280,31 @@ fn put_anew<T: Copy>(root: &mut Link<T>, spare: &mut Link<T>, waiting: &mut u64,
     *root = Some(changes::insert(root.take(), node, entry));
 }
 
-/// Takes the entry of a key out of its row, or out of the tree with its node where it has no other beside it. It answers
-/// the node that became free too, if one did.
-fn take_out<T: Copy>(root: &mut Link<T>, blank: Entry<T>) -> (Entry<T>, Link<T>)
+/// Takes the entry of a key out of its row, or out of the tree with its node where it has no other beside it, and writes
+/// it. It answers the node that became free, if one did.
+fn take_out<T: Copy>(root: &mut Link<T>, entry: &mut Entry<T>) -> Link<T>
     requires alone { IsAlone root.old }
     requires limit { height_of root.old < 2 ^ 61 }
     requires rising { KeysRise (entries_in root.old) }
-    requires there { IsSome (at_key blank.key (entries_in root.old)) }
-    ensures entry { at_key blank.key (entries_in root.old) ≡ Some result.0 }
-    ensures entries { entries_in root.new ≡ without_key blank.key (entries_in root.old) }
+    requires there { IsSome (at_key entry.old.key (entries_in root.old)) }
+    ensures entry { at_key entry.old.key (entries_in root.old) ≡ Some entry.new }
+    ensures entries { entries_in root.new ≡ without_key entry.old.key (entries_in root.old) }
     ensures alone { IsAlone root.new }
-    ensures freed { IsFreed result.1 }
-    ensures nodes { nodes_in root.old ≡ nodes_in root.new + nodes_in result.1 }
+    ensures freed { IsFreed result }
+    ensures nodes { nodes_in root.old ≡ nodes_in root.new + nodes_in result }
 {
-    let mut entry = blank;
-    match change_in_place(root, Change::Take, &mut entry) {
-        Outcome::Done => (entry, None),
-        Outcome::Few => {
-            let freed = join_few(root, entry.key);
-            (entry, freed)
-        }
+    let key = entry.key;
+    match change_in_place(root, Change::Take, entry) {
+        Outcome::Done => None,
+        Outcome::Few => join_few(root, key),
         Outcome::Refused => {
             let Some(tree) = root.take() else {
                 unreachable!()
             };
-            let (entry, rest, freed) = changes::remove(tree, blank.key);
+            let (taken, rest, freed) = changes::remove(tree, key);
+            *entry = taken;
             *root = rest;
-            (entry, freed)
+            freed
         }
     }
 }

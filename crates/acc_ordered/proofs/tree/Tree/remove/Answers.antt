@@ -6,8 +6,8 @@ use Rattle.acc_ordered.proofs.Tall.{low}
 use Rattle.acc_ordered.proofs.Kept.{rise-without_key}
 use Rattle.acc_ordered.proofs.tree.Tree.remove.Goals as goal
 
-pub take_out-entry-requires-clause-limit : goal.take_out-entry-requires-clause-limit
-take_out-entry-requires-clause-limit g c =
+pub take_out-freed-requires-clause-limit : goal.take_out-freed-requires-clause-limit
+take_out-freed-requires-clause-limit g c =
     let l : height_of c.self.inside.root ≤ 128 = low (height_of c.self.inside.root) (nodes_in c.self.inside.root) c.height_law.ensures.tall (omega (arith, c.self.invariant.nodes, c.self.invariant.limit)) in
     omega arith
 
@@ -15,10 +15,10 @@ pub invariant_of-self : goal.invariant_of-self
 invariant_of-self g c =
     let same : length_of c.take.result ≡ length_of c.self.inside.spare = ap length_of c.take.ensures.value in
     record {
-      rising = subst (λ (k : List (Entry g.row.T.Denot)). KeysRise k) (sym c.take_out-entry.ensures.entries) (rise-without_key c.args.key (entries_in c.self.inside.root) c.self.invariant.rising);
-      alone = c.take_out-entry.ensures.alone;
+      rising = subst (λ (k : List (Entry g.row.T.Denot)). KeysRise k) (sym c.take_out-freed.ensures.entries) (rise-without_key c.args.key (entries_in c.self.inside.root) c.self.invariant.rising);
+      alone = c.take_out-freed.ensures.alone;
       chain = c.put_away-spare.ensures.chain;
       waiting = omega (arith, c.self.invariant.waiting, same, c.put_away-spare.ensures.length);
-      nodes = omega (arith, c.self.invariant.nodes, c.take_out-entry.ensures.nodes, same, c.put_away-spare.ensures.length, c.put_away-spare.ensures.count);
+      nodes = omega (arith, c.self.invariant.nodes, c.take_out-freed.ensures.nodes, same, c.put_away-spare.ensures.length, c.put_away-spare.ensures.count);
       limit = c.self.invariant.limit;
     }

@@ -146,20 +146,6 @@ pub fn pop<T: Copy>(mut chain: Box<Node<T>>) -> (Box<Node<T>>, Link<T>)
     (chain, next)
 }
 
-/// Puts a node that became free, if one did, before a chain, and answers how many did.
-pub fn put_away<T: Copy>(chain: Link<T>, freed: Link<T>) -> (Link<T>, u64)
-    requires leaf { IsFreed freed }
-    requires chain { IsChain chain }
-    ensures chain { IsChain result.0 }
-    ensures length { length_of result.0 ≡ length_of chain + result.1 }
-    ensures count { result.1 ≡ nodes_in freed }
-{
-    match freed {
-        None => (chain, 0),
-        Some(node) => (push(chain, node), 1),
-    }
-}
-
 /// Comes to the node that a link leads to, if there is one, which is one step. A search comes to a node in no other way.
 #[inline]
 fn visit<'a, T: Copy>(link: &'a Link<T>, steps: &mut Steps) -> Option<&'a Node<T>>

@@ -7,7 +7,6 @@ use crate::changes;
 use crate::entries::{Around, Change, Entry, Found, Outcome};
 use crate::nodes::{
     Link, change_in_place, copy_into, find_around, fitting_at, height_law, new_node, pop, push,
-    put_away,
 };
 use acc_base::{Fault, Steps};
 use std::alloc::Global;
@@ -195,9 +194,7 @@ impl<T: Copy> Tree<T> {
             value: self.blank.value,
         };
         let freed = take_out(&mut self.root, &mut entry);
-        let (spare, count) = put_away(self.spare.take(), freed);
-        self.spare = spare;
-        self.waiting += count;
+        keep(&mut self.spare, &mut self.waiting, freed);
         entry
     }
 
@@ -305,6 +302,25 @@ fn take_out<T: Copy>(root: &mut Link<T>, entry: &mut Entry<T>) -> Link<T>
             *entry = taken;
             *root = rest;
             freed
+        }
+    }
+}
+
+/// Puts a node that became free, if one did, before those that wait.
+fn keep<T: Copy>(spare: &mut Link<T>, waiting: &mut u64, freed: Link<T>)
+    requires freed { IsFreed freed }
+    requires chain { IsChain spare.old }
+    requires waiting { waiting.old ≡ length_of spare.old }
+    requires limit { length_of spare.old + nodes_in freed < 2 ^ 64 }
+    ensures chain { IsChain spare.new }
+    ensures waiting { waiting.new ≡ length_of spare.new }
+    ensures count { length_of spare.new ≡ length_of spare.old + nodes_in freed }
+{
+    match freed {
+        None => {}
+        Some(node) => {
+            *spare = push(spare.take(), node);
+            *waiting += 1;
         }
     }
 }

@@ -1,5 +1,5 @@
 //! Nodes of a tree, the steps that change which subtrees hang from one, and the walks that go down.
-ghost use Rattle.std.specs.Prelude.{◌≡◌, ◌+◌, ◌*◌, ◌^◌, ◌<◌, ◌≤◌, [], ◌++◌, max, length, true, Some, None, IfSome, IfNone, IfErr, OnOk};
+ghost use Rattle.std.specs.Prelude.{◌≡◌, ◌+◌, ◌*◌, ◌^◌, ◌<◌, ◌≤◌, [], ◌++◌, max, min, length, true, Some, None, IfSome, IfNone, IfErr, OnOk};
 ghost use Rattle.acc_ordered.specs.Listing.{KeysRise, at_key, first_from, last_before, seen};
 ghost use Rattle.acc_ordered.specs.Changes.{IsSide, IsAllowed, IsChanged};
 ghost use Rattle.acc_ordered.specs.Nodes.{entries_in, height_of, length_of, nodes_in, IsTall, IsWide, IsLeaf, IsChain, IsFreed, IsBalanced};
@@ -265,6 +265,21 @@ pub fn change_in_place<T: Copy>(tree: &mut Link<T>, change: Change, entry: &mut 
                     outcome
                 }
             }
+        }
+    }
+}
+
+/// How many entries a tree has, or the greatest `usize` where they are more than that.
+pub fn count_entries<T: Copy>(tree: &Link<T>) -> usize
+    ensures { result ≡ min (length (entries_in tree.now)) usize.MAX }
+{
+    match tree {
+        None => 0,
+        Some(node) => {
+            let node: &Node<T> = node;
+            let before = count_entries(&node.left);
+            let behind = count_entries(&node.right);
+            before.saturating_add(node.row.len()).saturating_add(behind)
         }
     }
 }

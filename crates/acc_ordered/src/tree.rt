@@ -1,12 +1,13 @@
 //! A balanced tree of entries, each found by its key in a walk from the top.
-ghost use Rattle.std.specs.Prelude.{◌≡◌, ℕ, ◌+◌, ◌*◌, ◌^◌, ◌<◌, ◌≤◌, [], length, Some, None, IsSome, IfOk, IfErr, OnOk, OnErr, MatchBool};
+ghost use Rattle.std.specs.Prelude.{◌≡◌, ℕ, ◌+◌, ◌*◌, ◌^◌, ◌<◌, ◌≤◌, [], length, min, Some, None, IsSome, IfOk, IfErr, OnOk, OnErr, MatchBool};
 ghost use Rattle.acc_ordered.specs.Listing.{KeysRise, at_key, first_from, last_before, with_entry, without_key, with_value, seen};
 ghost use Rattle.acc_ordered.specs.Nodes.{entries_in, height_of, length_of, nodes_in, IsAlone, IsChain, IsFreed};
 
 use crate::changes;
 use crate::entries::{Around, Change, Entry, Found, Outcome};
 use crate::nodes::{
-    Link, change_in_place, copy_into, find_around, fitting_at, height_law, new_node, pop, push,
+    Link, change_in_place, copy_into, count_entries, find_around, fitting_at, height_law, new_node,
+    pop, push,
 };
 use acc_base::{Fault, Steps};
 use std::alloc::Global;
@@ -207,6 +208,13 @@ impl<T: Copy> Tree<T> {
         change_in_place(&mut self.root, Change::Write, &mut Entry { key, value });
     }
 
+    /// How many entries there are, or the greatest `usize` where they are more than that. It counts them row by row.
+    pub fn len(&self) -> usize
+        ensures { result ≡ min (length self.now.entries) usize.MAX }
+    {
+        count_entries(&self.root)
+    }
+
     /// All entries by rising key, in a vector of their own.
     ///
     /// # Errors
@@ -216,7 +224,7 @@ impl<T: Copy> Tree<T> {
         ensures ok { IfOk result (λ copied. copied.items ≡ self.now.entries) }
         ensures only { IfErr result (λ fault. fault ≡ Fault.Memory) }
     {
-        let mut copied = Vec::new(alloc);
+        let mut copied = Vec::with_capacity(alloc, self.len())?;
         copy_into(&self.root, &mut copied)?;
         Ok(copied)
     }

@@ -16,11 +16,13 @@ use std::marker::Model;
 /// Entries by rising key, and nodes that wait for more of them.
 ///
 /// It is a T-tree: the heights of a node's two subtrees differ by at most one, and each node holds a row of up to 64
-/// entries. Contracts see the list of the entries by rising key, and how many more there is room for.
+/// entries, whose keys stand apart from the values. Contracts see the list of the entries by rising key, and how many
+/// more there is room for.
 ///
 /// Memory is asked for by [`Tree::reserve`] alone: an entry goes into a row that has place for it, or else into a node
-/// that waits. A node whose row becomes empty waits again. A removal from a row of 16 or 8 entries joins nodes on its way,
-/// one of them without subtrees and one above it, where they have at most 32 entries together: one waits again.
+/// that waits, which gets half of a full row or begins a new one. A removal changes one row in place. Where it leaves 16
+/// or 8 entries, that row is joined with one beside it, if they have at most 32 together, and a node waits again. So does
+/// one whose row becomes empty.
 ///
 /// A search comes to at most two nodes for each binary digit of the number of entries. It then makes at most seven
 /// comparisons in one row.

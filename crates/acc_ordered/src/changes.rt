@@ -285,32 +285,19 @@ fn fold_right<T: Copy>(top: Box<Node<T>>, right: Link<T>) -> (Box<Node<T>>, Link
     (whole, rest, Some(freed))
 }
 
-/// Joins two subtrees and the node above them, one of which lost an entry. Rows are joined first, where they have few
-/// entries and no node became free so far.
-fn close<T: Copy>(
-    left: Link<T>,
-    top: Box<Node<T>>,
-    right: Link<T>,
-    freed: Link<T>,
-) -> (Box<Node<T>>, Link<T>)
+/// Joins the row of a node with the last before it or the first behind it, where both have few entries, and puts its
+/// subtrees back. It answers the node that became free too, if one did.
+fn fold_here<T: Copy>(left: Link<T>, top: Box<Node<T>>, right: Link<T>) -> (Box<Node<T>>, Link<T>)
     requires leaf { IsLeaf top.value }
-    requires freed { IsFreed freed }
-    requires alone { IsAlone left × IsAlone right }
-    requires not_left { height_of left ≤ height_of right + 1 + nodes_in freed }
-    requires not_right { height_of right ≤ height_of left + 1 + nodes_in freed }
+    requires balanced { IsBalanced left right }
     requires limit { max (height_of left) (height_of right) < 2 ^ 62 }
     ensures entries { result.0.value.entries ≡ entries_in left ++ top.value.entries ++ entries_in right }
     ensures alone { result.0.value.behind ≡ 0 }
     ensures freed { IsFreed result.1 }
-    ensures same { 0 < nodes_in freed → nodes_in result.1 ≡ nodes_in freed }
-    ensures nodes { result.0.value.nodes + nodes_in result.1 ≡ nodes_in left + (nodes_in right + 1) + nodes_in freed }
-    ensures not_lower { max (height_of left) (height_of right) ≤ result.0.value.height }
-    ensures not_higher { result.0.value.height ≤ max (height_of left) (height_of right) + 1 }
-    ensures balanced { IsBalanced left right → nodes_in result.1 ≡ nodes_in freed → result.0.value.height ≡ max (height_of left) (height_of right) + 1 }
+    ensures nodes { result.0.value.nodes + nodes_in result.1 ≡ nodes_in left + (nodes_in right + 1) }
+    ensures height { IsLowered (max (height_of left) (height_of right) + 1) result.0.value.height }
+    ensures kept { nodes_in result.1 ≡ 0 → result.0.value.height ≡ max (height_of left) (height_of right) + 1 }
 {
-    if freed.is_some() {
-        return (balance(left, top, right), freed);
-    }
     let (left, top, freed) = fold_left(left, top);
     if freed.is_some() {
         return (balance(left, top, right), freed);
@@ -344,8 +331,7 @@ fn remove_here<T: Copy>(
         return (entry, merge(left, right), Some(top));
     }
     let (entry, top) = shorten(top, key);
-    let (tree, freed) = close(left, top, right, None);
-    (entry, Some(tree), freed)
+    (entry, Some(join(left, top, right)), None)
 }
 
 /// Takes the entry of a key out of a tree, and answers it, what is left, and the node that became free, if one did.
@@ -367,13 +353,11 @@ pub fn remove<T: Copy>(tree: Box<Node<T>>, key: u64) -> (Entry<T>, Link<T>, Link
     if key < first {
         let Some(left) = left else { unreachable!() };
         let (entry, left, freed) = remove(left, key);
-        let (tree, freed) = close(left, top, right, freed);
-        (entry, Some(tree), freed)
+        (entry, Some(balance(left, top, right)), freed)
     } else if last < key {
         let Some(right) = right else { unreachable!() };
         let (entry, right, freed) = remove(right, key);
-        let (tree, freed) = close(left, top, right, freed);
-        (entry, Some(tree), freed)
+        (entry, Some(balance(left, top, right)), freed)
     } else {
         remove_here(left, top, right, key)
     }
@@ -403,7 +387,7 @@ pub fn fold<T: Copy>(tree: Link<T>, key: u64) -> (Link<T>, Link<T>)
         let (right, freed) = fold(right, key);
         (Some(balance(left, top, right)), freed)
     } else {
-        let (whole, freed) = close(left, top, right, None);
+        let (whole, freed) = fold_here(left, top, right);
         (Some(whole), freed)
     }
 }

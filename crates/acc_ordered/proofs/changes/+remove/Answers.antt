@@ -129,7 +129,7 @@ returns-in-Some-clause-entries g t c =
     let some : IsSome (at_key c.args.key (l ++ w ++ r)) = subst (λ (es : List (Entry g.row.T.Denot)). IsSome (at_key c.args.key es)) whole c.requires.there in
     let d = left_beside c.args.key first last l w r p c.if-key-first.true in
     let is : c.split-left.result.0 ≡ Some c.in-Some.left = c.in-Some.is in
-    c.close-tree.ensures.entries ∙ ap (λ (es : List (Entry g.row.T.Denot)). es ++ w ++ r) (c.remove-entry.ensures.entries ∙ ap (without_key c.args.key) (sym (ap entries_in is))) ∙ sym (without_left_part c.args.key l w r d) ∙ sym (ap (without_key c.args.key) whole)
+    c.balance.ensures.entries ∙ ap (λ (es : List (Entry g.row.T.Denot)). es ++ w ++ r) (c.remove-entry.ensures.entries ∙ ap (without_key c.args.key) (sym (ap entries_in is))) ∙ sym (without_left_part c.args.key l w r d) ∙ sym (ap (without_key c.args.key) whole)
 
 pub returns-in-Some-right-clause-entry : goal.returns-in-Some-right-clause-entry
 returns-in-Some-right-clause-entry g t c =
@@ -159,7 +159,7 @@ returns-in-Some-right-clause-entries g t c =
     let some : IsSome (at_key c.args.key (l ++ w ++ r)) = subst (λ (es : List (Entry g.row.T.Denot)). IsSome (at_key c.args.key es)) whole c.requires.there in
     let d = right_beside c.args.key first last l w r p c.if-last-key.true in
     let is : c.split-left.result.2 ≡ Some c.in-Some-right.right = c.in-Some-right.is in
-    c.close-tree-then-last-key.ensures.entries ∙ ap (λ (es : List (Entry g.row.T.Denot)). l ++ w ++ es) (c.remove-entry-then-last-key.ensures.entries ∙ ap (without_key c.args.key) (sym (ap entries_in is))) ∙ sym (without_right_part c.args.key l w r d) ∙ sym (ap (without_key c.args.key) whole)
+    c.balance-then-last-key.ensures.entries ∙ ap (λ (es : List (Entry g.row.T.Denot)). l ++ w ++ es) (c.remove-entry-then-last-key.ensures.entries ∙ ap (without_key c.args.key) (sym (ap entries_in is))) ∙ sym (without_right_part c.args.key l w r d) ∙ sym (ap (without_key c.args.key) whole)
 
 pub returns-else-last-key-clause-entry : goal.returns-else-last-key-clause-entry
 returns-else-last-key-clause-entry g t c =

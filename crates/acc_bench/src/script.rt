@@ -2,7 +2,7 @@
 
 use crate::measuring::{largest, tell_since};
 use acc_base::Fault;
-use acc_script::{MemorySink, MemorySource};
+use acc_script::{MemorySink, MemorySource, Unwatched};
 use anyhow::Result;
 use std::alloc::{AllocError, Global};
 use std::rt::Clock;
@@ -46,6 +46,6 @@ fn text_of(alloc: Global, count: u64) -> Result<String, AllocError> {
 fn play<R: Threads + Wait + Sync + AllocGlobal>(rt: &R, text: &str) -> Result<(), Fault> {
     let mut reader = MemorySource::new(text.as_bytes());
     let mut writer = MemorySink::new(rt.alloc());
-    acc_script::run(rt, &mut reader, &mut writer, largest()?, 1)?;
+    acc_script::run(rt, &mut reader, &mut writer, largest()?, 1, &mut Unwatched)?;
     Ok(())
 }

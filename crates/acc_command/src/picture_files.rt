@@ -7,9 +7,9 @@ use std::alloc::Global;
 
 /// Keeps pictures as files of these names.
 #[derive(Clone, Copy)]
-pub struct PictureFiles<'a, D> {
+pub struct PictureFiles<'a, 'b, D> {
     /// Where the files are.
-    pub files: &'a D,
+    pub files: &'b D,
     /// The allocator.
     pub alloc: Global,
     /// The file of the picture at the end, if there is one.
@@ -18,7 +18,7 @@ pub struct PictureFiles<'a, D> {
     pub each: Option<&'a str>,
 }
 
-impl<D: FileStore> PictureSink for PictureFiles<'_, D> {
+impl<D: FileStore> PictureSink for PictureFiles<'_, '_, D> {
     fn keep(&self, frame: Frame, picture: &[u8]) -> Result<(), Stop> {
         let is_written = match frame {
             Frame::Last => self.write(self.last.unwrap_or(""), picture),
@@ -32,7 +32,7 @@ impl<D: FileStore> PictureSink for PictureFiles<'_, D> {
     }
 }
 
-impl<D: FileStore> PictureFiles<'_, D> {
+impl<D: FileStore> PictureFiles<'_, '_, D> {
     fn write(&self, name: &str, picture: &[u8]) -> bool {
         self.files.write(name, picture)
     }

@@ -2,10 +2,9 @@
 
 use crate::endings::Mishap;
 use crate::options::Options;
-use acc_base::Config;
+use acc_base::{Config, Fault};
 use acc_emit::emit;
-use acc_follow::write_page;
-use acc_script::{Sink, Source, Status, read_all};
+use acc_script::{Sink, Source, Status, read_all, write_all};
 use std::sync::Wait;
 use std::thread::Threads;
 
@@ -13,7 +12,7 @@ use std::thread::Threads;
 ///
 /// # Errors
 ///
-/// Those of [`read_all`], [`emit`] and [`write_page`]. Up to a failure of the sink nothing is written.
+/// Those of [`read_all`] and [`emit`]; [`Fault::Write`] where the sink fails. Before that nothing is written.
 pub fn emit_script<'a, R: Threads + Wait + Sync + AllocGlobal, S: Source, O: Sink>(
     rt: &R,
     options: Options<'_>,
@@ -23,6 +22,9 @@ pub fn emit_script<'a, R: Threads + Wait + Sync + AllocGlobal, S: Source, O: Sin
 ) -> Result<Status, Mishap<'a>> {
     let script = read_all(rt.alloc(), reader)?;
     let page = emit(rt, config, &script, options.until_refusal)?;
-    write_page(&page, out)?;
-    Ok(Status::Clean)
+    if write_all(out, page.whole()?) {
+        Ok(Status::Clean)
+    } else {
+        Err(Mishap::Fault(Fault::Write))
+    }
 }

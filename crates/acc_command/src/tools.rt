@@ -10,8 +10,8 @@ use crate::picture_files::PictureFiles;
 use crate::programs::emit_script;
 use crate::words::WordsFault;
 use acc_base::{Config, Fault};
-use acc_follow::{Frame, Output, Page, Setting, Stop, first_difference, follow};
-use acc_script::{MemorySink, MemorySource, Sink, Source, Status, run, write_all};
+use acc_follow::{Beside, Frame, Page, Setting, Stop, first_difference, follow};
+use acc_script::{MemorySink, MemorySource, Sink, Source, Status, write_all};
 use clap::Error;
 use clap::error::ErrorKind;
 use std::sync::Wait;
@@ -69,7 +69,7 @@ pub fn tell_words<E: Sink>(err: &mut E, fault: WordsFault) -> u8 {
 /// told there in one line, after `out` was flushed, and with `--explain` its reason follows. The first of these is
 /// told: the expected output cannot be read; [`Fault::BadConfig`]; those of the run; [`Fault::Write`] where the flush
 /// fails. Help and the version go to `out`. A failure of `err` changes nothing.
-pub fn tool<R: Threads + Wait + Sync + AllocGlobal, S: Source, O: Output, E: Sink, D: FileStore>(
+pub fn tool<R: Threads + Wait + Sync + AllocGlobal, S: Source, O: Sink, E: Sink, D: FileStore>(
     rt: &R,
     words: Vec<String>,
     reader: &mut S,
@@ -82,9 +82,15 @@ pub fn tool<R: Threads + Wait + Sync + AllocGlobal, S: Source, O: Output, E: Sin
         Err(error) => return tell_usage(rt, out, err, &error),
     };
     let mut reason = Page::new(rt.alloc());
+    let ends = Ends {
+        out: &mut *out,
+        err: &mut *err,
+        files,
+        reason: &mut reason,
+    };
     let ending = match options.expect {
-        Some(name) => compared(rt, options, name, reader, err, files, &mut reason),
-        None => carried_out(rt, options, reader, out, err, files, &mut reason),
+        Some(name) => compared(rt, options, name, reader, ends),
+        None => carried_out(rt, options, reader, ends),
     };
     match flushed(out, ending) {
         Ok(Status::Clean) => CLEAN,
@@ -97,7 +103,17 @@ pub fn tool<R: Threads + Wait + Sync + AllocGlobal, S: Source, O: Output, E: Sin
     }
 }
 
-fn flushed<'a, O: Output>(
+/// What a run writes to, and the store of its files.
+#[derive(Drop)]
+struct Ends<'a, O, E, D> {
+    out: &'a mut O,
+    err: &'a mut E,
+    files: &'a D,
+    /// Gets the reason of a fault.
+    reason: &'a mut Page,
+}
+
+fn flushed<'a, O: Sink>(
     out: &mut O,
     ending: Result<Status, Mishap<'a>>,
 ) -> Result<Status, Mishap<'a>> {
@@ -111,62 +127,32 @@ fn carried_out<
     'a,
     R: Threads + Wait + Sync + AllocGlobal,
     S: Source,
-    O: Output,
+    O: Sink,
     E: Sink,
     D: FileStore,
 >(
     rt: &R,
     options: Options<'a>,
     reader: &mut S,
-    out: &mut O,
-    err: &mut E,
-    files: &D,
-    reason: &mut Page,
+    ends: Ends<'_, O, E, D>,
 ) -> Result<Status, Mishap<'a>> {
     let config = limits(options)?;
     match (options.drill, options.file) {
-        (Some(rounds), _) => Ok(drill_threads(rt, options, config, rounds, out)?),
-        (None, Some(name)) => run_file(rt, options, config, name, out, err, files, reason),
-        (None, None) => use_script(rt, options, config, reader, out, err, files, reason),
+        (Some(rounds), _) => Ok(drill_threads(rt, options, config, rounds, ends.out)?),
+        (None, Some(name)) => run_file(rt, options, config, name, ends),
+        (None, None) => use_script(rt, options, config, reader, ends),
     }
 }
 
-fn run_file<'a, R: Threads + Wait + Sync + AllocGlobal, O: Output, E: Sink, D: FileStore>(
+fn run_file<'a, R: Threads + Wait + Sync + AllocGlobal, O: Sink, E: Sink, D: FileStore>(
     rt: &R,
     options: Options<'a>,
     config: Config,
     name: &'a str,
-    out: &mut O,
-    err: &mut E,
-    files: &D,
-    reason: &mut Page,
+    ends: Ends<'_, O, E, D>,
 ) -> Result<Status, Mishap<'a>> {
-    let script = read_file(files, name)?;
-    let mut reader = MemorySource::new(&script);
-    use_script(rt, options, config, &mut reader, out, err, files, reason)
-}
-
-fn use_script<
-    'a,
-    R: Threads + Wait + Sync + AllocGlobal,
-    S: Source,
-    O: Output,
-    E: Sink,
-    D: FileStore,
->(
-    rt: &R,
-    options: Options<'a>,
-    config: Config,
-    reader: &mut S,
-    out: &mut O,
-    err: &mut E,
-    files: &D,
-    reason: &mut Page,
-) -> Result<Status, Mishap<'a>> {
-    if options.emit {
-        return emit_script(rt, options, config, reader, out);
-    }
-    run_script(rt, options, config, reader, out, err, files, reason)
+    let script = read_file(ends.files, name)?;
+    use_script(rt, options, config, &mut MemorySource::new(&script), ends)
 }
 
 fn read_file<'a, D: FileStore>(files: &D, name: &'a str) -> Result<Vec<u8>, Mishap<'a>> {
@@ -177,18 +163,28 @@ fn read_file<'a, D: FileStore>(files: &D, name: &'a str) -> Result<Vec<u8>, Mish
     }
 }
 
-fn compared<'a, R: Threads + Wait + Sync + AllocGlobal, S: Source, E: Sink, D: FileStore>(
+fn compared<'a, R: Threads + Wait + Sync + AllocGlobal, S: Source, O: Sink, E: Sink, D: FileStore>(
     rt: &R,
     options: Options<'a>,
     name: &'a str,
     reader: &mut S,
-    err: &mut E,
-    files: &D,
-    reason: &mut Page,
+    ends: Ends<'_, O, E, D>,
 ) -> Result<Status, Mishap<'a>> {
+    let Ends {
+        err,
+        files,
+        reason,
+        ..
+    } = ends;
     let expected = read_file(files, name)?;
     let mut found = MemorySink::new(rt.alloc());
-    match carried_out(rt, options, reader, &mut found, err, files, reason) {
+    let within = Ends {
+        out: &mut found,
+        err: &mut *err,
+        files,
+        reason,
+    };
+    match carried_out(rt, options, reader, within) {
         Ok(_) => Ok(agreement(rt, &expected, found.as_slice(), err)),
         // This sink fails for want of memory alone.
         Err(Mishap::Fault(Fault::Write)) => Err(Mishap::Fault(Fault::Memory)),
@@ -211,11 +207,11 @@ fn agreement<R: AllocGlobal, E: Sink>(
     }
 }
 
-fn run_script<
+fn use_script<
     'a,
     R: Threads + Wait + Sync + AllocGlobal,
     S: Source,
-    O: Output,
+    O: Sink,
     E: Sink,
     D: FileStore,
 >(
@@ -223,28 +219,33 @@ fn run_script<
     options: Options<'a>,
     config: Config,
     reader: &mut S,
-    out: &mut O,
-    err: &mut E,
-    files: &D,
-    reason: &mut Page,
+    ends: Ends<'_, O, E, D>,
 ) -> Result<Status, Mishap<'a>> {
-    let parts = threads(options);
-    if !options.views.are_any() {
-        return Ok(run(rt, reader, out, config, parts)?);
+    let Ends {
+        out,
+        err,
+        files,
+        reason,
+    } = ends;
+    if options.emit {
+        return emit_script(rt, options, config, reader, out);
     }
-    let views = options.views;
     let setting = Setting {
         config,
-        parts,
-        views,
+        parts: threads(options),
+        views: options.views,
     };
-    let pictures = PictureFiles {
-        files,
-        alloc: rt.alloc(),
-        last: options.svg,
-        each: options.svg_every,
+    let beside = Beside {
+        err,
+        pictures: &PictureFiles {
+            files,
+            alloc: rt.alloc(),
+            last: options.svg,
+            each: options.svg_every,
+        },
+        reason,
     };
-    match follow(rt, setting, reader, out, err, &pictures, reason) {
+    match follow(rt, setting, reader, out, beside) {
         Ok(status) => Ok(status),
         Err(stop) => Err(mishap_of(options, stop)),
     }
@@ -297,7 +298,7 @@ fn threads(options: Options<'_>) -> usize
 }
 
 /// A fault of the command line goes to `err`; help and the version, which were asked for, go to `out`.
-fn tell_usage<R: AllocGlobal, O: Output, E: Sink>(
+fn tell_usage<R: AllocGlobal, O: Sink, E: Sink>(
     rt: &R,
     out: &mut O,
     err: &mut E,
@@ -318,7 +319,7 @@ fn tell_usage<R: AllocGlobal, O: Output, E: Sink>(
     tell_answer(out, err, &text)
 }
 
-fn tell_answer<O: Output, E: Sink>(out: &mut O, err: &mut E, text: &str) -> u8 {
+fn tell_answer<O: Sink, E: Sink>(out: &mut O, err: &mut E, text: &str) -> u8 {
     if write_all(out, text.as_bytes()) && out.flush() {
         return CLEAN;
     }

@@ -1,16 +1,18 @@
-//! Follows a script.
+//! Follows a script: what is shown of it, line by line.
 
-use crate::outputs::Output;
+ghost use Rattle.std.specs.Prelude.{◌≤◌, []};
+ghost use Rattle.acc_script.specs.Told.{Took};
+
+use crate::copiers::Copier;
 use crate::picture_sinks::{Frame, PictureSink, Stop};
-use crate::report_objects::put_report;
 use acc_base::{Config, Event, Fault, ScriptFault};
 use acc_explain::{explain_fault, explain_refusal, explain_unclosed, is_pragma, warn_of_pragma};
 use acc_log::Log;
 use acc_page::{Names, Page, statement_text};
 use acc_picture::{Caption, put_picture};
-use acc_read::{Statement, Trouble, line_at, next_line};
-use acc_script::{Effect, Session, Sink, Source, Status, read_all, write_all, write_effect};
-use acc_table::Table;
+use acc_read::{Statement, line_at};
+use acc_script::{Effect, MemorySink, Session, Sink, Source, Status, Watcher, run, write_all};
+use std::alloc::Global;
 use std::sync::Wait;
 use std::thread::Threads;
 
@@ -32,11 +34,6 @@ pub struct Views {
 }
 
 impl Views {
-    /// Whether any of it is shown.
-    pub fn are_any(self) -> bool {
-        self.echo || self.json || self.log || self.explain || self.picture || self.pictures
-    }
-
     /// Whether any of it speaks of arrays by their names.
     fn name_arrays(self) -> bool {
         self.log || self.explain || self.picture || self.pictures
@@ -54,251 +51,209 @@ pub struct Setting {
     pub views: Views,
 }
 
-/// Reads a whole script and runs it as `acc_script::run` does, line by line on a new table of these limits, and shows
-/// more of it.
-///
-/// The log and what is explained go to `err`, each line's behind what it prints. Why a line is at fault goes to
-/// `reason`, since it stands behind the fault itself. Pictures go to `pictures`.
+/// Where that goes which is shown beside what a script prints.
+#[derive(Drop)]
+pub struct Beside<'a, E, G> {
+    /// Takes the log and what is explained, each line's behind what it prints. Its failure changes nothing.
+    pub err: &'a mut E,
+    /// Keeps the pictures.
+    pub pictures: &'a G,
+    /// Gets why a line is at fault, which stands behind the fault itself.
+    pub reason: &'a mut Page,
+}
+
+/// Runs a whole script as [`run`] does, and shows more of it.
 ///
 /// # Errors
 ///
-/// Those of `acc_script::run`; what the lines before the fault print was written. Memory may be wanting for what is
-/// shown, too. [`Stop::Picture`] where a picture cannot be kept. A failure of `err` changes nothing.
-pub fn follow<
-    R: Threads + Wait + Sync + AllocGlobal,
-    S: Source,
-    O: Output,
-    E: Sink,
-    G: PictureSink,
->(
+/// Those of [`run`]. Memory may be wanting for what is shown, too. [`Stop::Picture`] where a picture cannot be kept.
+/// Where something cannot be shown, nothing more is, and the script runs on.
+pub fn follow<R: Threads + Wait + Sync + AllocGlobal, S: Source, O: Sink, E: Sink, G: PictureSink>(
     rt: &R,
     setting: Setting,
     reader: &mut S,
     out: &mut O,
-    err: &mut E,
-    pictures: &G,
-    reason: &mut Page,
-) -> Result<Status, Stop> {
-    let input = read_all(rt.alloc(), reader)?;
-    follow_input(rt, setting, &input, out, err, pictures, reason)
-}
-
-fn follow_input<R: Threads + Wait + Sync + AllocGlobal, O: Output, E: Sink, G: PictureSink>(
-    rt: &R,
-    setting: Setting,
-    input: &[u8],
-    out: &mut O,
-    err: &mut E,
-    pictures: &G,
-    reason: &mut Page,
-) -> Result<Status, Stop> {
-    let mut follower = follower_of(rt, setting)?;
-    follower.follow(rt, input, out, err, pictures, reason)
-}
-
-/// The end of a run counts first, and then whether its log was written.
-fn ended(ending: Result<Status, Stop>, is_told: Result<(), Fault>) -> Result<Status, Stop> {
-    let status = ending?;
-    is_told?;
-    Ok(status)
-}
-
-/// It is boxed: so much is dear to hand on.
-fn follower_of<R: AllocGlobal>(rt: &R, setting: Setting) -> Result<Box<Follower>, Fault> {
-    let follower = Follower {
-        session: Session::new(rt.alloc(), setting.config, setting.parts)?,
+    beside: Beside<'_, E, G>,
+) -> Result<Status, Stop>
+    requires { (1 ≤ setting.parts) × (setting.parts ≤ 64) }
+{
+    let Beside {
+        err,
+        pictures,
+        reason,
+    } = beside;
+    let mut follower = Follower {
+        alloc: rt.alloc(),
+        views: setting.views,
+        err,
+        pictures,
+        reason,
         names: Names::new(rt.alloc()),
         log: Log::new(rt.alloc()),
         entries: Vec::new(rt.alloc()),
         drawn: 0,
-        views: setting.views,
+        stop: None,
     };
-    Ok(Box::new(rt.alloc(), follower)?)
+    let ending = if setting.views.echo || setting.views.json {
+        run_copied(rt, setting, reader, out, &mut follower)
+    } else {
+        run(
+            rt,
+            reader,
+            out,
+            setting.config,
+            setting.parts,
+            &mut follower,
+        )
+    };
+    let told = follower.write_told(out);
+    follower.ended(ending, told)
+}
+
+/// Runs a script into memory, and copies what it prints.
+fn run_copied<R: Threads + Wait + Sync + AllocGlobal, S: Source, O: Sink, X: Watcher<O>>(
+    rt: &R,
+    setting: Setting,
+    reader: &mut S,
+    out: &mut O,
+    watcher: &mut X,
+) -> Result<Status, Fault>
+    requires { (1 ≤ setting.parts) × (setting.parts ≤ 64) }
+{
+    let mut printed = MemorySink::new(rt.alloc());
+    let mut copier = Copier {
+        out,
+        watcher,
+        alloc: rt.alloc(),
+        echo: setting.views.echo,
+        json: setting.views.json,
+        copied: 0,
+        failed: None,
+    };
+    let ending = run(
+        rt,
+        reader,
+        &mut printed,
+        setting.config,
+        setting.parts,
+        &mut copier,
+    );
+    match (copier.failed, ending) {
+        (Some(fault), _) => Err(fault),
+        // This sink fails for want of memory alone.
+        (None, Err(Fault::Write)) => Err(Fault::Memory),
+        (None, ending) => ending,
+    }
 }
 
 #[derive(Drop)]
-struct Follower {
-    session: Session,
+struct Follower<'a, E, G> {
+    alloc: Global,
+    views: Views,
+    err: &'a mut E,
+    pictures: &'a G,
+    reason: &'a mut Page,
     names: Names,
     log: Log,
     /// The lines whose data regions are open, the innermost last.
     entries: Vec<u64>,
     /// How many events the trace had when it was last looked whether a picture is due.
     drawn: usize,
-    views: Views,
+    /// Why nothing more is shown.
+    stop: Option<Stop>,
 }
 
-impl Follower {
-    fn follow<R: Threads + Wait + Sync + AllocGlobal, O: Output, E: Sink, G: PictureSink>(
+impl<O: Sink, E: Sink, G: PictureSink> Watcher<O> for Follower<'_, E, G> {
+    fn before(
         &mut self,
-        rt: &R,
-        input: &[u8],
-        out: &mut O,
-        err: &mut E,
-        pictures: &G,
-        reason: &mut Page,
-    ) -> Result<Status, Stop> {
-        let ending = self.script(rt, input, out, err, pictures, reason);
-        let is_told = self.end_log(out, err);
-        ended(ending, is_told)
-    }
-
-    fn script<R: Threads + Wait + Sync + AllocGlobal, O: Output, E: Sink, G: PictureSink>(
-        &mut self,
-        rt: &R,
-        input: &[u8],
-        out: &mut O,
-        err: &mut E,
-        pictures: &G,
-        reason: &mut Page,
-    ) -> Result<Status, Stop> {
-        let status = self.lines(rt, input, out, err, pictures, reason)?;
-        if self.views.picture {
-            self.draw(rt, Frame::Last, &[], pictures)?;
-        }
-        Ok(status)
-    }
-
-    fn lines<R: Threads + Wait + Sync + AllocGlobal, O: Output, E: Sink, G: PictureSink>(
-        &mut self,
-        rt: &R,
-        input: &[u8],
-        out: &mut O,
-        err: &mut E,
-        pictures: &G,
-        reason: &mut Page,
-    ) -> Result<Status, Stop> {
-        let mut rest = input;
-        let mut done = 0u64;
-        let mut refused = false;
-        // Each line has a byte, its line feed at least.
-        for _ in 0..input.len() {
-            if rest.is_empty() {
-                break;
+        _number: u64,
+        _line: &[u8],
+        statement: &Statement<'_>,
+        _session: &Session,
+    ) {
+        if let (true, Statement::Declare { name, array }) = (self.views.name_arrays(), statement) {
+            if self.names.insert(self.alloc, name, *array).is_err() {
+                self.halt(Stop::Fault(Fault::Memory));
             }
-            let (line, after) = next_line(rest);
-            done = done.saturating_add(1);
-            refused |= self.line(rt, done, line, out, err, reason)?;
-            self.draw_line(rt, done, line, pictures)?;
-            rest = after;
         }
-        Ok(self.end_at(done.saturating_add(1), refused, reason)?)
     }
 
-    /// Draws what a line left, where it is a directive or a kernel that was done and each of these is drawn.
-    fn draw_line<R: AllocGlobal, G: PictureSink>(
+    #[tactic(auto, using(acc_script::proofs::Fronts::took_nothing))]
+    fn after(
         &mut self,
-        rt: &R,
         number: u64,
         line: &[u8],
-        pictures: &G,
-    ) -> Result<(), Stop> {
-        if !self.views.pictures || !self.is_picture_due() {
-            return Ok(());
+        session: &Session,
+        effect: Effect,
+        writer: &mut O,
+    ) {
+        if self.stop.is_none() {
+            if let Err(stop) = self.show(number, line, session, effect, writer) {
+                self.halt(stop);
+            }
         }
-        self.draw(rt, Frame::Line(number), statement_text(line), pictures)
     }
 
-    /// Whether there is an event that was not there before, and that is no write of the host.
-    fn is_picture_due(&mut self) -> bool {
-        let trace = self.session.table.trace();
-        let is_new = self.drawn < trace.len();
-        self.drawn = trace.len();
-        is_new && !matches!(trace.last(), Some(Event::HostWritten { .. }))
+    fn end(&mut self, number: u64, line: &[u8], session: &Session, ending: Result<Status, Fault>) {
+        match ending {
+            Ok(_) => self.draw_last(session),
+            Err(Fault::Script { kind, .. }) => self.give_reason(number, line, session, kind),
+            Err(_) => {}
+        }
+        if self.views.log {
+            self.log.tell_total();
+        }
+    }
+}
+
+impl<E: Sink, G: PictureSink> Follower<'_, E, G> {
+    /// Keeps why nothing more is shown, if that is not known yet.
+    fn halt(&mut self, stop: Stop) {
+        if self.stop.is_none() {
+            self.stop = Some(stop);
+        }
     }
 
-    fn draw<R: AllocGlobal, G: PictureSink>(
-        &self,
-        rt: &R,
-        frame: Frame,
-        text: &[u8],
-        pictures: &G,
-    ) -> Result<(), Stop> {
-        let mut page = Page::new(rt.alloc());
-        self.put_picture(rt, &mut page, frame, text)?;
-        pictures.keep(frame, page.whole()?)
+    /// Shows what a line did.
+    #[tactic(auto, using(acc_script::proofs::Fronts::took_nothing))]
+    fn show<O: Sink>(
+        &mut self,
+        number: u64,
+        line: &[u8],
+        session: &Session,
+        effect: Effect,
+        writer: &mut O,
+    ) -> Result<(), Stop>
+        ensures { Took (O.told writer.old) (O.told writer.new) [] }
+    {
+        self.tell(number, line, session, effect)?;
+        self.write_told(writer)?;
+        self.draw_line(number, line, session)
     }
 
-    fn put_picture<R: AllocGlobal>(
-        &self,
-        rt: &R,
-        page: &mut Page,
-        frame: Frame,
-        text: &[u8],
+    /// Tells what a line did, and explains it.
+    fn tell(
+        &mut self,
+        number: u64,
+        line: &[u8],
+        session: &Session,
+        effect: Effect,
     ) -> Result<(), Fault> {
-        let caption = match frame {
-            Frame::Last => Caption::End,
-            Frame::Line(number) => Caption::Line { number, text },
-        };
-        put_picture(page, rt.alloc(), &self.session.table, &self.names, caption)?;
+        if self.views.log {
+            let text = statement_text(line);
+            self.log
+                .tell(&self.names, number, text, &session.table, effect)?;
+        }
+        if self.views.explain {
+            self.note_region(number, session)?;
+            self.explain(number, line, session, effect);
+        }
         Ok(())
     }
 
-    fn end_at(&self, line: u64, refused: bool, reason: &mut Page) -> Result<Status, Fault> {
-        if self.session.table.regions() > 0 {
-            if self.views.explain {
-                explain_unclosed(reason, &self.entries);
-            }
-            let kind = ScriptFault::Unclosed;
-            return Err(Fault::Script { line, kind });
-        }
-        Ok(if refused {
-            Status::Refused
-        } else {
-            Status::Clean
-        })
-    }
-
-    /// Runs the line of a number and shows what it prints and did; answers whether it was refused.
-    fn line<R: Threads + Wait + Sync + AllocGlobal, O: Output, E: Sink>(
-        &mut self,
-        rt: &R,
-        number: u64,
-        line: &[u8],
-        out: &mut O,
-        err: &mut E,
-        reason: &mut Page,
-    ) -> Result<bool, Fault> {
-        self.warn(rt, number, line, out, err)?;
-        let effect = self.perform(rt, number, line, reason)?;
-        if self.views.echo {
-            write_echo(rt, line, out)?;
-        }
-        show(rt, number, &self.session.table, self.views, effect, out)?;
-        self.tell(number, line, effect, out, err)?;
-        self.explain(rt, number, line, effect, out, err)?;
-        Ok(effect.is_refused())
-    }
-
-    fn perform<R: Threads + Wait + Sync + AllocGlobal>(
-        &mut self,
-        rt: &R,
-        number: u64,
-        line: &[u8],
-        reason: &mut Page,
-    ) -> Result<Effect, Fault> {
-        match self.read(rt, line) {
-            Ok(statement) => {
-                self.note_array(rt, &statement)?;
-                let effect = self.session.perform(rt, statement)?;
-                self.note_region(number)?;
-                Ok(effect)
-            }
-            Err(trouble) => {
-                self.give_reason(rt, number, line, trouble, reason);
-                Err(fault_of(number, trouble))
-            }
-        }
-    }
-
-    fn read<'a, R: AllocGlobal>(&self, rt: &R, line: &'a [u8]) -> Result<Statement<'a>, Trouble> {
-        let Session { arrays, device, .. } = &self.session;
-        line_at(rt.alloc(), arrays, *device, self.session.innermost(), line)
-    }
-
     /// Keeps the number of a line that entered a region, until it is exited.
-    fn note_region(&mut self, number: u64) -> Result<(), Fault> {
-        let open = self.session.table.regions();
+    fn note_region(&mut self, number: u64, session: &Session) -> Result<(), Fault> {
+        let open = session.table.regions();
         let known = self.entries.len() as u64;
         if known < open {
             self.entries.push(number)?;
@@ -309,179 +264,108 @@ impl Follower {
         Ok(())
     }
 
-    /// Want of memory cuts the reason short, and the fault itself is told.
-    fn give_reason<R: AllocGlobal>(
-        &self,
-        rt: &R,
-        number: u64,
-        line: &[u8],
-        trouble: Trouble,
-        reason: &mut Page,
-    ) {
-        if let (true, Trouble::Line(kind)) = (self.views.explain, trouble) {
-            let arrays = &self.session.arrays;
-            let _ = explain_fault(reason, rt.alloc(), arrays, number, line, kind);
+    /// Explains a line that was refused, or that is a comment and looks like a directive of C. A refused line is read
+    /// once more: it changed nothing.
+    fn explain(&mut self, number: u64, line: &[u8], session: &Session, effect: Effect) {
+        if is_pragma(line) {
+            warn_of_pragma(&mut self.log.page, number);
         }
-    }
-
-    /// Writes a warning where a line is a comment that looks like a directive of C.
-    fn warn<R: AllocGlobal, O: Output, E: Sink>(
-        &self,
-        rt: &R,
-        number: u64,
-        line: &[u8],
-        out: &mut O,
-        err: &mut E,
-    ) -> Result<(), Fault> {
-        if !self.views.explain || !is_pragma(line) {
-            return Ok(());
-        }
-        let mut page = Page::new(rt.alloc());
-        warn_of_pragma(&mut page, number);
-        write_told(&page, out, err)
-    }
-
-    /// It is read once more: a refused line changed nothing.
-    fn explain<R: AllocGlobal, O: Output, E: Sink>(
-        &self,
-        rt: &R,
-        number: u64,
-        line: &[u8],
-        effect: Effect,
-        out: &mut O,
-        err: &mut E,
-    ) -> Result<(), Fault> {
-        let (true, Effect::Refused(fault)) = (self.views.explain, effect) else {
-            return Ok(());
+        let Effect::Refused(fault) = effect else {
+            return;
         };
-        let table = &self.session.table;
-        let mut page = Page::new(rt.alloc());
-        match self.read(rt, line) {
-            Ok(statement) => {
-                explain_refusal(&mut page, table, &self.names, number, &statement, fault)
-            }
-            Err(trouble) => return Err(fault_of(number, trouble)),
+        let innermost = session.innermost();
+        if let Ok(statement) = line_at(
+            self.alloc,
+            &session.arrays,
+            session.device,
+            innermost,
+            line,
+        ) {
+            explain_refusal(
+                &mut self.log.page,
+                &session.table,
+                &self.names,
+                number,
+                &statement,
+                fault,
+            );
         }
-        write_told(&page, out, err)
     }
 
-    /// Keeps the name of an array that a statement declares, where something is shown by it.
-    fn note_array<R: AllocGlobal>(
-        &mut self,
-        rt: &R,
-        statement: &Statement<'_>,
-    ) -> Result<(), Fault> {
-        let is_named = self.views.name_arrays();
-        if let (true, Statement::Declare { name, array }) = (is_named, statement) {
-            self.names.insert(rt.alloc(), name, *array)?;
-        }
-        Ok(())
-    }
-
-    fn tell<O: Output, E: Sink>(
-        &mut self,
-        number: u64,
-        line: &[u8],
-        effect: Effect,
-        out: &mut O,
-        err: &mut E,
-    ) -> Result<(), Fault> {
-        if !self.views.log {
+    /// Writes what was told. What was printed so far is flushed first.
+    #[tactic(auto, using(acc_script::proofs::Fronts::took_nothing))]
+    fn write_told<O: Sink>(&mut self, out: &mut O) -> Result<(), Fault>
+        ensures { Took (O.told out.old) (O.told out.new) [] }
+    {
+        let lines = self.log.page.whole()?;
+        if lines.is_empty() {
             return Ok(());
         }
-        let text = statement_text(line);
-        self.log
-            .tell(&self.names, number, text, &self.session.table, effect)?;
-        self.write_log(out, err)
-    }
-
-    fn end_log<O: Output, E: Sink>(&mut self, out: &mut O, err: &mut E) -> Result<(), Fault> {
-        if !self.views.log {
-            return Ok(());
+        if !out.flush() {
+            return Err(Fault::Write);
         }
-        self.log.tell_total();
-        self.write_log(out, err)
-    }
-
-    /// What was printed so far is flushed first.
-    fn write_log<O: Output, E: Sink>(&mut self, out: &mut O, err: &mut E) -> Result<(), Fault> {
-        write_told(&self.log.page, out, err)?;
+        let _ = write_all(self.err, lines);
         self.log.page.clear();
         Ok(())
     }
-}
 
-/// What was printed so far is flushed first.
-fn write_told<O: Output, E: Sink>(page: &Page, out: &mut O, err: &mut E) -> Result<(), Fault> {
-    let lines = page.whole()?;
-    if lines.is_empty() {
-        return Ok(());
+    /// Draws what a line left, where it is a directive or a kernel that was done and each of these is drawn.
+    fn draw_line(&mut self, number: u64, line: &[u8], session: &Session) -> Result<(), Stop> {
+        if !self.views.pictures || !self.is_picture_due(session) {
+            return Ok(());
+        }
+        let text = statement_text(line);
+        self.draw(session, Frame::Line(number), Caption::Line { number, text })
     }
-    if !out.flush() {
-        return Err(Fault::Write);
-    }
-    let _ = write_all(err, lines);
-    Ok(())
-}
 
-/// The fault of a line that gives no statement, with the number of the line.
-pub fn fault_of(line: u64, trouble: Trouble) -> Fault {
-    match trouble {
-        Trouble::Memory => Fault::Memory,
-        Trouble::Line(kind) => Fault::Script { line, kind },
+    /// Whether there is an event that was not there before, and that is no write of the host.
+    fn is_picture_due(&mut self, session: &Session) -> bool {
+        let trace = session.table.trace();
+        let is_new = self.drawn < trace.len();
+        self.drawn = trace.len();
+        is_new && !matches!(trace.last(), Some(Event::HostWritten { .. }))
     }
-}
 
-fn write_echo<R: AllocGlobal, W: Sink>(rt: &R, line: &[u8], writer: &mut W) -> Result<(), Fault> {
-    let text = statement_text(line);
-    if text.is_empty() {
-        return Ok(());
+    fn draw_last(&mut self, session: &Session) {
+        if self.views.picture && self.stop.is_none() {
+            if let Err(stop) = self.draw(session, Frame::Last, Caption::End) {
+                self.halt(stop);
+            }
+        }
     }
-    let mut page = Page::new(rt.alloc());
-    page.text("> ");
-    page.bytes(text);
-    page.text("\n");
-    write_page(&page, writer)
-}
 
-fn show<R: AllocGlobal, W: Sink>(
-    rt: &R,
-    number: u64,
-    table: &Table,
-    views: Views,
-    effect: Effect,
-    writer: &mut W,
-) -> Result<(), Fault> {
-    if views.json && matches!(effect, Effect::Reported) {
-        return write_object(rt, table, writer);
+    fn draw(&self, session: &Session, frame: Frame, caption: Caption<'_>) -> Result<(), Stop> {
+        let mut page = Page::new(self.alloc);
+        let table = &session.table;
+        if put_picture(&mut page, self.alloc, table, &self.names, caption).is_err() {
+            return Err(Stop::Fault(Fault::Memory));
+        }
+        self.pictures.keep(frame, page.whole()?)
     }
-    if write_effect(writer, number, table, effect) {
-        Ok(())
-    } else {
-        Err(Fault::Write)
+
+    /// Want of memory cuts the reason short, and the fault itself is told.
+    fn give_reason(&mut self, number: u64, line: &[u8], session: &Session, kind: ScriptFault) {
+        if !self.views.explain {
+            return;
+        }
+        if kind == ScriptFault::Unclosed {
+            explain_unclosed(self.reason, &self.entries);
+        } else {
+            let _ = explain_fault(self.reason, self.alloc, &session.arrays, number, line, kind);
+        }
     }
-}
 
-fn write_object<R: AllocGlobal, W: Sink>(
-    rt: &R,
-    table: &Table,
-    writer: &mut W,
-) -> Result<(), Fault> {
-    let mut page = Page::new(rt.alloc());
-    put_report(&mut page, table);
-    write_page(&page, writer)
-}
-
-/// Writes a whole page to a sink.
-///
-/// # Errors
-///
-/// [`Fault::Memory`] where some of the page found none, and then nothing was written; [`Fault::Write`] where the sink
-/// fails.
-pub fn write_page<W: Sink>(page: &Page, writer: &mut W) -> Result<(), Fault> {
-    if write_all(writer, page.whole()?) {
-        Ok(())
-    } else {
-        Err(Fault::Write)
+    /// What could not be shown comes first, then how the run ended, and then whether the last lines were told.
+    fn ended(
+        &self,
+        ending: Result<Status, Fault>,
+        told: Result<(), Fault>,
+    ) -> Result<Status, Stop> {
+        if let Some(stop) = self.stop {
+            return Err(stop);
+        }
+        let status = ending?;
+        told?;
+        Ok(status)
     }
 }

@@ -35,6 +35,11 @@ Took_then (Some a) (Some b) (Some c) xs ys p q =
     (q.0 ∙ ap (λ (x : List ℕ). x ++ ys) p.0 ∙ append_assoc a.bytes xs ys, q.1 ∙ p.1)
 Took_then _ _ _ xs ys p q = search rules
 
+-- a sink took a text, and then nothing
+pub took_on : (a b c : Option Taken) (xs : List ℕ) → Took a b xs → Took b c [] → Took a c xs
+took_on (Some a) (Some b) (Some c) xs p q = (q.0 ∙ append-nil b.bytes ∙ p.0, q.1 ∙ p.1)
+took_on _ _ _ xs p q = search rules
+
 -- a front of a text is one of the text with more behind it
 pub front_more : (a b : Option Taken) (xs ys : List ℕ) → TookFront a b xs → TookFront a b (xs ++ ys)
 front_more (Some a) (Some b) xs ys p =

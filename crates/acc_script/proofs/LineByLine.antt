@@ -18,7 +18,7 @@ use Rattle.acc_script.specs.Sessions.{MayWant}
 use Rattle.acc_script.specs.Scripts.{SessionState, Turned, turned, is_refused, meaning_in, line_turned, needs_memory, line_wants, line_text, Transcript, Faulty, noted, transcript_from, status_of}
 use Rattle.acc_script.specs.Runs.{RanLine, LostLine, LineRuns, LinesPlayed}
 use Rattle.acc_script.proofs.Takes.{not_zero}
-use Rattle.acc_script.proofs.Fronts.{Took_then, front_more, front_then, took_nothing}
+use Rattle.acc_script.proofs.Fronts.{Took_then, took_on, front_more, front_then, took_nothing}
 
 -- ---- a line
 
@@ -33,13 +33,14 @@ unfolding line_turned
 turn_is s line meaning turn said is = rw said (ap some_turn is)
 
 -- a line that says something was run
-pub line_ran : (number : ℕ) (s after : SessionState) (line : List ℕ) (old new : Option Taken) (meaning : Meaning)
+pub line_ran : (number : ℕ) (s after : SessionState) (line : List ℕ) (old written new : Option Taken) (meaning : Meaning)
     (effect : Effect) (refused : Bool)
     → meaning_in s line ≡ Ok meaning → turned s meaning ≡ record { state = after; effect = effect }
-    → refused ≡ is_refused effect → Took old new (line_text number (record { state = after; effect = effect }))
-    → RanLine number s line old new after refused
-line_ran number s after line old new meaning effect refused said is refused_is wrote =
-    record { turn = record { state = after; effect = effect }; is = turn_is s line meaning _ said is; state = refl; refused_is = refused_is; wrote = wrote }
+    → refused ≡ is_refused effect → Took old written (line_text number (record { state = after; effect = effect }))
+    → Took written new [] → RanLine number s line old new after refused
+line_ran number s after line old written new meaning effect refused said is refused_is wrote kept =
+    let turn : Turned = record { state = after; effect = effect } in
+    record { turn = turn; is = turn_is s line meaning _ said is; state = refl; refused_is = refused_is; wrote = took_on old written new (line_text number turn) wrote kept }
 
 -- a line that was run and whose text could not be written
 pub line_lost : (number : ℕ) (s after : SessionState) (line : List ℕ) (old new : Option Taken) (meaning : Meaning)

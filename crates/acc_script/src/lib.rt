@@ -9,6 +9,7 @@ mod kernels;
 mod print;
 mod runs;
 mod sessions;
+mod watchers;
 
 pub use ends::memory::{MemorySink, MemorySource};
 pub use ends::streams::{FromRead, ToWrite};
@@ -18,3 +19,4 @@ pub use print::effects::{Effect, write_effect};
 pub use print::reports::report;
 pub use runs::{Status, run};
 pub use sessions::Session;
+pub use watchers::{Unwatched, Watcher};

@@ -9,6 +9,7 @@ ghost use Rattle.acc_script.specs.Sessions.{session_state};
 use crate::ends::whole::read_all;
 use crate::print::effects::write_effect;
 use crate::sessions::Session;
+use crate::watchers::Watcher;
 use crate::{Sink, Source};
 use acc_base::{Config, Fault, ScriptFault};
 use acc_read::{Trouble, line_at, next_line};
@@ -30,6 +31,8 @@ pub enum Status {
 /// printed does not depend on it. Where a thread cannot be had, or memory for the list of the parts, a kernel
 /// goes on with fewer.
 ///
+/// The watcher sees each line. Whoever watches, the same is read, written and answered.
+///
 /// What is said here of bytes read and written is proved where the source and the sink tell theirs ([`Source`],
 /// [`Sink`]).
 ///
@@ -42,40 +45,43 @@ pub enum Status {
 /// - [`Fault::Memory`]. Nothing was written where there was none for the input or for the table. Else what the lines
 ///   before one print was written; that line is not at fault. It lists items or bytes, declares, or makes a call that
 ///   makes an event.
-pub fn run<R: Threads + Wait + Sync + AllocGlobal, S: Source, W: Sink>(
+pub fn run<R: Threads + Wait + Sync + AllocGlobal, S: Source, W: Sink, X: Watcher<W>>(
     rt: &R,
     reader: &mut S,
     writer: &mut W,
     config: Config,
     parts: usize,
+    watcher: &mut X,
 ) -> Result<Status, Fault>
     requires some { 1 ≤ parts }
     requires few { parts ≤ 64 }
     ensures { Ran config (S.told reader.old) (S.told reader.new) (W.told writer.old) (W.told writer.new) result }
 {
     let input = read_all(rt.alloc(), reader)?;
-    play(rt, config, parts, &input, writer)
+    play(rt, config, parts, &input, writer, watcher)
 }
 
 #[tactic(auto, unfolding(crate::specs::Scripts::transcript))]
-fn play<R: Threads + Wait + Sync + AllocGlobal, W: Sink>(
+fn play<R: Threads + Wait + Sync + AllocGlobal, W: Sink, X: Watcher<W>>(
     rt: &R,
     config: Config,
     parts: usize,
     input: &[u8],
     writer: &mut W,
+    watcher: &mut X,
 ) -> Result<Status, Fault>
     ensures { Played (transcript config input.now) (W.told writer.old) (W.told writer.new) result }
 {
     let mut session = Session::new(rt.alloc(), config, parts)?;
-    play_lines(rt, &mut session, input, writer)
+    play_lines(rt, &mut session, input, writer, watcher)
 }
 
-fn play_lines<R: Threads + Wait + Sync + AllocGlobal, W: Sink>(
+fn play_lines<R: Threads + Wait + Sync + AllocGlobal, W: Sink, X: Watcher<W>>(
     rt: &R,
     session: &mut Session,
     input: &[u8],
     writer: &mut W,
+    watcher: &mut X,
 ) -> Result<Status, Fault>
     ensures { LinesPlayed (transcript_from 1 (session_state session.old) false (lines_of input.now)) (W.told writer.old) (W.told writer.new) result }
 {
@@ -84,27 +90,38 @@ fn play_lines<R: Threads + Wait + Sync + AllocGlobal, W: Sink>(
     let mut refused = false;
     'lines: while !rest.is_empty() {
         let (line, after) = next_line(rest);
-        let is_refused = run_line(rt, done + 1, session, line, writer)?;
+        let is_refused = match run_line(rt, done + 1, session, line, writer, watcher) {
+            Ok(is_refused) => is_refused,
+            Err(fault) => {
+                watcher.end(done + 1, line, session, Err(fault));
+                return Err(fault);
+            }
+        };
         refused |= is_refused;
         rest = after;
         done += 1;
     }
     if session.table.regions() > 0 {
-        return Err(Fault::Script {
+        let fault = Fault::Script {
             line: done + 1,
             kind: ScriptFault::Unclosed,
-        });
+        };
+        watcher.end(done + 1, rest, session, Err(fault));
+        return Err(fault);
     }
-    Ok(status_of(refused))
+    let status = status_of(refused);
+    watcher.end(done + 1, rest, session, Ok(status));
+    Ok(status)
 }
 
 #[tactic(auto, unfolding(crate::specs::Scripts::line_turned))]
-fn run_line<R: Threads + Wait + Sync + AllocGlobal, W: Sink>(
+fn run_line<R: Threads + Wait + Sync + AllocGlobal, W: Sink, X: Watcher<W>>(
     rt: &R,
     number: u64,
     session: &mut Session,
     line: &[u8],
     writer: &mut W,
+    watcher: &mut X,
 ) -> Result<bool, Fault>
     ensures { LineRuns number (session_state session.old) line.now (W.told writer.old) (W.told writer.new) (session_state session.new) result }
 {
@@ -115,10 +132,12 @@ fn run_line<R: Threads + Wait + Sync + AllocGlobal, W: Sink>(
         Err(Trouble::Memory) => return Err(Fault::Memory),
         Err(Trouble::Line(kind)) => return Err(Fault::Script { line: number, kind }),
     };
+    watcher.before(number, line, &statement, session);
     let effect = session.perform(rt, statement)?;
     if !write_effect(writer, number, &session.table, effect) {
         return Err(Fault::Write);
     }
+    watcher.after(number, line, session, effect, writer);
     Ok(effect.is_refused())
 }
 

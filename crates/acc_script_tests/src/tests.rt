@@ -3,7 +3,6 @@
 
 use acc_base::{Config, Fault, ScriptFault};
 use acc_command::{FileStore, tool};
-use acc_follow::Output;
 use acc_script::{MemorySink, MemorySource, Sink, Status};
 use std::alloc::{AllocError, Global};
 use std::cell::Cell;
@@ -127,7 +126,7 @@ fn pictures_with(wanted: &'static [&'static str]) -> PictureStore {
 }
 
 /// Runs the program over memory, and answers the status.
-fn run_tool<R: Threads + Wait + Sync + AllocGlobal, O: Output, E: Sink>(
+fn run_tool<R: Threads + Wait + Sync + AllocGlobal, O: Sink, E: Sink>(
     rt: &R,
     options: &str,
     script: &[u8],

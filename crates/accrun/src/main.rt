@@ -2,18 +2,11 @@
 //! output.
 #![tactic(auto)]
 
-mod watching;
-
-use crate::watching::watched;
 use acc_base::Fault;
 use acc_command::{Disk, FAULTED, read_words, tell, tell_words, tool};
-use acc_follow::Output;
-use acc_script::{FromRead, Sink, Source, ToWrite};
-use std::io::{BufWriter, IsTerminal};
+use acc_script::{FromRead, ToWrite};
+use std::io::BufWriter;
 use std::process::ExitCode;
-use std::rt::Files;
-use std::sync::Wait;
-use std::thread::Threads;
 
 fn main(rt: HostRuntime) -> ExitCode {
     let rt = &rt;
@@ -26,43 +19,7 @@ fn main(rt: HostRuntime) -> ExitCode {
         tell(&mut err, Fault::Memory);
         return ExitCode::from(FAULTED);
     };
-    let run = Run {
-        rt,
-        words,
-        reader: FromRead::new(rt.stdin()),
-        out: ToWrite::new(stdout),
-        err,
-    };
-    ExitCode::from(if rt.stderr().is_terminal() {
-        watched(rt, move || run.status())
-    } else {
-        run.status()
-    })
-}
-
-#[derive(Drop)]
-struct Run<'a, R, S, O, E> {
-    rt: &'a R,
-    words: Vec<String>,
-    reader: S,
-    out: O,
-    err: E,
-}
-
-impl<
-    R: Threads + Wait + Sync + AllocGlobal + Files,
-    S: Source + Drop,
-    O: Output + Drop,
-    E: Sink + Drop,
-> Run<'_, R, S, O, E> {
-    fn status(self) -> u8 {
-        let Run {
-            rt,
-            words,
-            mut reader,
-            mut out,
-            mut err,
-        } = self;
-        tool(rt, words, &mut reader, &mut out, &mut err, &Disk { rt })
-    }
+    let mut reader = FromRead::new(rt.stdin());
+    let mut out = ToWrite::new(stdout);
+    ExitCode::from(tool(rt, words, &mut reader, &mut out, &mut err, &Disk { rt }))
 }

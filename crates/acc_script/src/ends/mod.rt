@@ -1,7 +1,7 @@
 //! Where a script comes from, and where its output goes.
 
-ghost use Rattle.std.specs.Prelude.{◌≤◌, length, Option, None, IfSome};
-ghost use Rattle.acc_script.specs.Told.{Given, Taken, after_read, after_write, Becomes};
+ghost use Rattle.std.specs.Prelude.{◌≤◌, [], length, Option, None, IfSome};
+ghost use Rattle.acc_script.specs.Told.{Given, Taken, Took, after_read, after_write, Becomes};
 
 pub mod memory;
 pub mod streams;
@@ -34,4 +34,13 @@ pub trait Sink {
     fn write(&mut self, piece: &[u8]) -> Option<usize>
         ensures bound { IfSome result (λ n. n ≤ length piece.now) }
         ensures tells { Becomes (told self.old) (told self.new) (λ t. after_write t result piece.now) };
+
+    /// Hands on what it kept back, if it keeps anything back; true where that was done. It is no write: what was taken
+    /// stays, and so does the number of failures.
+    #[tactic(auto, using(crate::proofs::Fronts::took_nothing))]
+    fn flush(&mut self) -> bool
+        ensures { Took (told self.old) (told self.new) [] }
+    {
+        true
+    }
 }

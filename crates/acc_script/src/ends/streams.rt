@@ -107,14 +107,6 @@ impl<W: Write + Drop> ToWrite<W> {
     {
         ToWrite { inner, failures: 0 }
     }
-
-    /// Hands on what the writer kept back; true where that was done. It is no write: what was taken stays, and so does
-    /// the number of failures.
-    pub fn flush(&mut self) -> bool
-        ensures { Took self.old self.new [] }
-    {
-        self.inner.flush().is_ok()
-    }
 }
 
 impl<W: Write + Drop> Sink for ToWrite<W> {
@@ -133,5 +125,9 @@ impl<W: Write + Drop> Sink for ToWrite<W> {
                 None
             }
         }
+    }
+
+    fn flush(&mut self) -> bool {
+        self.inner.flush().is_ok()
     }
 }

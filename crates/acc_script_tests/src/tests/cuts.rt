@@ -3,7 +3,7 @@
 use super::worked::ENDED_BLOCK;
 use super::{WIDE, config, same};
 use acc_base::Fault;
-use acc_script::{MemorySink, MemorySource, run};
+use acc_script::{MemorySink, MemorySource, Unwatched, run};
 use std::process::Abort;
 use std::sync::Wait;
 use std::test::Fail;
@@ -45,7 +45,14 @@ fn check_cut<R: Abort + Threads + Wait + Sync + AllocGlobal>(
 ) -> Result<(), Fault> {
     let mut reader = MemorySource::new(cut);
     let mut writer = MemorySink::new(rt.alloc());
-    let answer = run(rt, &mut reader, &mut writer, config(&WIDE)?, 1);
+    let answer = run(
+        rt,
+        &mut reader,
+        &mut writer,
+        config(&WIDE)?,
+        1,
+        &mut Unwatched,
+    );
     same(rt, is_end(&answer), true, cut);
     let whole = ENDED_BLOCK.2.as_bytes();
     same(

@@ -3,8 +3,7 @@
 use super::worked::ENDED_BLOCK;
 use super::{Limits, Row, WIDE, config, same};
 use acc_base::Fault;
-use acc_follow::Output;
-use acc_script::{MemorySink, MemorySource, Sink, Source, Status, report, run};
+use acc_script::{MemorySink, MemorySource, Sink, Source, Status, Unwatched, report, run};
 use acc_table::Table;
 use std::process::Abort;
 use std::sync::Wait;
@@ -55,7 +54,7 @@ fn check_line_feeds<R: Abort + Threads + Wait + Sync + AllocGlobal>(
     let config = config(&WIDE)?;
     let mut reader = LineFeeds { left: count };
     let mut writer = MemorySink::new(rt.alloc());
-    let got = run(rt, &mut reader, &mut writer, config, 1);
+    let got = run(rt, &mut reader, &mut writer, config, 1, &mut Unwatched);
     same(rt, got, answer, count);
     same(rt, reader.left, left, count);
     same(rt, writer.as_slice(), b"".as_slice(), count);
@@ -135,12 +134,6 @@ impl Sink for Narrow {
     }
 }
 
-impl Output for Narrow {
-    fn flush(&mut self) -> bool {
-        true
-    }
-}
-
 /// A region with a kernel, and refusals.
 pub const LOAN: Row = (
     "",
@@ -174,7 +167,7 @@ fn check_trickle<R: Abort + Threads + Wait + Sync + AllocGlobal>(
         fails,
     };
     let mut writer = Narrow::new(512, true);
-    let got = run(rt, &mut reader, &mut writer, config, 1);
+    let got = run(rt, &mut reader, &mut writer, config, 1, &mut Unwatched);
     let (answer, len) = if fails {
         (Err(Fault::Read), 0)
     } else {
@@ -214,7 +207,7 @@ fn check_narrow<R: Abort + Threads + Wait + Sync + AllocGlobal>(
     let config = config(&WIDE)?;
     let mut reader = MemorySource::new(row.1);
     let mut writer = Narrow::new(room, fails);
-    let got = run(rt, &mut reader, &mut writer, config, 1);
+    let got = run(rt, &mut reader, &mut writer, config, 1, &mut Unwatched);
     same(rt, got, Err(Fault::Write), room);
     same(rt, writer.taken(), row.2.as_bytes().get(..room), room);
     Ok(())

@@ -7,7 +7,7 @@ use super::worked::{ATTACHED, COPYIN, ENDED_BLOCK, FINALIZED, NUMBERED, NUMBERS,
 use super::{Limits, Row, WIDE, config, pictures_with, run_tool, same};
 use acc_base::Fault;
 use acc_read::line_at;
-use acc_script::{Effect, MemorySource, Session, Status, run, write_effect};
+use acc_script::{Effect, MemorySource, Session, Status, Unwatched, run, write_effect};
 use std::process::Abort;
 use std::sync::Wait;
 use std::test::Fail;
@@ -46,6 +46,7 @@ fn run_into<R: Threads + Wait + Sync + AllocGlobal>(
         printed,
         config(limits)?,
         parts,
+        &mut Unwatched,
     )
 }
 

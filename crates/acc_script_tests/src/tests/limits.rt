@@ -2,7 +2,7 @@
 
 use super::{CLEAN, LimitedRow, REFUSED, answer_of, config, same};
 use acc_base::{Fault, ScriptFault};
-use acc_script::{MemorySink, MemorySource, run};
+use acc_script::{MemorySink, MemorySource, Unwatched, run};
 use std::process::Abort;
 use std::sync::Wait;
 use std::test::Fail;
@@ -121,7 +121,7 @@ fn check<R: Abort + Threads + Wait + Sync + AllocGlobal>(
     let config = config(limits)?;
     let mut reader = MemorySource::new(script);
     let mut writer = MemorySink::new(rt.alloc());
-    let got = run(rt, &mut reader, &mut writer, config, 1);
+    let got = run(rt, &mut reader, &mut writer, config, 1, &mut Unwatched);
     same(rt, writer.as_slice(), printed.as_bytes(), *script);
     same(rt, got, answer_of(*end), *script);
     Ok(())

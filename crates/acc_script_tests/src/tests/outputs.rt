@@ -3,7 +3,6 @@
 use super::ends::Trickle;
 use super::{check_status, pictures_with, same, words};
 use acc_command::tool;
-use acc_follow::Output;
 use acc_script::{MemorySink, MemorySource, Sink, ToWrite};
 use std::alloc::AllocError;
 use std::cell::Cell;
@@ -117,7 +116,7 @@ const OUTPUTS: &[OutputRow] = &[
 ];
 
 /// Runs the script of a row over standard output; compares what is told, when, the status, and what was taken.
-fn check_output_over<R: Threads + Wait + Sync + AllocGlobal + Abort, O: Output>(
+fn check_output_over<R: Threads + Wait + Sync + AllocGlobal + Abort, O: Sink>(
     rt: &R,
     out: &mut O,
     taken: &Cell<usize>,

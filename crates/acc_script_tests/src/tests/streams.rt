@@ -3,7 +3,7 @@
 use super::ends::SMALL_LIMITS;
 use super::{config, same};
 use acc_base::Fault;
-use acc_script::{FromRead, Status, ToWrite, run};
+use acc_script::{FromRead, Status, ToWrite, Unwatched, run};
 use std::cell::Cell;
 use std::io::{self, ErrorKind, Read, Write};
 use std::process::Abort;
@@ -118,7 +118,7 @@ fn check_halts<R: Abort + Threads + Wait + Sync + AllocGlobal>(
         },
         taken: &taken,
     });
-    let got = run(rt, &mut reader, &mut writer, config, 1);
+    let got = run(rt, &mut reader, &mut writer, config, 1, &mut Unwatched);
     same(rt, got, answer, (reads, writes));
     same(rt, taken.get(), wanted, (reads, writes));
     Ok(())

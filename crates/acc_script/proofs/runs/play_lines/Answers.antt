@@ -1,5 +1,4 @@
 use Rattle.std.proofs.Common.{◌≡◌, ◌+◌, ◌<◌, false, sym, ◌∙◌, arith}
-use Rattle.std.proofs.lemmas.Result.{err_from_is_err_and}
 use Rattle.std.proofs.lemmas.Bool.{eqb-true}
 use Rattle.acc_base.specs.Devices.{open_regions}
 use Rattle.acc_read.specs.Lines.{lines_of}
@@ -11,13 +10,12 @@ use Rattle.acc_script.proofs.runs.play_lines.Goals as goal
 pub lines-init : goal.lines-init
 lines-init g c = record { rest = λ last result h. h; count = omega arith }
 
-pub returns-in_err-is_refused : goal.returns-in_err-is_refused
-returns-in_err-is_refused g c =
+pub returns-in-Err : goal.returns-in-Err
+returns-in-Err g c =
     let told = g.W.Sink.told in
-    let p = err_from_is_err_and c.from_residual.result c.from_residual.ensures.1 in
     let all = transcript_from 1 (session_state c.args.session.now) false (lines_of c.args.input.now) in
-    rw (p.1, p.2) (line_ends all (c.lines.done + 1) (session_state c.lines.session) c.lines.refused (lines_of c.lines.rest.now) (told c.args.writer.now) (told c.lines.writer) c.lines.invariant.rest c.next_line.result.0.now (lines_of c.next_line.result.1.now) c.next_line.ensures.line
-    (told c.run_line.new.writer) (session_state c.run_line.new.session) c.in_err-is_refused.field-0.0 c.in_err-is_refused.ensures)
+    line_ends all (c.lines.done + 1) (session_state c.lines.session) c.lines.refused (lines_of c.lines.rest.now) (told c.args.writer.now) (told c.lines.writer) c.lines.invariant.rest c.next_line.result.0.now (lines_of c.next_line.result.1.now) c.next_line.ensures.line
+    (told c.run_line.new.writer) (session_state c.run_line.new.session) c.in-Err.fault c.in-Err.ensures
 
 pub lines-preserved : goal.lines-preserved
 lines-preserved g c =
@@ -25,7 +23,7 @@ lines-preserved g c =
     let all = transcript_from 1 (session_state c.args.session.now) false (lines_of c.args.input.now) in
     record {
       rest = line_on all (c.lines.done + 1) (session_state c.lines.session) c.lines.refused (lines_of c.lines.rest.now) (told c.args.writer.now) (told c.lines.writer) c.lines.invariant.rest c.next_line.result.0.now (lines_of c.next_line.result.1.now) c.next_line.ensures.line
-          (told c.run_line.new.writer) (session_state c.run_line.new.session) c.in_ok-is_refused.is_refused c.in_ok-is_refused.ensures;
+          (told c.run_line.new.writer) (session_state c.run_line.new.session) c.in-Ok.is_refused c.in-Ok.ensures;
       count = omega (arith, c.lines.invariant.count, c.next_line.ensures.shorter);
     }
 
@@ -43,4 +41,4 @@ returns g c =
     let s = session_state c.lines.session in
     let empty = lines_none c.lines.rest.now (eqb-true _ _ (sym c.is_empty.ensures ∙ c.lines-test.false)) in
     let no_region : open_regions s.world.state ≡ 0 = omega (arith, c.regions.ensures, c.if-regions-gt0.false) in
-    rw c.status_of.ensures (ends_well (transcript_from 1 (session_state c.args.session.now) false (lines_of c.args.input.now)) (c.lines.done + 1) s c.lines.refused (lines_of c.lines.rest.now) (told c.args.writer.now) (told c.lines.writer) c.lines.invariant.rest empty no_region)
+    rw c.status_of-status.ensures (ends_well (transcript_from 1 (session_state c.args.session.now) false (lines_of c.args.input.now)) (c.lines.done + 1) s c.lines.refused (lines_of c.lines.rest.now) (told c.args.writer.now) (told c.lines.writer) c.lines.invariant.rest empty no_region)

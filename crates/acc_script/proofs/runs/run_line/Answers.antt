@@ -20,7 +20,7 @@ returns g c =
     let told = g.W.Sink.told in
     let s = session_state c.args.session.now in
     let said : meaning_in s c.args.line.now ≡ Ok (meaning_of c.in-Ok.statement) = search rules in
-    line_ran c.args.number s (session_state c.perform.new.self) c.args.line.now (told c.args.writer.now) (told c.write_effect.new.writer) (meaning_of c.in-Ok.statement) c.in_ok-effect.effect _ said c.in_ok-effect.ensures c.is_refused.ensures c.if-not-write_effect.ensures
+    line_ran c.args.number s (session_state c.perform.new.self) c.args.line.now (told c.args.writer.now) (told c.write_effect.new.writer) (told c.after.new._writer) (meaning_of c.in-Ok.statement) c.in_ok-effect.effect _ said c.in_ok-effect.ensures c.is_refused.ensures c.if-not-write_effect.ensures c.after.ensures
 
 pub returns-in_err-effect : goal.returns-in_err-effect
 returns-in_err-effect g c =

@@ -1,0 +1,90 @@
+//! Copies what a script prints, with more between it or in its place.
+
+use crate::report_objects::put_report;
+use acc_base::Fault;
+use acc_page::{Page, statement_text};
+use acc_read::Statement;
+use acc_script::{Effect, MemorySink, Session, Sink, Status, Watcher, write_all};
+use acc_table::Table;
+use std::alloc::Global;
+
+/// Copies what a run prints into memory to another sink, behind each line, for a watcher of that sink.
+#[derive(Drop)]
+pub struct Copier<'a, O, X> {
+    /// Where it goes.
+    pub out: &'a mut O,
+    /// Who watches it.
+    pub watcher: &'a mut X,
+    /// The allocator.
+    pub alloc: Global,
+    /// Each statement stands before what it prints.
+    pub echo: bool,
+    /// A report is an object of JSON.
+    pub json: bool,
+    /// How many bytes of what was printed are copied.
+    pub copied: usize,
+    /// Why no more is copied.
+    pub failed: Option<Fault>,
+}
+
+impl<O: Sink, X: Watcher<O>> Copier<'_, O, X> {
+    fn copy(
+        &mut self,
+        line: &[u8],
+        table: &Table,
+        effect: Effect,
+        printed: &[u8],
+    ) -> Result<(), Fault> {
+        let mut page = Page::new(self.alloc);
+        if self.echo {
+            put_echo(&mut page, statement_text(line));
+        }
+        if self.json && matches!(effect, Effect::Reported) {
+            put_report(&mut page, table);
+        } else {
+            page.bytes(printed.get(self.copied..).unwrap_or(&[]));
+        }
+        self.copied = printed.len();
+        if write_all(self.out, page.whole()?) {
+            Ok(())
+        } else {
+            Err(Fault::Write)
+        }
+    }
+}
+
+impl<O: Sink, X: Watcher<O>> Watcher<MemorySink> for Copier<'_, O, X> {
+    fn before(&mut self, number: u64, line: &[u8], statement: &Statement<'_>, session: &Session) {
+        self.watcher.before(number, line, statement, session);
+    }
+
+    fn after(
+        &mut self,
+        number: u64,
+        line: &[u8],
+        session: &Session,
+        effect: Effect,
+        writer: &mut MemorySink,
+    ) {
+        if self.failed.is_none() {
+            self.failed = self
+                .copy(line, &session.table, effect, writer.as_slice())
+                .err();
+        }
+        if self.failed.is_none() {
+            self.watcher.after(number, line, session, effect, self.out);
+        }
+    }
+
+    fn end(&mut self, number: u64, line: &[u8], session: &Session, ending: Result<Status, Fault>) {
+        self.watcher.end(number, line, session, ending);
+    }
+}
+
+fn put_echo(page: &mut Page, text: &[u8]) {
+    if !text.is_empty() {
+        page.text("> ");
+        page.bytes(text);
+        page.text("\n");
+    }
+}

@@ -1,0 +1,53 @@
+//! Who watches a script while it runs.
+
+ghost use Rattle.acc_script.specs.Told.{Took};
+ghost use Rattle.std.specs.Prelude.{[]};
+
+use crate::Sink;
+use crate::print::effects::Effect;
+use crate::runs::Status;
+use crate::sessions::Session;
+use acc_base::Fault;
+use acc_read::Statement;
+
+/// Watches the lines of a script while it runs.
+///
+/// It changes nothing that the run writes or answers, and it cannot stop it: what fails in a watcher, it keeps.
+pub trait Watcher<W: Sink> {
+    /// The line of a number says a statement, which is run next.
+    fn before(
+        &mut self,
+        _number: u64,
+        _line: &[u8],
+        _statement: &Statement<'_>,
+        _session: &Session,
+    ) {}
+
+    /// The line of a number was run, and what it prints was written. The writer may be flushed.
+    #[tactic(auto, using(crate::proofs::Fronts::took_nothing))]
+    fn after(
+        &mut self,
+        _number: u64,
+        _line: &[u8],
+        _session: &Session,
+        _effect: Effect,
+        _writer: &mut W,
+    )
+        ensures { Took (W.told _writer.old) (W.told _writer.new) [] }
+    {}
+
+    /// The run ends at the line of a number, which is at fault or could not be run, or behind the last line.
+    fn end(
+        &mut self,
+        _number: u64,
+        _line: &[u8],
+        _session: &Session,
+        _ending: Result<Status, Fault>,
+    ) {}
+}
+
+/// Watches nothing.
+#[derive(Clone, Copy)]
+pub struct Unwatched;
+
+impl<W: Sink> Watcher<W> for Unwatched {}

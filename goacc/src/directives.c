@@ -227,10 +227,8 @@ static size_t act(lwa_directive *d, size_t first, size_t end)
         if (d->way != LWA_END_DATA) {
             end = tell_some(d, first);
         }
-        for (size_t i = first; i < end; i++) {
-            if (lwa_enters(d)) {
-                lwa_aim(&d->items.at[i]);
-            }
+        for (size_t i = first; i < end && lwa_enters(d); i++) {
+            lwa_aim(&d->items.at[i]);
         }
         status = ask(d, first, end, &fault);
         if (status != LW_DONE) {

@@ -1,8 +1,7 @@
 /*
  * Kernels run on the host, one gang of one worker, with the lock free.
  *
- * The blocks of a kernel's maps are lent before it, and brought back behind it: so what else needs one waits until
- * then.
+ * The blocks of a kernel's maps are lent before it, and brought back behind it: what else needs one waits so long.
  * Kernels that run at a time share what is lent, and the last one brings it back. The compiled function finds the bytes
  * at their device addresses, which stay as they are between kernels.
  */
@@ -123,25 +122,25 @@ void lwa_kernel(void (*run)(void *), const lwa_maps *maps, const lwa_region *reg
     const lwa_items *items = &region->directive.items;
     void **device = lwa_piece(3 * maps->count * sizeof *device), **slots = device + maps->count;
     lwa_block **blocks = (lwa_block **)(slots + maps->count);
+    size_t count = 0;
 
     for (size_t i = 0, next = 0; i < maps->count; i++) {
-        const lwa_item *item = next < items->count ? &items->at[next] : NULL;
-        const bool is_item = item != NULL && item->block != NULL && item->at == (uintptr_t)maps->at[i];
+        const lwa_item *item = &items->at[next];
+        const bool is_item = next < items->count && item->at == (uintptr_t)maps->at[i];
+        lwa_block *block = is_item && item->block != NULL ? item->block : block_of(maps->at[i], 1);
 
-        blocks[i] = is_item ? item->block : block_of(maps->at[i], 1);
-        next += item != NULL && item->at == (uintptr_t)maps->at[i];
-        device[i] = device_address(maps, i, blocks[i], slots);
-    }
-    for (size_t i = 0; i < maps->count; i++) {
-        if (blocks[i] != NULL) {
-            lend(blocks[i]->root, items->at[0].region);
+        next += is_item;
+        device[i] = device_address(maps, i, block, slots);
+        if (block != NULL) {
+            blocks[count++] = block->root;
         }
+    }
+    for (size_t i = 0; i < count; i++) {
+        lend(blocks[i], items->at[0].region);
     }
     lwa_run_free(run, device, true);
-    for (size_t i = 0; i < maps->count; i++) {
-        if (blocks[i] != NULL) {
-            bring_back(blocks[i]->root);
-        }
+    for (size_t i = 0; i < count; i++) {
+        bring_back(blocks[i]);
     }
     rattle_dealloc(device);
 }

@@ -23,7 +23,8 @@ uint64_t lwa_turn;
 static lw_table tables[LWA_DEVICES];
 static uint64_t stored[LWA_DEVICES];
 
-static pthread_mutex_t lock = PTHREAD_ERRORCHECK_MUTEX_INITIALIZER_NP;
+static pthread_mutex_t lock = PTHREAD_MUTEX_INITIALIZER;
+static _Thread_local bool has_lock;
 static pthread_cond_t gathered = PTHREAD_COND_INITIALIZER;
 
 /* The thread that ends the program, of which it is the only one that goes on. */
@@ -113,9 +114,21 @@ void lwa_each_device(void (*act)(void))
 
 /* ---- The lock ---- */
 
-static void sleep_for_good(void)
+static void take_lock(void)
+{
+    has_lock = true;
+    pthread_mutex_lock(&lock);
+}
+
+static void free_lock(void)
 {
     pthread_mutex_unlock(&lock);
+    has_lock = false;
+}
+
+static void sleep_for_good(void)
+{
+    free_lock();
     while (true) {
         pause();
     }
@@ -130,9 +143,10 @@ void lwa_take_for(const char *name, void *from, int event, int construct)
     caller.event = event;
     caller.construct = construct;
     pthread_setcancelstate(PTHREAD_CANCEL_DISABLE, &caller.cancel_state);
-    if (pthread_mutex_lock(&lock) != 0) {
+    if (has_lock) {
         lwa_unserved("this thread is in a directive already");
     }
+    take_lock();
     lwa_turn++;
     if (ending && !pthread_equal(ender, pthread_self())) {
         sleep_for_good();
@@ -145,7 +159,7 @@ void lwa_take_for(const char *name, void *from, int event, int construct)
 
 void lwa_leave(void)
 {
-    pthread_mutex_unlock(&lock);
+    free_lock();
     pthread_setcancelstate(caller.cancel_state, NULL);
     lwa_tell_notes(caller.construct);
     if (caller.event != acc_ev_none) {
@@ -160,7 +174,7 @@ void lwa_run_free(void (*run)(void *), void *addresses, bool on_device)
     const int event = on_device ? acc_ev_enqueue_launch_start : acc_ev_none;
     const __typeof__(caller) outer = caller;
 
-    pthread_mutex_unlock(&lock);
+    free_lock();
     lwa_tell_notes(outer.construct);
     lwa_tell(event, outer.construct);
     in_kernel = on_device;
@@ -168,7 +182,7 @@ void lwa_run_free(void (*run)(void *), void *addresses, bool on_device)
     in_kernel = false;
     lwa_tell(on_device ? event + 1 : event, outer.construct);
     caller = outer;
-    pthread_mutex_lock(&lock);
+    take_lock();
     lwa_turn++;
     if (on_device && !has_table()) {
         sleep_for_good();
@@ -212,20 +226,11 @@ static void end_thread(void *innermost)
     lwa_unserved("%zu of its data regions are open", open);
 }
 
-static void before_fork(void)
-{
-    pthread_mutex_lock(&lock);
-}
-
-static void after_fork(void)
-{
-    pthread_mutex_unlock(&lock);
-}
-
 /* A child has the table as it was, and no other thread of it. */
 static void in_child(void)
 {
-    lock = (pthread_mutex_t)PTHREAD_ERRORCHECK_MUTEX_INITIALIZER_NP;
+    lock = (pthread_mutex_t)PTHREAD_MUTEX_INITIALIZER;
+    has_lock = false;
     gathered = (pthread_cond_t)PTHREAD_COND_INITIALIZER;
     lwa_each_device(lwa_forget_script);
     lwa_each_device(lwa_gather_all);
@@ -234,7 +239,7 @@ static void in_child(void)
 __attribute__((constructor)) static void at_start(void)
 {
     pthread_key_create(&regions_key, end_thread);
-    pthread_atfork(before_fork, after_fork, in_child);
+    pthread_atfork(take_lock, free_lock, in_child);
 }
 
 /* ---- The table ---- */
@@ -287,7 +292,7 @@ _Noreturn static void end_program(const char *text)
     }
     ending = true;
     ender = pthread_self();
-    pthread_mutex_unlock(&lock);
+    free_lock();
     pthread_setcancelstate(caller.cancel_state, NULL);
     exit(1);
 }
@@ -352,11 +357,12 @@ void *lwa_grown(void *list, size_t count, size_t *room, size_t size)
 /* At the end of the program the script, the log and the report are ended. */
 __attribute__((destructor)) static void at_end(void)
 {
-    if (pthread_mutex_lock(&lock) != 0) {
+    if (has_lock) {
         return;
     }
+    take_lock();
     ending = true;
     ender = pthread_self();
     lwa_each_device(lwa_end_table);
-    pthread_mutex_unlock(&lock);
+    free_lock();
 }

@@ -52,9 +52,11 @@ impl Table {
         ensures same { OnErr result (self.new ≡ self.old) }
         ensures err { IfErr result (λ fault. fault ≡ Memory) }
     {
-        let folded = self.fold()?;
-        let count = folded.count();
-        self.keep_room(folded.events);
+        let Folded { base, events } = self.fold()?;
+        // It goes first, so that the next base finds its memory.
+        drop(base);
+        let count = events.len() as u64;
+        self.keep_room(events);
         Ok(count)
     }
 

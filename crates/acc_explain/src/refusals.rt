@@ -45,13 +45,24 @@ pub fn explain_refusal(
     let device = device_of(table, statement);
     let view = DeviceView { table, device };
     put_place(page, number);
+    let mut is_empty = false;
     if let Some((nth, named)) = item_of(statement, fault) {
         put_item(page, names, nth, named);
-        if is_of_ranges(fault) {
+        is_empty = named.section.len == 0;
+        if is_of_ranges(fault) && !is_empty {
             put_meetings(page, view, names, statement, nth, named.section);
         }
+        put_items_before(page, nth, fault);
     }
-    put_fault(page, view, fault);
+    put_fault(page, view, fault, is_empty);
+}
+
+/// Puts that the items before it take blocks too, where one did not fit.
+fn put_items_before(page: &mut Page, nth: u64, fault: Fault) {
+    if nth > 0 && matches!(fault, Fault::DeviceFull { .. }) {
+        put_cause(page);
+        page.text("the items before it in the directive take their blocks first\n");
+    }
 }
 
 /// The device that a statement is for; 0 for one that is for none.
@@ -271,14 +282,15 @@ fn put_other(page: &mut Page, names: &Names, other: u64, named: Section, section
     }
 }
 
-fn put_fault(page: &mut Page, view: DeviceView<'_>, fault: Fault) {
+fn put_fault(page: &mut Page, view: DeviceView<'_>, fault: Fault, is_empty: bool) {
     put_cause(page);
     match fault {
         Fault::OutOfHost { .. } => put_host(page, view.table),
         Fault::Misaligned { .. } => page.text("a pointer lies at a multiple of 8"),
         Fault::PartlyPresent { .. } => {
-            page.text("some of its bytes are mapped, and no one range has all of them")
+            page.text("no one range has all of its bytes, and two ranges never count as one")
         }
+        Fault::NotPresent { .. } if is_empty => page.text("an empty section is lent to no kernel"),
         Fault::NotPresent { .. } => page.text("it has to be mapped here"),
         Fault::CounterFull { .. } => page.text("a counter is at its limit"),
         Fault::DeviceFull { need, .. } => put_holes(page, view, need),
@@ -338,11 +350,18 @@ fn put_devices(page: &mut Page, table: &Table, device: u64) {
 
 fn put_queue(page: &mut Page, view: DeviceView<'_>, q: u64) {
     if q < QUEUE_COUNT {
+        let waiting = view.table.queue_len(view.device, q);
         put_limit(
             page,
+            "before the line ",
+            waiting,
+            " copies wait in the queue",
+        );
+        put_limit(
+            page,
+            ", which has room for ",
+            view.table.config().queue_cap(),
             "",
-            view.table.queue_len(view.device, q),
-            " copies wait in the queue, and no more may",
         );
     }
 }

@@ -12,7 +12,7 @@ use std::sync::Wait;
 use std::sync::ledger::Ledger;
 use std::thread::Threads;
 
-/// Makes a drill of `threads` threads with `rounds` rounds each on a new runtime, and writes the line of what it left.
+/// Runs a drill of `threads` threads with `rounds` rounds each on a new runtime, and writes the line of what it left.
 ///
 /// # Errors
 ///

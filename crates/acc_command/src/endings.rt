@@ -1,4 +1,4 @@
-//! How the program ends, and what it tells then.
+//! How the program ends, and what it writes then.
 
 use crate::picture_files::put_numbered;
 use acc_base::Fault;
@@ -37,7 +37,7 @@ impl From<EmitFault> for Mishap<'_> {
     }
 }
 
-/// Writes the line that tells why the program ends with status 2, in one piece. A failure of the sink changes nothing.
+/// Writes why the program ends with status 2, in one piece. A failure of the sink changes nothing.
 pub fn tell_mishap<E: Sink>(alloc: Global, err: &mut E, mishap: Mishap<'_>) {
     match mishap {
         Mishap::Fault(fault) => tell(err, fault),
@@ -67,7 +67,7 @@ fn tell_unfit<E: Sink>(err: &mut E, number: u64, reason: &str) {
     let _ = write_all(err, line.as_bytes());
 }
 
-/// Writes the one line that tells a fault, in one piece and without memory. A failure of the sink changes nothing.
+/// Writes the one line of a fault, in one piece and without allocation. A failure of the sink changes nothing.
 pub fn tell<E: Sink>(err: &mut E, fault: Fault) {
     // The longest line has 74 bytes: that of `DeviceFull` with two numbers of 20 digits.
     let mut line = ArrayString::<80>::new();
@@ -82,7 +82,7 @@ fn write_fault<W: Write>(line: &mut W, fault: Fault) -> fmt::Result {
     }
 }
 
-/// Writes where an output differs from the one that was expected. A failure of the sink changes nothing.
+/// Writes where an output differs from the expected one. A failure of the sink changes nothing.
 pub fn tell_difference<E: Sink>(alloc: Global, err: &mut E, difference: Difference<'_>) {
     let mut page = Page::new(alloc);
     put_place(&mut page, difference.line);

@@ -8,22 +8,22 @@ use std::rt::Files;
 
 /// Reads and writes whole files by their names.
 pub trait FileStore {
-    /// The bytes of a file.
+    /// Returns the bytes of a file.
     ///
     /// # Errors
     ///
     /// [`Fault::Read`] where it cannot be read, or has more than 16,777,216 bytes; [`Fault::Memory`].
     fn read(&self, name: &str) -> Result<Vec<u8>, Fault>;
 
-    /// Makes a file of these bytes, in place of one that has that name; false where that failed. A half that was
-    /// written is removed again, if it is a regular file.
+    /// Makes a file of these bytes, in place of one that has that name; false where that failed. It removes a half that
+    /// it wrote, if that is a regular file.
     fn write(&self, name: &str, bytes: &[u8]) -> bool;
 }
 
 /// The files of the system.
 #[derive(Drop)]
 pub struct Disk<'a, R> {
-    /// The handle by which they are reached.
+    /// The handle that reaches them.
     pub rt: &'a R,
 }
 
@@ -47,7 +47,7 @@ impl<R: Files + AllocGlobal> FileStore for Disk<'_, R> {
     }
 }
 
-/// What is no regular file, as a terminal or a pipe, is no half of a picture and stays.
+/// Removes the half of a file that could not be written whole. What is no regular file, as a terminal or a pipe, stays.
 fn remove_half<R: Files>(rt: &R, name: &str, file: &R::File) {
     if let Ok(metadata) = file.metadata() {
         if metadata.is_file() {

@@ -1,5 +1,5 @@
-//! The program `accrun` but for its streams: the words and options of its command line, what is done by them, and how it
-//! ends.
+//! The program `accrun` but for its streams: the words and options of its command line, what it does for them, and how
+//! it ends.
 #![tactic(auto)]
 
 mod drills;

@@ -14,16 +14,16 @@ const DEFAULT_DEVICES: u64 = 1;
 /// The default of `--threads`, as `DEFAULT_SIZE` is that of sizes.
 const DEFAULT_THREADS: u64 = 1;
 
-/// What a trace may keep of each event: what it did to counters, or the bytes of all memories too.
+/// What a trace may keep of each event: what it did to counters, or also the bytes of all memories.
 const TRACES: &[&str] = &["counts", "full"];
 
-/// The version that `--version` tells.
+/// The version that `--version` prints.
 const VERSION: &str = "0.1.0 (OpenACC 3.3)";
 
-/// What the command line says.
+/// What the command line asks for.
 #[derive(Clone, Copy)]
 pub struct Options<'a> {
-    /// The file that has the script; standard input has it where none is named.
+    /// The file that has the script; `None` for standard input.
     pub file: Option<&'a str>,
     /// The file that the output is compared with, in place of writing it.
     pub expect: Option<&'a str>,
@@ -33,9 +33,9 @@ pub struct Options<'a> {
     pub emit: bool,
     /// Whether that program ends with the first statement that is refused.
     pub until_refusal: bool,
-    /// The file of a picture of the memories at the end.
+    /// The file for a picture of the memories at the end.
     pub svg: Option<&'a str>,
-    /// The file of the pictures behind directives, each with the number of its line in the name.
+    /// The file for the pictures behind directives; each gets the number of its line in the name.
     pub svg_every: Option<&'a str>,
     /// The size of host memory in bytes.
     pub host: u64,
@@ -43,9 +43,9 @@ pub struct Options<'a> {
     pub device: u64,
     /// How many devices there are.
     pub devices: u64,
-    /// Whether the trace keeps bytes too.
+    /// Whether the trace also keeps bytes.
     pub full: bool,
-    /// In how many threads each kernel works at most, or a drill.
+    /// In how many threads each kernel works at most; of a drill, how many threads it has.
     pub threads: u64,
     /// How often each thread of a drill enters and exits a region, where there is a drill in place of a script.
     pub drill: Option<u64>,
@@ -162,7 +162,7 @@ fn flag<'a>(alloc: Global, name: &'a str, help: &'a str) -> Arg<'a> {
 ///
 /// # Errors
 ///
-/// `clap`'s own, whose text is for the user: also where help was asked for, and for want of memory.
+/// `clap`'s own, whose text is for the user: also where help was asked for, and for lack of memory.
 pub fn parsed_options<'a>(alloc: Global, words: &'a [String]) -> Result<Options<'a>, Error> {
     let command = with_views(alloc, with_limits(alloc, bare(alloc))?)?;
     let command = with_programs(alloc, command)?;
@@ -239,7 +239,7 @@ fn options_of<'a>(matches: &ArgMatches<'a>) -> Options<'a> {
 
 const USAGE: &str = "accrun [OPTIONS] [FILE]";
 
-/// What the help says after the options: the statements, an example, the status.
+/// What the help has after the options: the statements, an example, the status.
 const AFTER_HELP: &str = "\
 A size is from 16 to 67108864 bytes, a multiple of 16. There are 1 to 4 devices,
 numbered from 0. A kernel works in 1 to 64 threads, and the output of a script

@@ -42,13 +42,13 @@ const QUEUE_CAP: u64 = 256;
 /// How many events the trace may have.
 const TRACE_CAP: u64 = 262_144;
 
-/// What is told where a word of the command line is not UTF-8.
+/// What is written where a word of the command line is not UTF-8.
 const NOT_TEXT: &str = "error: a word of the command line is not UTF-8
 
 For more information, try '--help'.
 ";
 
-/// Tells on `err` that the words of the command line could not be had, and answers the status.
+/// Writes on `err` why there are no words of the command line, and returns the status.
 pub fn tell_words<E: Sink>(err: &mut E, fault: WordsFault) -> u8 {
     match fault {
         WordsFault::Memory => tell(err, Fault::Memory),
@@ -59,15 +59,15 @@ pub fn tell_words<E: Sink>(err: &mut E, fault: WordsFault) -> u8 {
     FAULTED
 }
 
-/// Parses the command line, runs the script or the drill, flushes the output, and answers the status: [`CLEAN`],
+/// Parses the command line, runs the script or the drill, flushes the output, and returns the status: [`CLEAN`],
 /// [`REFUSED`] or [`FAULTED`].
 ///
-/// `words` begins with the program's name. The script is read from `reader`, or is one of the files. Its output goes to
+/// `words` begins with the program's name. The script comes from `reader`, or from one of the files. Its output goes to
 /// `out`, or is compared with one of the files. A drill reads nothing.
 ///
-/// A fault of the command line is told on `err` in the parser's words, and then nothing is read. Each other fault is
-/// told there in one line, after `out` was flushed, and with `--explain` its reason follows. The first of these is
-/// told: the expected output cannot be read; [`Fault::BadConfig`]; those of the run; [`Fault::Write`] where the flush
+/// For a fault of the command line, it writes the parser's words on `err`, and reads nothing. For each other fault it
+/// writes one line there, after it flushed `out`, and with `--explain` the reason follows. It writes the first of
+/// these: the expected output cannot be read; [`Fault::BadConfig`]; those of the run; [`Fault::Write`] where the flush
 /// fails. Help and the version go to `out`. A failure of `err` changes nothing.
 pub fn tool<R: Threads + Wait + Sync + AllocGlobal, S: Source, O: Sink, E: Sink, D: FileStore>(
     rt: &R,
@@ -109,7 +109,7 @@ struct Ends<'a, O, E, D> {
     out: &'a mut O,
     err: &'a mut E,
     files: &'a D,
-    /// Gets the reason of a fault.
+    /// Gets why a line is at fault.
     reason: &'a mut Page,
 }
 
@@ -186,7 +186,7 @@ fn compared<'a, R: Threads + Wait + Sync + AllocGlobal, S: Source, O: Sink, E: S
     };
     match carried_out(rt, options, reader, within) {
         Ok(_) => Ok(agreement(rt, &expected, found.as_slice(), err)),
-        // This sink fails for want of memory alone.
+        // This sink fails for lack of memory alone.
         Err(Mishap::Fault(Fault::Write)) => Err(Mishap::Fault(Fault::Memory)),
         Err(mishap) => Err(mishap),
     }
@@ -290,14 +290,14 @@ fn limits(options: Options) -> Result<Config, Fault> {
     })
 }
 
-/// The command line has no other numbers; here that is told to the prover.
+/// The number of threads. The parser allows no number but 1 to 64; the contract shows that to the prover.
 fn threads(options: Options<'_>) -> usize
     ensures { (1 ≤ result) × (result ≤ 64) }
 {
     options.threads.clamp(1, 64) as usize
 }
 
-/// A fault of the command line goes to `err`; help and the version, which were asked for, go to `out`.
+/// Writes what the parser returned. A fault of the command line goes to `err`; help and the version go to `out`.
 fn tell_usage<R: AllocGlobal, O: Sink, E: Sink>(
     rt: &R,
     out: &mut O,

@@ -4,10 +4,10 @@ use std::alloc::AllocError;
 use std::env::{self, Env};
 use std::io;
 
-/// Why the words of the command line cannot be had.
+/// Why there are no words of the command line.
 #[derive(Clone, Copy, Debug, PartialEq, Eq)]
 pub enum WordsFault {
-    /// No memory could be had for them.
+    /// There was no memory for them.
     Memory,
     /// A word is not UTF-8.
     NotText,
@@ -28,7 +28,7 @@ impl From<io::Error> for WordsFault {
     }
 }
 
-/// The words of the command line; the first is the program's name.
+/// Returns the words of the command line; the first is the program's name.
 ///
 /// # Errors
 ///

@@ -1,4 +1,4 @@
-//! Questions, and the answers that have to come.
+//! Questions of a script, and the answers that have to come.
 
 use crate::emitters::Emitter;
 use crate::faults::{EmitFault, Reason};
@@ -10,7 +10,7 @@ use acc_read::next_line;
 use acc_script::{Effect, MemorySink, write_effect};
 use std::alloc::Global;
 
-/// How many bytes stand on one line of the program.
+/// How many expected bytes stand on one line of the program.
 const BYTES_ON_LINE: u64 = 32;
 
 /// Emits a question for the bytes of a section of host memory.
@@ -64,7 +64,8 @@ pub fn emit_present(emitter: &mut Emitter, section: Section) -> Result<(), EmitF
     put_word(&mut emitter.sheet, "present", section, word)
 }
 
-/// `own` are the bytes of the script's table, and `twin` those of its twin. A byte that is not compared is `??`.
+/// Puts the bytes that have to come. `own` are those of the script's table, and `twin` those of its twin. A byte that
+/// is not compared is `??`.
 fn put_bytes(
     sheet: &mut Sheet,
     marks: &Marks,

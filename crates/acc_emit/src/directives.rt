@@ -5,16 +5,16 @@ use crate::items::{Words, Written, fit_one_directive};
 use crate::pointers::pointer_section;
 use crate::sheets::Sheet;
 
-/// A directive around its items: what stands before them, and behind them.
+/// A directive without its items: what stands before them, and behind them.
 #[derive(Clone, Copy)]
 pub struct Frame {
-    /// Its words.
+    /// The words before the clauses, as `enter data`.
     pub head: &'static str,
-    /// Its `async` queue.
+    /// The queue of its `async` clause (OpenACC 3.3, section 2.16), if it has one.
     pub queue: Option<u64>,
-    /// Another option of it, with a blank before it.
+    /// Another option of it, with a blank before it; empty where it has none.
     pub option: &'static str,
-    /// The call that pointers are attached or detached by.
+    /// The call that attaches or detaches its pointers.
     pub call: &'static str,
     /// Whether that call comes before the directive.
     pub call_first: bool,
@@ -69,7 +69,11 @@ pub fn update_frame(queue: Option<u64>, if_present: bool) -> Frame {
     }
 }
 
-/// Puts a directive, or one for each item where C asks for it. Items act one after the other, so both do the same.
+/// Puts a directive, or one for each item where C needs it. Items act one after the other, so both do the same.
+///
+/// # Errors
+///
+/// `OutsideArray` alone, where no one array has the section of an item, or its pointer.
 pub fn put_directive(sheet: &mut Sheet, frame: Frame, items: &[Written]) -> Result<(), EmitFault> {
     if fit_one_directive(&sheet.names, items) {
         return put_clauses(sheet, frame, items);
@@ -96,7 +100,7 @@ fn put_item(sheet: &mut Sheet, frame: Frame, item: Written) -> Result<(), EmitFa
     Ok(())
 }
 
-/// Puts a comment for an item without a section, and the block that it opens all the same.
+/// Puts a comment for an item without a section, and opens its block all the same.
 fn put_passed_over(sheet: &mut Sheet, frame: Frame, item: Written) {
     if !item.words.word.is_empty() {
         sheet.start("/* an empty section: no action */\n");
@@ -114,7 +118,7 @@ fn put_clause_alone(sheet: &mut Sheet, frame: Frame, item: Written) -> Result<()
     }
 }
 
-/// A compiler that does not know the modifier `zero` fills in its place.
+/// Puts an item with the modifier `zero`. A compiler that does not know the modifier fills the block in its place.
 fn put_with_zero(sheet: &mut Sheet, frame: Frame, item: Written) -> Result<(), EmitFault> {
     let without_block = Frame {
         opens: false,
@@ -200,6 +204,10 @@ pub fn put_wait(sheet: &mut Sheet, queue: Option<u64>) {
 }
 
 /// Puts the call that attaches or detaches a pointer, if there is one.
+///
+/// # Errors
+///
+/// `OutsideArray` alone, where no one array has the pointer.
 pub fn put_call(sheet: &mut Sheet, call: &str, pointer: Option<u64>) -> Result<(), EmitFault> {
     let Some(pointer) = pointer else {
         return Ok(());

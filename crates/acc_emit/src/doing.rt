@@ -12,6 +12,10 @@ use acc_table::Table;
 use std::alloc::Global;
 
 /// Emits the directive that made the table's last event.
+///
+/// # Errors
+///
+/// [`EmitFault::Line`] where C cannot have the directive; [`EmitFault::Run`] for lack of memory.
 pub fn emit_last_event(alloc: Global, emitter: &mut Emitter) -> Result<(), EmitFault> {
     let told = match emitter.twins.own.table.trace().last() {
         Some(event) => told_event(alloc, event)?,
@@ -63,7 +67,7 @@ fn emit_standalone(
     put_directive(&mut emitter.sheet, frame, items)
 }
 
-/// Notes what the items of a directive did, in a queue or at once, if C can have it.
+/// Notes what the items of a directive did, in a queue or at once; fails where C cannot have it.
 fn note_all(emitter: &mut Emitter, queue: Option<u64>, items: &[Written]) -> Result<(), EmitFault> {
     for item in items {
         check_attached(emitter, *item)?;
@@ -73,7 +77,8 @@ fn note_all(emitter: &mut Emitter, queue: Option<u64>, items: &[Written]) -> Res
     Ok(())
 }
 
-/// A pointer that is attached has to be one that a `point` wrote: only then has it an address in C too.
+/// Checks the pointer that an item attached. Some `point` has to have written it, since only then has it an address in
+/// C too. No copy of it may wait.
 fn check_attached(emitter: &Emitter, item: Written) -> Result<(), EmitFault> {
     let Some(place) = item.attached() else {
         return Ok(());
@@ -89,13 +94,13 @@ fn check_attached(emitter: &Emitter, item: Written) -> Result<(), EmitFault> {
     Ok(())
 }
 
-/// The address that the bytes of host memory at a place say.
+/// The address in the bytes of host memory at a place.
 fn pointer_at(table: &Table, place: u64) -> u64 {
     address_of(table.host_read(pointer_section(place)).unwrap_or(&[]))
 }
 
-/// OpenACC does not say whether a block is there until a copy in another queue is made. So its mapping may not end
-/// while one waits.
+/// Checks that no copy of a block waits in another queue when its mapping ends. OpenACC does not say whether the block
+/// is there until such a copy is made.
 fn check_ended(emitter: &Emitter, queue: Option<u64>, item: Written) -> Result<(), EmitFault> {
     match item.ended_block() {
         Some(block) if emitter.marks.waits.keep(block, queue) => {

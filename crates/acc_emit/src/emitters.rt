@@ -15,14 +15,18 @@ pub struct Emitter {
     pub twins: Twins,
     /// The bytes that are not compared.
     pub marks: Marks,
-    /// The program.
+    /// The text of the program so far.
     pub sheet: Sheet,
     /// The open regions, the innermost last.
     pub regions: Vec<OpenRegion>,
 }
 
 impl Emitter {
-    /// New tables of these limits, and an empty program.
+    /// Returns new tables of these limits, and an empty program.
+    ///
+    /// # Errors
+    ///
+    /// [`EmitFault::Run`] alone, for lack of memory.
     pub fn new(alloc: Global, config: Config) -> Result<Emitter, EmitFault> {
         Ok(Emitter {
             marks: Marks::new(alloc, config.host())?,
@@ -32,7 +36,7 @@ impl Emitter {
         })
     }
 
-    /// The fault of the line that is being emitted, for a reason.
+    /// Returns the fault of the line that is being emitted, for a reason.
     pub fn unfit(&self, reason: Reason) -> EmitFault {
         self.sheet.unfit(reason)
     }

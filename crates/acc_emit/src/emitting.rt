@@ -17,14 +17,14 @@ use std::alloc::Global;
 use std::sync::Wait;
 use std::thread::Threads;
 
-/// A script as a C program with OpenACC 3.3 directives, which prints what the script prints and compares it. Its tables
-/// have these limits.
+/// Returns a script as a C program with OpenACC 3.3 directives, which prints what the script prints and compares it.
+/// Its tables have these limits.
 ///
 /// With `until_refusal` the program ends with the first directive that is refused, and has to fail there.
 ///
 /// # Errors
 ///
-/// [`EmitFault::Run`] for a fault of the script or want of memory; [`EmitFault::Line`] at the first line that a program
+/// [`EmitFault::Run`] for a fault of the script or lack of memory; [`EmitFault::Line`] at the first line that a program
 /// in C cannot have.
 pub fn emit<R: Threads + Wait + Sync + AllocGlobal>(
     rt: &R,
@@ -71,7 +71,7 @@ fn end_at(emitter: &mut Emitter, until_refusal: bool) -> Result<(), EmitFault> {
     Ok(())
 }
 
-/// Answers whether the line was refused and the program ends with it.
+/// Emits a line; returns whether it was refused and the program ends with it.
 fn emit_line<R: Threads + Wait + Sync + AllocGlobal>(
     rt: &R,
     emitter: &mut Emitter,
@@ -128,7 +128,7 @@ fn emit_plan(
     }
 }
 
-/// A program is for one device: there is nothing to emit where its own is chosen, and another cannot be.
+/// Checks the device that a line chooses. A program is for one device: its own needs no statement, and it has no other.
 fn check_device(emitter: &Emitter, device: u64) -> Result<(), EmitFault> {
     if device == DEVICE {
         Ok(())
@@ -137,7 +137,7 @@ fn check_device(emitter: &Emitter, device: u64) -> Result<(), EmitFault> {
     }
 }
 
-/// Emits a directive that was done; the step of an empty queue is none.
+/// Emits a directive that was done. The step of an empty queue did nothing, and gets a comment.
 fn emit_directive(alloc: Global, emitter: &mut Emitter, effect: Effect) -> Result<(), EmitFault> {
     if matches!(effect, Effect::EmptyQueue) {
         return emit_comment(alloc, emitter, effect);

@@ -5,7 +5,7 @@ use crate::items::{Written, written_items};
 use acc_base::{Did, Directive, Event, Fault};
 use std::alloc::Global;
 
-/// What C writes for an event, or for a directive that is refused.
+/// The directive that C writes for an event, or for a directive that is refused.
 #[derive(Drop)]
 pub enum Told {
     /// The start of a region with these items.
@@ -14,15 +14,19 @@ pub enum Told {
     End(Vec<Did>),
     /// A directive without a block, and its items.
     Standalone(Frame, Vec<Written>),
-    /// A `wait`.
+    /// A `wait` for a queue, or for all queues.
     Wait(Option<u64>),
-    /// The step of a queue, which no directive is.
+    /// The step of a queue, for which there is no directive.
     Step,
-    /// No directive.
+    /// No directive, as for a write of the host.
     Nothing,
 }
 
-/// What C writes for an event.
+/// Returns what C writes for an event.
+///
+/// # Errors
+///
+/// [`Fault::Memory`] alone.
 pub fn told_event(alloc: Global, event: &Event) -> Result<Told, Fault> {
     match event {
         Event::Entered { items, did, .. } => Ok(Told::Start(written_items(
@@ -66,7 +70,11 @@ pub fn told_event(alloc: Global, event: &Event) -> Result<Told, Fault> {
     }
 }
 
-/// What C writes for a directive that is refused.
+/// Returns what C writes for a directive that is refused.
+///
+/// # Errors
+///
+/// [`Fault::Memory`] alone.
 pub fn told_directive(alloc: Global, directive: &Directive) -> Result<Told, Fault> {
     match directive {
         Directive::Enter { items, .. } => Ok(Told::Start(written_items(

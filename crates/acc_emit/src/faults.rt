@@ -23,7 +23,7 @@ pub enum Reason {
 }
 
 impl Reason {
-    /// What is told of it, behind the number of the line.
+    /// Returns what is printed for it, behind the number of the line.
     pub fn text(self) -> &'static str {
         match self {
             Reason::Refused => "the statement is refused",
@@ -40,13 +40,13 @@ impl Reason {
 /// Why a script gives no program.
 #[derive(Clone, Copy, Debug, PartialEq, Eq)]
 pub enum EmitFault {
-    /// A fault of the script, or want of memory.
+    /// A fault of the script, or lack of memory.
     Run(Fault),
     /// A line cannot be emitted.
     Line {
         /// The number of the line, counted from 1.
         line: u64,
-        /// Why.
+        /// Why it cannot be emitted.
         reason: Reason,
     },
 }

@@ -17,7 +17,7 @@ pub struct Words {
 
 /// A clause of a directive, as C writes it.
 pub trait Clause: Copy {
-    /// Its word and its modifier.
+    /// Returns its word and its modifier.
     fn words(self) -> Words;
 }
 
@@ -84,11 +84,15 @@ pub struct Written {
     pub words: Words,
     /// Its section.
     pub section: Section,
-    /// What it did: nothing, where the directive is refused.
+    /// What it did; nothing where the directive is refused.
     pub did: Did,
 }
 
-/// The items of a directive with what each of them did, as far as that is known.
+/// Returns the items of a directive with what each of them did, as far as that is known.
+///
+/// # Errors
+///
+/// [`Fault::Memory`] alone.
 pub fn written_items<C: Clause>(
     alloc: Global,
     items: &[Item<C>],
@@ -117,7 +121,7 @@ impl Written {
         matches!(self.did.step, Step::Born { .. })
     }
 
-    /// The host address of the pointer that it attached or detached.
+    /// Returns the host address of the pointer that it attached or detached.
     pub fn pointer(self) -> Option<u64> {
         match self.did.aim {
             Aim::None => None,
@@ -128,7 +132,7 @@ impl Written {
         }
     }
 
-    /// The host address of the pointer that it attached.
+    /// Returns the host address of the pointer that it attached.
     pub fn attached(self) -> Option<u64> {
         match self.did.aim {
             Aim::New { pointer, .. } | Aim::Again { pointer, .. } => Some(pointer),
@@ -136,7 +140,7 @@ impl Written {
         }
     }
 
-    /// The number of the block whose mapping it ended.
+    /// Returns the number of the block whose mapping it ended.
     pub fn ended_block(self) -> Option<u64> {
         match self.did.step {
             Step::Dropped { block, ended: true } => Some(block),
@@ -144,7 +148,7 @@ impl Written {
         }
     }
 
-    /// The number of the block to or from which it copied its section, at once or by a queue.
+    /// Returns the number of the block to or from which it copied its section, at once or by a queue.
     pub fn copied_block(self) -> Option<u64> {
         let word = self.words.word;
         match self.did.step {

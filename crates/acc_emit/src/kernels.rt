@@ -6,6 +6,10 @@ use acc_base::Section;
 use acc_read::ScriptKernel;
 
 /// Puts a kernel over a section as a loop that runs in parallel (OpenACC 3.3, sections 2.5.1 and 2.9).
+///
+/// # Errors
+///
+/// `OutsideArray` alone, where no one array has the section, or the source.
 pub fn put_kernel(
     sheet: &mut Sheet,
     kernel: ScriptKernel,
@@ -59,7 +63,7 @@ fn put_plus(sheet: &mut Sheet, source: Section, section: Section) -> Result<(), 
     Ok(())
 }
 
-/// Puts a copy of so many of the host's bytes of a source, so that those count and not the device's.
+/// Puts a copy of this many bytes of a source in host memory, so that those count and not the device's.
 fn put_source(sheet: &mut Sheet, source: Section, count: u64) -> Result<(), EmitFault> {
     sheet.need(count);
     sheet.start("memcpy(bytes, ");

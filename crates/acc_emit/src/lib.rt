@@ -1,4 +1,4 @@
-//! A script as a C program with OpenACC 3.3 directives, which does what the script does and knows what has to come out.
+//! A script as a C program with OpenACC 3.3 directives, which does what the script does and compares what it prints.
 //!
 //! A byte is compared only where OpenACC determines it. `twins` finds those that nothing has filled, and `marks` keeps
 //! those of addresses and those that a queued copy races for.

@@ -1,14 +1,14 @@
-//! Which bytes no two programs have alike.
+//! The bytes that two programs need not have alike.
 
 use crate::pointers::{Pointers, pointer_section};
 use crate::waits::Waits;
 use acc_base::{HOST_BASE, Section};
 use std::alloc::{AllocError, Global};
 
-/// The bytes that no two programs have alike: those of addresses, and those that a queued copy races for.
+/// The bytes that two programs need not have alike: those of addresses, and those that a queued copy races for.
 ///
-/// A copy between the memories never moves a byte to another host address. So one mark speaks of the byte in host memory
-/// and of those on the device that are mapped from it. A mark stays, since some copy of the byte may.
+/// A copy between the memories never moves a byte to another host address. So one mark is for the byte in host memory
+/// and for those on the device that are mapped from it. A mark stays, since some copy of the byte may.
 #[derive(Drop)]
 pub struct Marks {
     marked: Vec<bool>,
@@ -19,7 +19,11 @@ pub struct Marks {
 }
 
 impl Marks {
-    /// No mark, in host memory of so many bytes.
+    /// Returns no mark, for host memory of this many bytes.
+    ///
+    /// # Errors
+    ///
+    /// [`AllocError`] where there is no memory for the marks, one for each byte.
     pub fn new(alloc: Global, host: u64) -> Result<Marks, AllocError> {
         Ok(Marks {
             marked: vec![in alloc; false; host as usize]?,
@@ -58,8 +62,8 @@ impl Marks {
         (0..self.waits.len()).any(|nth| self.waits.shared(nth, section, None).len > 0)
     }
 
-    /// Notes that the bytes of a section are read or written in a queue, or at once. Those of which a copy waits in
-    /// another queue are marked: which of the two comes first is open.
+    /// Notes that the bytes of a section are read or written in a queue, or at once. It marks those of which a copy
+    /// waits in another queue: which of the two comes first is open.
     pub fn touch(&mut self, section: Section, queue: Option<u64>) {
         for nth in 0..self.waits.len() {
             let shared = self.waits.shared(nth, section, queue);
@@ -68,13 +72,18 @@ impl Marks {
         }
     }
 
-    /// Notes that the bytes of a section are written, in host memory or on the device: pointers there are none any more.
+    /// Notes that the bytes of a section are written, in host memory or on the device. No pointer that `point` wrote is
+    /// left there.
     pub fn write(&mut self, section: Section) {
         self.touch(section, None);
         self.pointers.spoil(section);
     }
 
-    /// Notes that the address of a target was written at a place.
+    /// Notes that `point` wrote the address of a target at a place.
+    ///
+    /// # Errors
+    ///
+    /// [`AllocError`] where there is no memory. The bytes are marked then.
     pub fn point(&mut self, place: u64, target: u64) -> Result<(), AllocError> {
         let section = pointer_section(place);
         self.write(section);

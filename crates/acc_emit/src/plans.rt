@@ -7,7 +7,7 @@ use acc_read::{Array, ScriptKernel, Statement};
 /// What is emitted for a line.
 #[derive(Clone, Copy)]
 pub enum Plan<'a> {
-    /// Nothing.
+    /// Nothing, as for a blank line.
     Nothing,
     /// The declaration of an array.
     Declaration {
@@ -16,7 +16,7 @@ pub enum Plan<'a> {
         /// Where it lies.
         array: Array,
     },
-    /// A directive.
+    /// A directive of OpenACC.
     Directive,
     /// The choice of the device of this number.
     Device(u64),
@@ -33,7 +33,7 @@ pub enum Plan<'a> {
     Point(Section),
     /// A question for a section's bytes in host memory.
     Show(Section),
-    /// A question for those on the device.
+    /// A question for a section's bytes on the device.
     Peek(Section),
     /// A question for a section's presence.
     Present(Section),
@@ -41,7 +41,7 @@ pub enum Plan<'a> {
     Comment,
 }
 
-/// What is emitted for a statement that stands in a line.
+/// Returns what is emitted for a statement that stands in a line.
 pub fn plan_of<'a>(statement: &Statement<'a>, line: &[u8]) -> Plan<'a> {
     match statement {
         Statement::Blank => Plan::Nothing,
@@ -69,7 +69,7 @@ pub fn plan_of<'a>(statement: &Statement<'a>, line: &[u8]) -> Plan<'a> {
     }
 }
 
-/// What is emitted for a write: the word in its line tells `point` from `write`.
+/// What is emitted for a write. Only the word in its line shows whether it is `point` or `write`.
 fn write_plan(line: &[u8], start: u64, len: u64) -> Plan<'static> {
     let section = Section { start, len };
     if statement_text(line).starts_with(b"point") {

@@ -13,38 +13,42 @@ struct Pointer {
     target: u64,
 }
 
-/// The pointers that `point` wrote, and that nothing else has written since.
+/// The pointers that `point` wrote, where nothing else has written since.
 #[derive(Drop)]
 pub struct Pointers {
     all: Vec<Pointer>,
 }
 
 impl Pointers {
-    /// No pointer.
+    /// Returns no pointer.
     pub fn new(alloc: Global) -> Pointers {
         Pointers {
             all: Vec::new(alloc),
         }
     }
 
-    /// Notes that the address of a target was written at a place.
+    /// Notes that `point` wrote the address of a target at a place.
+    ///
+    /// # Errors
+    ///
+    /// [`AllocError`] where there is no memory. Nothing is noted then.
     pub fn insert(&mut self, place: u64, target: u64) -> Result<(), AllocError> {
         self.all.push(Pointer { place, target })?;
         Ok(())
     }
 
-    /// Notes that bytes were written that are no address: pointers there are none any more.
+    /// Notes that bytes were written that are no address. No pointer that `point` wrote is left there.
     pub fn spoil(&mut self, section: Section) {
         self.all.retain(|pointer| is_apart(pointer_section(pointer.place), section));
     }
 
-    /// Whether the address of a target was written at a place.
+    /// Returns whether `point` wrote the address of a target at a place, and it still stands there.
     pub fn has(&self, place: u64, target: u64) -> bool {
         self.all.iter().any(|pointer| pointer.place == place && pointer.target == target)
     }
 }
 
-/// The eight bytes of a pointer.
+/// Returns the section of the eight bytes of a pointer.
 pub fn pointer_section(place: u64) -> Section {
     Section {
         start: place,
@@ -60,7 +64,7 @@ fn is_apart(one: Section, other: Section) -> bool {
         || other.start.saturating_add(other.len) <= one.start
 }
 
-/// The address that bytes say, the lowest first.
+/// Returns the address that these bytes hold, the lowest byte first.
 pub fn address_of(bytes: &[u8]) -> u64 {
     let mut address = 0u64;
     for byte in bytes.iter().rev() {

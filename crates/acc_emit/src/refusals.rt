@@ -11,8 +11,12 @@ use acc_base::{Directive, Fault};
 use acc_read::Statement;
 use std::alloc::Global;
 
-/// Emits a statement that is refused as the last one of the program, where that is asked for and OpenACC has the refusal
-/// too.
+/// Emits a statement that is refused, as the last one of the program. The command line has to ask for that, and OpenACC
+/// has to have the refusal too.
+///
+/// # Errors
+///
+/// [`EmitFault::Line`] where C cannot have the statement so; [`EmitFault::Run`] for lack of memory.
 pub fn emit_refused(
     alloc: Global,
     emitter: &mut Emitter,
@@ -37,7 +41,7 @@ pub fn emit_refused(
     Ok(())
 }
 
-/// Whether a refusal is an error of OpenACC (OpenACC 3.3, section 2.7): the others come from limits of the table.
+/// Whether a refusal is an error of OpenACC (OpenACC 3.3, section 2.7). The others come from limits of the table.
 fn is_of_openacc(fault: Fault) -> bool {
     matches!(
         fault,
@@ -62,7 +66,7 @@ fn put_refused(
     }
 }
 
-/// Puts the directive that is refused; that of a region opens its blocks.
+/// Puts the directive that is refused. Where it starts a region, it opens the blocks of that too.
 fn put_refused_directive(
     alloc: Global,
     emitter: &mut Emitter,

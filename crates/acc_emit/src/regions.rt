@@ -9,14 +9,14 @@ use acc_base::Did;
 /// An open data region.
 #[derive(Drop)]
 pub struct OpenRegion {
-    /// Its items.
+    /// The items of its start, each with what it did.
     items: Vec<Written>,
     /// Whether it is one directive, with one block; else each item has a block of its own.
     is_one: bool,
 }
 
 impl OpenRegion {
-    /// A region with these items.
+    /// Returns a region with these items.
     pub fn new(sheet: &Sheet, items: Vec<Written>) -> OpenRegion {
         OpenRegion {
             is_one: fit_one_directive(&sheet.names, &items),
@@ -24,7 +24,7 @@ impl OpenRegion {
         }
     }
 
-    /// Its items, each with what undoing it did in place of what it did.
+    /// Returns its items, each with what undoing it did in place of what it did.
     pub fn undone(mut self, did: &[Did]) -> Vec<Written> {
         for (item, done) in self.items.iter_mut().zip(did) {
             item.did = *done;
@@ -51,6 +51,10 @@ impl OpenRegion {
 
 /// Closes the blocks of a region, from that of its last item to that of its first, each behind the detachment of its
 /// item.
+///
+/// # Errors
+///
+/// `OutsideArray` alone, where no one array has the pointer of an item.
 pub fn put_end(sheet: &mut Sheet, items: &[Written], is_one: bool) -> Result<(), EmitFault> {
     for item in items.iter().rev() {
         put_call(sheet, "acc_detach", item.pointer())?;

@@ -6,7 +6,7 @@ use acc_page::{Names, Page, Spot};
 use std::alloc::Global;
 use std::fmt::Write;
 
-/// How many blocks within one another are set in.
+/// How many nested blocks are indented.
 const SET_IN: u64 = 16;
 
 /// The parts of a program, and the arrays that it names.
@@ -18,7 +18,7 @@ pub struct Sheet {
     pub body: Page,
     /// The arrays.
     pub names: Names,
-    /// The number of the line that is being emitted.
+    /// The number of the line that is being emitted, counted from 1.
     pub line: u64,
     /// The length of the longest section whose bytes the program handles.
     longest: u64,
@@ -27,7 +27,7 @@ pub struct Sheet {
 }
 
 impl Sheet {
-    /// An empty sheet.
+    /// Returns a sheet without a line.
     pub fn new(alloc: Global) -> Sheet {
         Sheet {
             head: Page::new(alloc),
@@ -39,7 +39,7 @@ impl Sheet {
         }
     }
 
-    /// The fault of this line, for a reason.
+    /// Returns the fault of this line, for a reason.
     pub fn unfit(&self, reason: Reason) -> EmitFault {
         EmitFault::Line {
             line: self.line,
@@ -52,7 +52,7 @@ impl Sheet {
         self.longest = self.longest.max(length);
     }
 
-    /// Begins a line of the program, at the depth of its block, or at that of the deepest that is set in.
+    /// Begins a line of the program, indented as its block is, or as the deepest indented block.
     pub fn start(&mut self, text: &str) {
         self.body.text("    ");
         for _ in 0..self.depth.min(SET_IN) {
@@ -73,12 +73,16 @@ impl Sheet {
         self.start("}\n");
     }
 
-    /// Puts a number.
+    /// Puts a number in decimal digits.
     pub fn put_number(&mut self, number: u64) {
         let _ = write!(self.body, "{number}");
     }
 
     /// Puts a section as a subarray of C, `a_[0:16]`, or as the whole array, `a_`.
+    ///
+    /// # Errors
+    ///
+    /// `OutsideArray` alone, where no one array has the section.
     pub fn put_section(&mut self, section: Section) -> Result<(), EmitFault> {
         let spot = spot_of(&self.names, self.line, section)?;
         let is_whole = spot.array.whole() == section;
@@ -91,6 +95,10 @@ impl Sheet {
     }
 
     /// Puts the address of the first byte of a section that lies in one array, `a_ + 8`.
+    ///
+    /// # Errors
+    ///
+    /// `OutsideArray` alone, where no one array has the section.
     pub fn put_address(&mut self, section: Section) -> Result<(), EmitFault> {
         let spot = spot_of(&self.names, self.line, section)?;
         put_name(&mut self.body, spot.name);
@@ -99,6 +107,10 @@ impl Sheet {
     }
 
     /// Puts the byte at the place `i` of a section that lies in one array, `a_[i + 8]`.
+    ///
+    /// # Errors
+    ///
+    /// `OutsideArray` alone, where no one array has the section.
     pub fn put_cell(&mut self, section: Section) -> Result<(), EmitFault> {
         let spot = spot_of(&self.names, self.line, section)?;
         put_name(&mut self.body, spot.name);
@@ -108,7 +120,7 @@ impl Sheet {
         Ok(())
     }
 
-    /// The whole program, once all lines are emitted.
+    /// Returns the whole program, once all lines are emitted.
     ///
     /// # Errors
     ///

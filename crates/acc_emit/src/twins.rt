@@ -10,7 +10,7 @@ use std::alloc::Global;
 use std::sync::Wait;
 use std::thread::Threads;
 
-/// The device of a program: an OpenACC program finds as many as its machine has, and the first is there on each.
+/// The device of a program: an OpenACC program finds as many as its machine has, and each machine has the first.
 pub const DEVICE: u64 = 0;
 
 /// How many events the second table may have: it makes more of them than the first.
@@ -18,9 +18,9 @@ const EVENTS: u64 = 16_777_216;
 
 /// The script's own table, and its twin.
 ///
-/// On the twin the bytes of a new block that nothing fills are others, each with all bits flipped. A copy keeps that, and
-/// so does a kernel, whose new byte is another where the old one is. So a byte that is the same on both is one that was
-/// filled. (A `plus` has two old bytes: whoever follows it has to look at its source.)
+/// On the twin the bytes of a new block that nothing fills are others, each with all bits flipped. A copy keeps that,
+/// and so does a kernel, whose new byte is another where the old one is. So a byte that is the same on both is one that
+/// was filled. (A `plus` has two old bytes: whoever emits it has to look at its source.)
 #[derive(Drop)]
 pub struct Twins {
     /// The script's own table.
@@ -30,7 +30,7 @@ pub struct Twins {
 }
 
 impl Twins {
-    /// New tables for a script: its own within these limits, and a twin with more room.
+    /// Returns new tables for a script: its own within these limits, and a twin with more room.
     ///
     /// # Errors
     ///
@@ -45,12 +45,12 @@ impl Twins {
     }
 }
 
-/// A new table. It is boxed: a function that owns two unboxed ones takes minutes to check.
+/// Returns a session on a new table. It is boxed: a function that owns two unboxed ones takes minutes to check.
 fn boxed_session(alloc: Global, config: Config) -> Result<Box<Session>, Fault> {
     Ok(Box::new(alloc, Session::new(alloc, config, 1)?)?)
 }
 
-/// The limits of the twin: it has one region more, for fills, and room on its device for blocks that lie otherwise.
+/// The limits of the twin. It has one region more, for fills, and room on its device for blocks that lie otherwise.
 fn twin_config(config: Config) -> Result<Config, Fault> {
     let regions = config.regions().saturating_add(1).min(65_536);
     let host = config.host();
@@ -61,6 +61,10 @@ fn twin_config(config: Config) -> Result<Config, Fault> {
 }
 
 /// Reads the line of a number on a table.
+///
+/// # Errors
+///
+/// [`Fault::Script`] where the line is at fault; [`Fault::Memory`].
 pub fn read_on<'a>(
     alloc: Global,
     session: &Session,
@@ -75,7 +79,11 @@ pub fn read_on<'a>(
     }
 }
 
-/// Runs a line on the twin, with the fills that make it differ; answers what it would print.
+/// Runs a line on the twin, with the fills that make it differ; returns what it would print.
+///
+/// # Errors
+///
+/// Those of [`read_on`].
 pub fn follow_on_twin<R: Threads + Wait + Sync + AllocGlobal>(
     rt: &R,
     twin: &mut Session,
@@ -105,7 +113,7 @@ fn fill_births<R: Threads + Wait + Sync + AllocGlobal>(
     Ok(())
 }
 
-/// The sections of an event that got blocks which nothing fills at once.
+/// Adds the sections of an event that got blocks which nothing fills at once.
 fn find_births(event: &Event, births: &mut Vec<Section>) -> Result<(), Fault> {
     match event {
         Event::Entered { items, did, .. } => {

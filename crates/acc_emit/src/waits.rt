@@ -11,17 +11,17 @@ struct Waiting {
     section: Section,
 }
 
-/// The copies that were put into queues and that no `wait` has made.
+/// The copies that are in queues, and that no `wait` has made.
 ///
-/// A runtime makes them when it likes, each queue in its order (OpenACC 3.3, section 2.16). So what touches the same
-/// bytes meanwhile, and is not in the same queue, comes before them or behind them.
+/// A runtime makes them when it likes, each queue in its order (OpenACC 3.3, section 2.16). So what reads or writes the
+/// same bytes meanwhile, and is not in the same queue, may come before them or behind them.
 #[derive(Drop)]
 pub struct Waits {
     all: Vec<Waiting>,
 }
 
 impl Waits {
-    /// No copy.
+    /// Returns no copy.
     pub fn new(alloc: Global) -> Waits {
         Waits {
             all: Vec::new(alloc),
@@ -29,6 +29,10 @@ impl Waits {
     }
 
     /// Notes that a copy of a section to or from a block was put into a queue.
+    ///
+    /// # Errors
+    ///
+    /// [`AllocError`] where there is no memory. Nothing is noted then.
     pub fn put(&mut self, queue: u64, block: u64, section: Section) -> Result<(), AllocError> {
         self.all.push(Waiting {
             queue,
@@ -46,17 +50,17 @@ impl Waits {
         }
     }
 
-    /// How many copies wait.
+    /// Returns how many copies wait.
     pub fn len(&self) -> usize {
         self.all.len()
     }
 
-    /// Whether a copy of a block waits in another queue than this one.
+    /// Returns whether a copy of a block waits in another queue than this one.
     pub fn keep(&self, block: u64, queue: Option<u64>) -> bool {
         self.all.iter().any(|waiting| waiting.block == block && queue != Some(waiting.queue))
     }
 
-    /// The bytes of a section that the nth copy has too, if it waits in another queue than this one.
+    /// Returns the bytes of a section that the nth copy has too, if it waits in another queue than this one.
     pub fn shared(&self, nth: usize, section: Section, queue: Option<u64>) -> Section {
         match self.all.get(nth) {
             Some(waiting) if queue != Some(waiting.queue) => common(waiting.section, section),

@@ -11,6 +11,10 @@ use std::alloc::Global;
 use std::fmt::Write;
 
 /// Declares an array of the program, with its size in bytes.
+///
+/// # Errors
+///
+/// [`EmitFault::Run`] alone, where there is no memory for the name.
 pub fn declare(
     alloc: Global,
     sheet: &mut Sheet,
@@ -32,6 +36,10 @@ fn put_size(sheet: &mut Sheet, size: u64) {
 }
 
 /// Emits a write of the host into a section.
+///
+/// # Errors
+///
+/// `OutsideArray` alone, where no one array has the section.
 pub fn emit_write(emitter: &mut Emitter, section: Section) -> Result<(), EmitFault> {
     let Emitter {
         twins,
@@ -59,6 +67,10 @@ fn put_write(sheet: &mut Sheet, section: Section, bytes: &[u8]) -> Result<(), Em
 }
 
 /// Emits a write of a host address into a pointer.
+///
+/// # Errors
+///
+/// `OutsideArray` where no one array has the section, or the target; [`EmitFault::Run`] for lack of memory.
 pub fn emit_point(emitter: &mut Emitter, section: Section) -> Result<(), EmitFault> {
     let Emitter {
         twins,
@@ -83,7 +95,11 @@ fn put_point(sheet: &mut Sheet, section: Section, target: u64) -> Result<(), Emi
     Ok(())
 }
 
-/// Emits a kernel, and marks the bytes to which it adds such as are not compared.
+/// Emits a kernel, and marks the bytes to which it adds bytes that are not compared.
+///
+/// # Errors
+///
+/// `OutsideArray` alone, where no one array has the section, or the source.
 pub fn emit_kernel(
     emitter: &mut Emitter,
     kernel: ScriptKernel,
@@ -96,7 +112,7 @@ pub fn emit_kernel(
     put_kernel(&mut emitter.sheet, kernel, section)
 }
 
-/// Marks the bytes of a section to which bytes of a source are added that are not compared, or that nothing filled.
+/// Marks bytes of a section: those to which bytes of a source are added that are not compared, or that nothing filled.
 fn spread_marks(emitter: &mut Emitter, source: Section, section: Section) {
     let Emitter { twins, marks, .. } = emitter;
     let own = twins.own.table.host_read(source).unwrap_or(&[]);

@@ -13,12 +13,12 @@ use std::alloc::{AllocError, Global};
 /// How many bytes of a token are shown at most.
 const SHOWN: usize = 40;
 
-/// Puts why the line of a number is at fault: the line, marked at the first place that is wrong, and what stands there.
+/// Puts why the line of a number is at fault: the line, with a mark at the first wrong place, and what stands there.
 /// What could stand there follows, and what to write in its place where that is known.
 ///
 /// # Errors
 ///
-/// Where memory is wanting.
+/// [`AllocError`] where there is no memory.
 pub fn explain_fault(
     page: &mut Page,
     alloc: Global,
@@ -86,7 +86,7 @@ fn text_of(line: &[u8]) -> &[u8] {
     line.get(..len).unwrap_or(line)
 }
 
-/// Where the token of a number begins; behind the last one where it is missing.
+/// Where the token of a number begins; where it is missing, the end of the last one.
 fn place_of(text: &[u8], tokens: &[Token], nth: usize) -> usize {
     match (tokens.get(nth), tokens.last()) {
         (Some(token), _) => token.start,
@@ -111,7 +111,7 @@ fn put_found(page: &mut Page, found: &[u8]) {
     }
 }
 
-/// Puts what is wrong: of a token what was found, and where its kind is wrong, what could stand there.
+/// Puts what is wrong. For a token it puts what was found, and where its kind is wrong, what could stand there.
 fn put_kind(page: &mut Page, reader: Reader<'_>, finding: Finding<'_>) -> Result<(), AllocError> {
     match finding.kind {
         ScriptFault::NoOpenRegion => page.text("no data region is open here"),
@@ -154,7 +154,7 @@ fn add_hint(page: &mut Page, reader: Reader<'_>, number: u64, finding: Finding<'
     }
 }
 
-/// Puts which `data` are open where the script ends: the numbers of their lines.
+/// Puts which `data` are open where the script ends, by the numbers of their lines.
 pub fn explain_unclosed(page: &mut Page, lines: &[u64]) {
     put_cause(page);
     page.text("the script ends here, and no end data stands behind the data of line");

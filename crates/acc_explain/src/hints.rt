@@ -9,11 +9,11 @@ use acc_page::Page;
 /// A line at fault, cut into tokens, with the number of the one that is wrong.
 #[derive(Clone, Copy)]
 pub struct Finding<'a> {
-    /// What the line says before a comment.
+    /// What the line has before a comment.
     pub text: &'a [u8],
     /// Its tokens.
     pub tokens: &'a [Token],
-    /// The number of the wrong one, or how many there are where one is missing.
+    /// The number of the wrong token, from 0 on; or how many there are where one is missing.
     pub nth: usize,
     /// What is wrong.
     pub kind: ScriptFault,
@@ -43,7 +43,7 @@ impl<'a> Finding<'a> {
     }
 }
 
-/// Puts what to write in place of what was found, where that is known; answers whether it is.
+/// Puts what to write in place of what was found, where that is known; returns whether it is.
 pub fn put_hint(page: &mut Page, reader: Reader<'_>, finding: Finding<'_>) -> bool {
     match finding.kind {
         ScriptFault::Syntax => put_syntax_hint(page, finding),
@@ -86,7 +86,7 @@ fn put_syntax_hint(page: &mut Page, finding: Finding<'_>) -> bool {
     }
 }
 
-/// What is said of a word of OpenACC that scripts do not have there.
+/// The advice for a word of OpenACC that scripts do not have there.
 fn advice_of(finding: Finding<'_>) -> Option<&'static str> {
     let found = finding.found();
     if finding.nth == 0 {
@@ -128,7 +128,7 @@ fn has_capitals(word: &[u8]) -> bool {
     word.iter().any(|b| b.is_ascii_uppercase())
 }
 
-/// An array whose length stands in brackets.
+/// Puts how to declare an array whose length stands in brackets.
 fn put_array_hint(page: &mut Page, finding: Finding<'_>) -> bool {
     page.text("the length stands behind the name, in bytes: array ");
     page.bytes(finding.before());
@@ -140,7 +140,7 @@ fn put_array_hint(page: &mut Page, finding: Finding<'_>) -> bool {
     true
 }
 
-/// A word that begins with 0x: digits of `write` stand without it, and numbers are decimal.
+/// Puts how to write a word that begins with 0x: digits of `write` stand without it, and numbers are decimal.
 fn put_digits_hint(page: &mut Page, finding: Finding<'_>, found: &[u8]) -> bool {
     if is_text(finding.at(0), "write") && is_text(finding.before(), "]") {
         page.text("the digits stand without 0x: ");
@@ -179,7 +179,7 @@ fn put_unknown_hint(page: &mut Page, finding: Finding<'_>) -> bool {
     true
 }
 
-/// Where the array of that name lies.
+/// Puts the length of the array that has that name already.
 fn put_taken_hint(page: &mut Page, reader: Reader<'_>, finding: Finding<'_>) -> bool {
     let Some(array) = reader.arrays.get(finding.found()) else {
         return false;
@@ -201,7 +201,7 @@ pub fn is_pragma(line: &[u8]) -> bool {
     rest.trim_ascii_start().starts_with(b"acc")
 }
 
-/// Puts a warning of a line that begins so, by its number.
+/// Puts a warning for such a line, by its number.
 pub fn warn_of_pragma(page: &mut Page, number: u64) {
     page.text("accrun: line ");
     page.number(number);

@@ -1,7 +1,7 @@
-//! Why a line is at fault or a statement was refused, for those who wrote the script.
+//! Why a line is at fault or a statement was refused, for the author of the script.
 //!
-//! The reader itself is asked about front parts of the line: where it is wrong, and what could stand there. So there is
-//! one reader, and no second one that might differ from it.
+//! The reader itself reads front parts of the line. That shows where the line is wrong, and what could stand there. So
+//! there is one reader, and no second one that might differ from it.
 #![tactic(auto)]
 
 mod faults;

@@ -1,4 +1,4 @@
-//! The reader of scripts, asked about front parts of a line.
+//! The reader of scripts, run on front parts of a line.
 
 use crate::sentences::SENTENCES;
 use crate::tokens::{Token, next_token};
@@ -17,7 +17,8 @@ pub struct Reader<'a> {
 }
 
 impl Reader<'_> {
-    /// What is wrong with a text as a line, if something is. A region counts as open; no fault depends on the device.
+    /// Returns what is wrong with a text as a line, if something is. A region counts as open; no fault depends on the
+    /// device.
     pub fn fault(self, text: &[u8]) -> Option<ScriptFault> {
         match line_at(self.alloc, self.arrays, 0, Some(1), text) {
             Err(Trouble::Line(kind)) => Some(kind),
@@ -25,7 +26,7 @@ impl Reader<'_> {
         }
     }
 
-    /// Whether a tail makes a front part a line whose tokens all stand where they may.
+    /// Returns whether a front part with this tail is a line whose tokens all stand where they may.
     pub fn fits(self, front: &[u8], tail: &str) -> bool {
         let mut page = Page::new(self.alloc);
         page.bytes(front);
@@ -37,7 +38,7 @@ impl Reader<'_> {
         )
     }
 
-    /// Whether some tail of a sentence does so.
+    /// Returns whether some tail of a sentence makes a front part such a line.
     pub fn can_go_on(self, front: &[u8]) -> bool {
         self.fits(front, "")
             || SENTENCES
@@ -59,7 +60,8 @@ impl Reader<'_> {
         false
     }
 
-    /// The number, from 0 on, of the token for which a text has this fault; the number of tokens where one is missing.
+    /// Returns the number, from 0 on, of the token for which a text has this fault. Where a token is missing, it is the
+    /// number of tokens.
     pub fn place(self, text: &[u8], tokens: &[Token], kind: ScriptFault) -> usize {
         match kind {
             ScriptFault::Syntax => self.first_unfit(text, tokens),
@@ -69,7 +71,7 @@ impl Reader<'_> {
     }
 
     /// The first token with which a text can no more become a line. What stands behind such a token fits no better, so
-    /// it is searched by halves.
+    /// this is a search by halves.
     fn first_unfit(self, text: &[u8], tokens: &[Token]) -> usize {
         let mut fit = 0usize;
         let mut unfit = tokens.len().saturating_add(1);

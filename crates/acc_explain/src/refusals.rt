@@ -6,7 +6,7 @@ use acc_page::{Names, Page};
 use acc_read::{ScriptKernel, Statement};
 use acc_table::{Mapped, Table};
 
-/// How many ranges that a section meets are told at most.
+/// How many ranges that a section meets are shown at most.
 const TOLD: u64 = 8;
 
 /// What an item of a statement names.
@@ -32,8 +32,8 @@ impl DeviceView<'_> {
     }
 }
 
-/// Puts why the statement of a line was refused, on the table that it left as it was. Its item is told by the array's
-/// name. The mapped ranges that it meets on its device follow with their counters, and the holes of a full device.
+/// Puts why the statement of a line was refused, on the table that it left as it was. It names the item by its array.
+/// The mapped ranges that the item meets on its device follow with their counters, and the holes of a full device.
 pub fn explain_refusal(
     page: &mut Page,
     table: &Table,
@@ -176,7 +176,7 @@ fn put_byte(page: &mut Page, names: &Names, address: u64) {
     }
 }
 
-/// Puts the mapped ranges that a section meets, and the items before it in the same directive that do.
+/// Puts the mapped ranges that a section meets, and the items before it in the same directive that meet it.
 fn put_meetings(
     page: &mut Page,
     view: DeviceView<'_>,
@@ -201,7 +201,7 @@ fn put_meetings(
     }
 }
 
-/// Puts the mapped ranges that a section meets; answers how many they are.
+/// Puts the mapped ranges that a section meets; returns how many they are.
 fn put_ranges(page: &mut Page, view: DeviceView<'_>, names: &Names, section: Section) -> u64 {
     let mut told = 0;
     let mut from = 0;
@@ -221,7 +221,7 @@ fn put_ranges(page: &mut Page, view: DeviceView<'_>, names: &Names, section: Sec
     told
 }
 
-/// Puts how many more ranges the section meets than were told.
+/// Puts how many ranges the section meets beside those that were shown.
 fn put_others(page: &mut Page, told: u64) {
     if told > TOLD {
         put_cause(page);

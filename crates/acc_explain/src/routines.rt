@@ -1,9 +1,9 @@
-//! Words of OpenACC that scripts do not have, and what to write in their place.
+//! Words of OpenACC that scripts do not have, and the advice for each.
 
-/// A word, and what is said where it stands in a line at fault.
+/// A word, and the advice where it stands in a line at fault.
 type Advice = (&'static str, &'static str);
 
-/// The routines of OpenACC 3.3, section 3.2, that move data, and statements that do the same.
+/// The routines of OpenACC 3.3, section 3.2, that move data, and the statements that do the same.
 pub const ROUTINES: &[Advice] = &[
     (
         "acc_copyin",

@@ -30,12 +30,12 @@ pub fn put_note(page: &mut Page, number: u64) {
     put_gutter(page, number, " = ");
 }
 
-/// Begins a line that says more, under a line that tells what became of a statement.
+/// Begins a line that says more, under a line that shows what became of a statement.
 pub fn put_cause(page: &mut Page) {
     page.text("    = ");
 }
 
-/// Puts what stands before a line that is no line of the script.
+/// Puts what stands before a line that is not itself part of the script.
 fn put_gutter(page: &mut Page, number: u64, mark: &str) {
     let mut rest = number;
     page.text("   ");
@@ -67,7 +67,7 @@ fn cut_len(from: usize) -> usize {
     if from > 0 { 2 } else { 0 }
 }
 
-/// Puts a byte so that it takes one column.
+/// Puts a byte as one column: a blank for a tab, and `?` for what cannot be printed.
 fn put_byte(page: &mut Page, byte: u8) {
     match byte {
         b' '..=b'~' => page.bytes(&[byte]),

@@ -15,7 +15,7 @@ pub struct Token {
 ///
 /// # Errors
 ///
-/// Where memory is wanting.
+/// [`AllocError`] where there is no memory.
 pub fn tokens_of(alloc: Global, text: &[u8]) -> Result<Vec<Token>, AllocError> {
     let mut tokens = Vec::new(alloc);
     let mut from = 0;

@@ -9,7 +9,7 @@ use std::alloc::{AllocError, Global};
 /// A token, or kind of token, that could stand at a place.
 #[derive(Clone, Copy, PartialEq, Eq)]
 pub enum Wanted<'a> {
-    /// A name.
+    /// A name of an array.
     Name,
     /// A decimal number.
     Number,
@@ -17,19 +17,19 @@ pub enum Wanted<'a> {
     Digits,
     /// A keyword.
     Word(&'a [u8]),
-    /// A modifier, with the colon behind it.
+    /// A modifier of a clause, with the colon behind it.
     Modifier(&'a [u8]),
-    /// A mark.
+    /// A mark, as a comma or a parenthesis.
     Mark(&'a [u8]),
     /// The end of the line.
     End,
 }
 
-/// All that could stand behind a front part of a line, each once.
+/// Returns all that could stand behind a front part of a line, each once.
 ///
 /// # Errors
 ///
-/// Where memory is wanting.
+/// [`AllocError`] where there is no memory.
 pub fn wanted_behind(reader: Reader<'_>, front: &[u8]) -> Result<Vec<Wanted<'static>>, AllocError> {
     let mut all = Vec::new(reader.alloc);
     for sentence in SENTENCES {
@@ -73,7 +73,7 @@ fn add(all: &mut Vec<Wanted<'static>>, wanted: Wanted<'static>) -> Result<(), Al
     Ok(())
 }
 
-/// What the first token of a tail stands for.
+/// The token, or kind of token, that the first token of a tail stands for.
 fn first_of(tail: &'static str) -> Wanted<'static> {
     let Some(token) = next_token(tail.as_bytes(), 0) else {
         return Wanted::End;
@@ -88,7 +88,7 @@ fn first_of(tail: &'static str) -> Wanted<'static> {
     }
 }
 
-/// Whether it is told. The reader takes any word for a name, so keywords seem to fit where a name does, and modifiers
+/// Whether it is shown. The reader takes any word for a name, so keywords seem to fit where a name does, and modifiers
 /// fit only behind a parenthesis. It takes numbers and names for digits too.
 fn is_told(wanted: Wanted<'_>, is_open: bool, has_name: bool, has_digits: bool) -> bool {
     match wanted {

@@ -4,7 +4,7 @@ use Rattle.std.specs.List.{slice_get}
 use Rattle.std.specs.Option.{is_some}
 use Rattle.std.proofs.lemmas.List.{append_assoc, length-append}
 
--- so many lines, the same in both, and what is left of each
+-- this many lines, the same in both, and what is left of each
 pub record IsAlike (count : ℕ) (expected found left came : List (List ℕ)) : Type 0 where
   pub both : List (List ℕ)
   pub counted : count ≡ length both

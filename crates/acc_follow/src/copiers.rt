@@ -1,4 +1,4 @@
-//! Copies what a script prints, with more between it or in its place.
+//! Copies what a script prints, with more lines between, or JSON in place of a report.
 
 use crate::report_objects::put_report;
 use acc_base::Fault;
@@ -11,19 +11,19 @@ use std::alloc::Global;
 /// Copies what a run prints into memory to another sink, behind each line, for a watcher of that sink.
 #[derive(Drop)]
 pub struct Copier<'a, O, X> {
-    /// Where it goes.
+    /// The sink that gets the copy.
     pub out: &'a mut O,
-    /// Who watches it.
+    /// The watcher of that sink.
     pub watcher: &'a mut X,
     /// The allocator.
     pub alloc: Global,
-    /// Each statement stands before what it prints.
+    /// Whether each statement stands before what it prints.
     pub echo: bool,
-    /// A report is an object of JSON.
+    /// Whether a report is an object of JSON.
     pub json: bool,
     /// How many bytes of what was printed are copied.
     pub copied: usize,
-    /// Why no more is copied.
+    /// Why nothing more is copied; `None` while copies go on.
     pub failed: Option<Fault>,
 }
 

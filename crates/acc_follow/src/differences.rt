@@ -9,18 +9,18 @@ ghost use Rattle.acc_follow.specs.Differences.{Compared};
 
 use acc_read::next_line;
 
-/// The first line in which an output differs from the one that was expected.
+/// The first line in which an output differs from the expected one.
 #[derive(Clone, Copy)]
 pub struct Difference<'a> {
     /// The number of the line, counted from 1.
     pub line: u64,
-    /// What was expected there; `None` where no line was.
+    /// The expected line there; `None` where no line was expected.
     pub expected: Option<&'a [u8]>,
-    /// What came; `None` where no line did.
+    /// The line that came; `None` where none came.
     pub found: Option<&'a [u8]>,
 }
 
-/// The first line in which an output differs from the one that was expected, if one does. A carriage return at the end
+/// Returns the first line in which an output differs from the expected one, if one does. A carriage return at the end
 /// of a line does not count, nor does a line feed at the end of the last one.
 pub fn first_difference<'a>(expected: &'a [u8], found: &'a [u8]) -> Option<Difference<'a>>
     ensures { Compared (lines_of expected.now) (lines_of found.now) result }

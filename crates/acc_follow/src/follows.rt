@@ -1,4 +1,4 @@
-//! Follows a script: what is shown of it, line by line.
+//! Runs a script, and shows more of it than what it prints, line by line.
 
 ghost use Rattle.std.specs.Prelude.{◌≤◌, []};
 ghost use Rattle.acc_script.specs.Told.{Took};
@@ -21,7 +21,7 @@ use std::thread::Threads;
 pub struct Views {
     /// Each statement, before what it prints.
     pub echo: bool,
-    /// The report as an object of JSON.
+    /// A report as an object of JSON.
     pub json: bool,
     /// The log: what each call did.
     pub log: bool,
@@ -34,7 +34,7 @@ pub struct Views {
 }
 
 impl Views {
-    /// Whether any of it speaks of arrays by their names.
+    /// Whether any of it names arrays.
     fn name_arrays(self) -> bool {
         self.log || self.explain || self.picture || self.pictures
     }
@@ -51,14 +51,14 @@ pub struct Setting {
     pub views: Views,
 }
 
-/// Where that goes which is shown beside what a script prints.
+/// Where all goes that is shown beside what a script prints.
 #[derive(Drop)]
 pub struct Beside<'a, E, G> {
-    /// Takes the log and what is explained, each line's behind what it prints. Its failure changes nothing.
+    /// Gets the log and the explanations, each line's behind what it prints. Its failure changes nothing.
     pub err: &'a mut E,
     /// Keeps the pictures.
     pub pictures: &'a G,
-    /// Gets why a line is at fault, which stands behind the fault itself.
+    /// Gets why a line is at fault, to be written behind the fault itself.
     pub reason: &'a mut Page,
 }
 
@@ -66,8 +66,8 @@ pub struct Beside<'a, E, G> {
 ///
 /// # Errors
 ///
-/// Those of [`run`]. Memory may be wanting for what is shown, too. [`Stop::Picture`] where a picture cannot be kept.
-/// Where something cannot be shown, nothing more is, and the script runs on.
+/// Those of [`run`], and [`Fault::Memory`] where there is none for what is shown. [`Stop::Picture`] where a picture
+/// cannot be kept. Where something cannot be shown, nothing more is shown, and the script runs on.
 pub fn follow<R: Threads + Wait + Sync + AllocGlobal, S: Source, O: Sink, E: Sink, G: PictureSink>(
     rt: &R,
     setting: Setting,
@@ -140,7 +140,7 @@ fn run_copied<R: Threads + Wait + Sync + AllocGlobal, S: Source, O: Sink, X: Wat
     );
     match (copier.failed, ending) {
         (Some(fault), _) => Err(fault),
-        // This sink fails for want of memory alone.
+        // This sink fails for lack of memory alone.
         (None, Err(Fault::Write)) => Err(Fault::Memory),
         (None, ending) => ending,
     }
@@ -157,7 +157,7 @@ struct Follower<'a, E, G> {
     log: Log,
     /// The lines whose data regions are open, the innermost last.
     entries: Vec<u64>,
-    /// How many events the trace had when it was last looked whether a picture is due.
+    /// How many events the trace had when a line was last checked for a picture.
     drawn: usize,
     /// Why nothing more is shown.
     stop: Option<Stop>,
@@ -207,7 +207,7 @@ impl<O: Sink, E: Sink, G: PictureSink> Watcher<O> for Follower<'_, E, G> {
 }
 
 impl<E: Sink, G: PictureSink> Follower<'_, E, G> {
-    /// Keeps why nothing more is shown, if that is not known yet.
+    /// Keeps why nothing more is shown, if there is no reason yet.
     fn halt(&mut self, stop: Stop) {
         if self.stop.is_none() {
             self.stop = Some(stop);
@@ -231,7 +231,7 @@ impl<E: Sink, G: PictureSink> Follower<'_, E, G> {
         self.draw_line(number, line, session)
     }
 
-    /// Tells what a line did, and explains it.
+    /// Puts what a line did into the log, and explains it.
     fn tell(
         &mut self,
         number: u64,
@@ -292,7 +292,7 @@ impl<E: Sink, G: PictureSink> Follower<'_, E, G> {
         }
     }
 
-    /// Writes what was told. What was printed so far is flushed first.
+    /// Flushes what was printed so far, and then writes the log and the explanations.
     #[tactic(auto, using(acc_script::proofs::Fronts::took_nothing))]
     fn write_told<O: Sink>(&mut self, out: &mut O) -> Result<(), Fault>
         ensures { Took (O.told out.old) (O.told out.new) [] }
@@ -309,7 +309,7 @@ impl<E: Sink, G: PictureSink> Follower<'_, E, G> {
         Ok(())
     }
 
-    /// Draws what a line left, where it is a directive or a kernel that was done and each of these is drawn.
+    /// Draws what a line left, where pictures are asked for, and it is a directive or a kernel that was done.
     fn draw_line(&mut self, number: u64, line: &[u8], session: &Session) -> Result<(), Stop> {
         if !self.views.pictures || !self.is_picture_due(session) {
             return Ok(());
@@ -318,7 +318,7 @@ impl<E: Sink, G: PictureSink> Follower<'_, E, G> {
         self.draw(session, Frame::Line(number), Caption::Line { number, text })
     }
 
-    /// Whether there is an event that was not there before, and that is no write of the host.
+    /// Whether there is a new event that is no write of the host.
     fn is_picture_due(&mut self, session: &Session) -> bool {
         let trace = session.table.trace();
         let is_new = self.drawn < trace.len();
@@ -343,7 +343,8 @@ impl<E: Sink, G: PictureSink> Follower<'_, E, G> {
         self.pictures.keep(frame, page.whole()?)
     }
 
-    /// Want of memory cuts the reason short, and the fault itself is told.
+    /// Puts why a line is at fault. Where there is no memory, the reason is cut short, and the fault itself is still
+    /// written.
     fn give_reason(&mut self, number: u64, line: &[u8], session: &Session, kind: ScriptFault) {
         if !self.views.explain {
             return;
@@ -355,7 +356,8 @@ impl<E: Sink, G: PictureSink> Follower<'_, E, G> {
         }
     }
 
-    /// What could not be shown comes first, then how the run ended, and then whether the last lines were told.
+    /// Returns why something could not be shown; else how the run ended, if by a fault; else whether the last lines
+    /// were written.
     fn ended(
         &self,
         ending: Result<Status, Fault>,

@@ -1,4 +1,4 @@
-//! What is shown of a script beside what it prints, by watchers of its run.
+//! What is shown of a script beside what it prints. Watchers of its run show it.
 #![tactic(auto)]
 
 mod copiers;

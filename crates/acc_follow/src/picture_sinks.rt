@@ -17,7 +17,7 @@ pub trait PictureSink {
     ///
     /// # Errors
     ///
-    /// [`Stop::Picture`] where that failed; [`Fault::Memory`] where there is none for its name.
+    /// [`Stop::Picture`] where the picture cannot be kept; [`Fault::Memory`] where there is no memory for its name.
     fn keep(&self, frame: Frame, picture: &[u8]) -> Result<(), Stop>;
 }
 

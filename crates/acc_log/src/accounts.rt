@@ -1,12 +1,13 @@
 //! What the events of a table say of its mapped ranges, pointers, queues and regions, one event after the other.
 //!
-//! The table answers what is so now. A log tells what each item left, so it keeps its own account, from events alone.
+//! The table shows only its present state. A log prints what each item left, so it keeps its own account, from events
+//! alone.
 
 use acc_base::{Range, Section};
 use std::alloc::Global;
 use std::collections::BTreeMap;
 
-/// A mapped range with the device address of its first byte.
+/// A mapped range with its place on the device.
 #[derive(Clone, Copy)]
 pub struct Placed {
     /// The range with its counters.
@@ -23,14 +24,14 @@ impl Placed {
     }
 }
 
-/// A copy of a section between host memory and a device.
+/// A copy of a section between host memory and a device, made or in a queue.
 #[derive(Clone, Copy)]
 pub struct Copied {
     /// The section of host memory.
     pub section: Section,
     /// The device address of its first byte.
     pub place: u64,
-    /// From the device to host memory, and not the other way.
+    /// True for a copy from the device to host memory, false for one to the device.
     pub out: bool,
 }
 
@@ -50,8 +51,8 @@ struct Queue {
 /// A block: the number of its device, and its own number there.
 type Block = (u64, u64);
 
-/// What the events so far say, read and changed on one device at a time. Where memory was wanting for some of it,
-/// [`Account::wants`] tells so.
+/// What the events so far say, read and changed on one device at a time. [`Account::wants`] returns whether there was
+/// no memory for some of it.
 #[derive(Drop)]
 pub struct Account {
     /// The device that is read and changed.
@@ -65,7 +66,7 @@ pub struct Account {
 }
 
 impl Account {
-    /// The account of a table without events.
+    /// Returns the account of a table without events, which reads the first device.
     pub fn new(alloc: Global) -> Account {
         Account {
             device: 0,
@@ -77,12 +78,12 @@ impl Account {
         }
     }
 
-    /// Whether memory was wanting for some of it. Then it may be wrong.
+    /// Returns whether there was no memory for some of it. Then it may be wrong.
     pub fn wants(&self) -> bool {
         self.wants
     }
 
-    /// The mapped range that a section is inside, if it is not empty and inside one.
+    /// Returns the mapped range that a section is inside, if the section is not empty and inside one.
     pub fn inside(&self, section: Section) -> Option<Placed> {
         let upto = (self.device, section.start);
         let (key, placed) = self.ranges.range(..=upto).next_back()?;
@@ -90,7 +91,7 @@ impl Account {
         is_here.then_some(*placed)
     }
 
-    /// Keeps a range with its counters, new or changed.
+    /// Keeps a range with its counters, in place of what it kept for that address.
     pub fn set(&mut self, placed: Placed) {
         if self
             .ranges
@@ -107,8 +108,8 @@ impl Account {
             .remove(&(self.device, placed.range.section.start));
     }
 
-    /// How often a pointer is attached in a block, by its host address and the block's number (OpenACC 3.3, section
-    /// 2.6.8).
+    /// Returns how often a pointer is attached in a block, by its host address and the block's number (OpenACC 3.3,
+    /// section 2.6.8).
     pub fn attached(&self, block: u64, pointer: u64) -> u64 {
         let key = ((self.device, block), pointer);
         self.pointers.get(&key).copied().unwrap_or(0)
@@ -147,14 +148,14 @@ impl Account {
         }
     }
 
-    /// The least number of a queue of the device in which copies wait.
+    /// Returns the least number of a queue of the device in which copies wait.
     pub fn first_queue(&self) -> Option<u64> {
         let device = self.device;
         let here = self.waiting.iter().filter(|w| w.queue.device == device);
         here.map(|w| w.queue.queue).min()
     }
 
-    /// How many copies wait, on all devices.
+    /// Returns how many copies wait, on all devices.
     pub fn waiting(&self) -> usize {
         self.waiting.len()
     }
@@ -166,7 +167,7 @@ impl Account {
         }
     }
 
-    /// Drops the innermost region, and answers the place of its entry in the trace.
+    /// Drops the innermost region, and returns the place of its entry in the trace.
     pub fn close(&mut self) -> Option<usize> {
         self.regions.pop()
     }

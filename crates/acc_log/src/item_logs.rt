@@ -1,4 +1,4 @@
-//! What the log tells of one item.
+//! What the log prints of one item.
 
 use crate::accounts::{Copied, Placed};
 use crate::log_items::{Drops, LogItem};
@@ -11,7 +11,7 @@ use acc_base::{Aim, Counter, Did, Step};
 use acc_page::Names;
 
 impl Log {
-    /// Tells an item that enters: its mapping, its copy, its pointer.
+    /// Puts the lines of an item that enters: its mapping, its copy, its pointer.
     pub(crate) fn tell_enter(&mut self, names: &Names, told: LogItem, counter: Counter, did: Did) {
         match did.step {
             Step::Born { block, place } => {
@@ -37,7 +37,7 @@ impl Log {
         }
     }
 
-    /// Tells an item that leaves: its pointer, its copy, its mapping.
+    /// Puts the lines of an item that leaves: its pointer, its copy, its mapping.
     pub(crate) fn tell_leave(&mut self, names: &Names, told: LogItem, drops: Drops, did: Did) {
         self.tell_aim(names, told, did.aim);
         match did.step {
@@ -46,7 +46,7 @@ impl Log {
         }
     }
 
-    /// Tells a mapping that was counted once less.
+    /// Puts the lines of a mapping that was counted once less.
     pub(crate) fn tell_drop(&mut self, names: &Names, told: LogItem, drops: Drops, step: Step) {
         let (Some(found), Step::Dropped { ended, .. }) = (self.account.inside(told.section), step)
         else {
@@ -71,7 +71,7 @@ impl Log {
         put_name(&mut self.page, names, found.range.section);
     }
 
-    /// Tells an item of `update`.
+    /// Puts the lines of an item of `update`.
     pub(crate) fn tell_move(&mut self, names: &Names, told: LogItem, step: Step) {
         match (step, self.account.inside(told.section)) {
             (Step::Moved { .. }, Some(found)) => self.tell_copy(names, told, found),
@@ -79,8 +79,8 @@ impl Log {
         }
     }
 
-    /// The section is empty or absent, or nothing of `enter data` counts it. An item of `attach` or `detach` names
-    /// none.
+    /// Puts the line of an item that did nothing. The section is empty or absent, or nothing of `enter data` counts it.
+    /// An item of `attach` or `detach` names none, and gets no line.
     fn tell_nothing(&mut self, names: &Names, told: LogItem) {
         if told.is_pointer {
             return;
@@ -104,7 +104,7 @@ impl Log {
         put_range(&mut self.page, names, told, word, placed);
     }
 
-    /// Tells the copy of an item, if it makes one: made at once, or put into its queue.
+    /// Puts the line of an item's copy, if it makes one: made at once, or put into its queue.
     fn tell_copy(&mut self, names: &Names, told: LogItem, placed: Placed) {
         if !told.copies {
             return;
@@ -133,7 +133,7 @@ impl Log {
         put_name(&mut self.page, names, copied.section);
     }
 
-    /// Tells what an item did to its pointer, and keeps how often that is attached now.
+    /// Puts what an item did to its pointer, and keeps how often that is attached now.
     pub(crate) fn tell_aim(&mut self, names: &Names, told: LogItem, aim: Aim) {
         match aim {
             Aim::None => {

@@ -1,4 +1,4 @@
-//! The log of a script: what each of its calls did, told from the events of its table.
+//! The log of a script: what each of its calls did, read from the events of its table.
 #![tactic(auto)]
 
 mod accounts;

@@ -1,22 +1,22 @@
-//! An item of a directive, as the log tells it.
+//! An item of a directive, as the log prints it.
 
 use crate::accounts::Placed;
 use acc_base::{
     Counter, EnterClause, ExitClause, Item, Range, RegionClause, Section, UpdateClause,
 };
 
-/// What the log has to know of an item, whatever directive it stands in.
+/// What the log has to know of an item, for every directive alike.
 #[derive(Clone, Copy)]
 pub struct LogItem {
-    /// Its place in the directive, from 0 on.
+    /// Its place in the directive, counted from 0.
     pub place: usize,
-    /// The section; of `attach` and `detach` the pointer begins where it does.
+    /// The section. For `attach` and `detach` the pointer begins where the section does.
     pub section: Section,
     /// Whether it is one of `attach` or `detach`, which name a pointer alone.
     pub is_pointer: bool,
     /// Whether its clause copies.
     pub copies: bool,
-    /// Whether it copies to host memory, and not to the device.
+    /// True where it copies to host memory, false where it copies to the device.
     pub out: bool,
     /// The queue into which its copy is put.
     pub queue: Option<u64>,
@@ -86,7 +86,7 @@ impl LogItem {
         }
     }
 
-    /// The mapping that it makes, to a new block at a device address, with this counter 1 and the other 0.
+    /// Returns the mapping that it makes, to a new block at a device address, with this counter 1 and the other 0.
     pub fn born(self, counter: Counter, block: u64, place: u64) -> Placed {
         let range = Range {
             section: self.section,
@@ -98,7 +98,7 @@ impl LogItem {
     }
 }
 
-/// What an item that leaves takes from the counters of a range.
+/// What an item that leaves subtracts from the counters of a range.
 #[derive(Clone, Copy)]
 pub enum Drops {
     /// One from the structured counter.
@@ -110,7 +110,7 @@ pub enum Drops {
 }
 
 impl Placed {
-    /// The range with one of its counters raised by one.
+    /// Returns the range with one of its counters raised by one.
     pub fn raised(self, counter: Counter) -> Placed {
         let mut raised = self;
         match counter {
@@ -122,7 +122,7 @@ impl Placed {
         raised
     }
 
-    /// The range with a counter lowered so; none falls below 0.
+    /// Returns the range with a counter lowered so; no counter falls below 0.
     pub fn lowered(self, drops: Drops) -> Placed {
         let mut lowered = self;
         match drops {

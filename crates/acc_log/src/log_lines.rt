@@ -8,7 +8,7 @@ use acc_page::{Names, Page};
 /// What each line of a log begins with.
 pub const MARK: &str = "lamwiest: ";
 
-/// What a line begins with that tells one thing of a call.
+/// What the line of one thing that a call did begins with.
 const INNER_MARK: &str = "lamwiest:   ";
 
 /// Puts the line of a statement, by the number of its line.
@@ -21,7 +21,7 @@ pub fn put_head(page: &mut Page, number: u64, text: &[u8]) {
     page.text("\n");
 }
 
-/// Puts a line that says these words.
+/// Puts a line with these words.
 pub fn put_inner(page: &mut Page, words: &str) {
     page.text(INNER_MARK);
     page.text(words);
@@ -52,7 +52,7 @@ pub fn put_written(page: &mut Page, names: &Names, section: Section) {
     put_name(page, names, section);
 }
 
-/// Puts the line of a copy that was made as the first of a queue.
+/// Puts the line of a copy that was the first of a queue, and was made.
 pub fn put_copied(page: &mut Page, names: &Names, copied: Copied, queue: u64) {
     page.text(INNER_MARK);
     page.text("copied");
@@ -113,7 +113,7 @@ pub fn put_range(page: &mut Page, names: &Names, told: LogItem, word: &str, plac
     put_name(page, names, placed.range.section);
 }
 
-/// Puts the line of a copy that was not to be made, and why.
+/// Puts the line of a copy that was not made, and why.
 pub fn put_skipped(page: &mut Page, names: &Names, told: LogItem, why: &str) {
     put_item(page, told, "skipped");
     page.text(way(told.out));

@@ -1,4 +1,4 @@
-//! The log: each call of a script, and behind it a line for each thing that it did, told from the events of the table.
+//! The log: each call of a script, and behind it a line for each thing that it did, read from the events of the table.
 //! Bytes are copied in to the device and copied out to host memory, in the words of OpenACC.
 
 use crate::accounts::{Account, Copied};
@@ -21,18 +21,18 @@ use std::alloc::Global;
 pub struct Log {
     /// The lines that were not written yet.
     pub page: Page,
-    /// What the events that were told say of ranges, pointers, queues and regions.
+    /// What the events in the log say of ranges, pointers, queues and regions.
     pub(crate) account: Account,
-    /// How much was done so far.
+    /// What the events in the log did in all.
     pub(crate) totals: Totals,
-    /// How many events of the trace were told.
+    /// How many events of the trace are in the log.
     told: usize,
-    /// What the kernel that is at work was lent.
+    /// The loan of the kernel that runs.
     lent: Option<Copied>,
 }
 
 impl Log {
-    /// The log of a script whose first line is yet to run.
+    /// Returns the log of a script whose first line is yet to run.
     pub fn new(alloc: Global) -> Log {
         Log {
             page: Page::new(alloc),
@@ -43,12 +43,13 @@ impl Log {
         }
     }
 
-    /// Puts the lines of a statement that made events, was refused, or stepped an empty queue. With several devices they
-    /// say on which one something was done.
+    /// Puts the lines of a statement that made events, was refused, or stepped an empty queue. With several devices
+    /// they show on which one something was done.
     ///
     /// # Errors
     ///
-    /// [`Fault::Memory`] alone, where the account of events found none. Of its own text the page tells that itself.
+    /// [`Fault::Memory`] alone, where the account of events found none. For the log's own text, [`Page::whole`] returns
+    /// it.
     pub fn tell(
         &mut self,
         names: &Names,
@@ -76,7 +77,8 @@ impl Log {
         put_total(&mut self.page, &self.totals, waiting);
     }
 
-    /// All events of a statement are on one device, so it is told once.
+    /// Puts the line of the device, where there are several. All events of a statement are on one device, so one line
+    /// is enough.
     fn tell_device(&mut self, table: &Table) {
         let device = table.trace().get(self.told).and_then(device_of);
         if let (true, Some(device)) = (table.config().devices() > 1, device) {
@@ -144,7 +146,7 @@ impl Log {
         }
     }
 
-    /// Tells an event that names no item.
+    /// Puts the lines of an event that names no item.
     fn tell_short(&mut self, names: &Names, event: &Event) {
         match event {
             Event::Waited { queue, count, .. } => self.tell_waited(names, *queue, *count),
@@ -211,7 +213,7 @@ impl Log {
         }
     }
 
-    /// Tells the items of `end data`, the last one first.
+    /// Puts the lines of the items of `end data`, the last one first.
     fn tell_exit(&mut self, names: &Names, trace: &[Event], did: &[Did]) {
         let Some(at) = self.account.close() else {
             return;
@@ -246,7 +248,7 @@ impl Log {
         }
     }
 
-    /// Tells what became of an item that a region held; nothing where its entry did nothing.
+    /// Puts what became of an item that a region held; nothing where its entry did nothing.
     fn tell_holding(&mut self, names: &Names, told: LogItem, held: Did, did: Did) {
         if !matches!(held.aim, Aim::None) {
             self.tell_aim(names, told, did.aim);
@@ -271,7 +273,7 @@ impl Log {
         }
     }
 
-    /// Tells the copies that a `wait` made: those of a queue, or of all queues from the first on.
+    /// Puts the copies that a `wait` made: those of a queue, or of all queues from the first on.
     fn tell_waited(&mut self, names: &Names, queue: Option<u64>, count: u64) {
         if count == 0 {
             put_inner(&mut self.page, "idle");
@@ -310,7 +312,7 @@ impl Log {
     }
 }
 
-/// A write of the host is on no device here, though its event names the first.
+/// The device of an event. A write of the host is on no device here, though its event names the first.
 fn device_of(event: &Event) -> Option<u64> {
     match event {
         Event::HostWritten { .. } => None,
@@ -322,7 +324,7 @@ fn paired<C: Copy>(items: &[Item<C>], did: &[Did], place: usize) -> Option<(Item
     Some((*items.get(place)?, *did.get(place)?))
 }
 
-/// Whether a statement has something to tell beside events.
+/// Whether a statement has something to print beside events.
 fn is_outcome(effect: Effect) -> bool {
     matches!(effect, Effect::EmptyQueue | Effect::Refused(_))
 }

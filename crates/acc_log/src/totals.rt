@@ -3,7 +3,8 @@
 use crate::log_lines::MARK;
 use acc_page::Page;
 
-/// How many mappings were made and ended, how many copies each way with their bytes, and how many statements refused.
+/// How many mappings were made and ended, how many copies were made each way with their bytes, and how many statements
+/// were refused.
 #[derive(Clone, Copy)]
 pub struct Totals {
     /// Mappings that were made.
@@ -12,18 +13,18 @@ pub struct Totals {
     pub ended: u64,
     /// Copies from host memory to the device.
     pub copies_in: u64,
-    /// Their bytes.
+    /// The bytes that they copied.
     pub bytes_in: u64,
     /// Copies from the device to host memory.
     pub copies_out: u64,
-    /// Their bytes.
+    /// The bytes that they copied.
     pub bytes_out: u64,
     /// Statements that were refused.
     pub refused: u64,
 }
 
 impl Totals {
-    /// Nothing was done yet.
+    /// Returns totals of nothing done.
     pub fn new() -> Totals {
         Totals {
             mapped: 0,
@@ -36,7 +37,7 @@ impl Totals {
         }
     }
 
-    /// Adds a copy of `len` bytes, from the device to host memory or the other way.
+    /// Adds a copy of `len` bytes: from the device to host memory where `out`, and else the other way.
     pub fn copied(&mut self, out: bool, len: u64) {
         if out {
             self.copies_out = self.copies_out.saturating_add(1);

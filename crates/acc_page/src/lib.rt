@@ -1,4 +1,4 @@
-//! Texts that are made in memory before they are written, and the names by which they speak of host memory.
+//! Texts that are made in memory before they are written, and the names that they use for host memory.
 #![tactic(auto)]
 
 mod names;

@@ -12,14 +12,14 @@ struct Named {
     array: Array,
 }
 
-/// Where a host address lies: in an array, so many bytes from its start on.
+/// Where a host address lies: in an array, this many bytes behind its start.
 #[derive(Clone, Copy)]
 pub struct Spot<'a> {
-    /// The array's name.
+    /// The name of the array.
     pub name: &'a [u8],
-    /// The array.
+    /// The host addresses of the array.
     pub array: Array,
-    /// How many bytes lie before the address.
+    /// How many bytes of the array lie before the address.
     pub offset: u64,
 }
 
@@ -53,7 +53,7 @@ pub struct Names {
 }
 
 impl Names {
-    /// No array is declared yet.
+    /// Returns names of no array yet.
     pub fn new(alloc: Global) -> Names {
         Names {
             all: BTreeMap::new(alloc),
@@ -64,21 +64,21 @@ impl Names {
     ///
     /// # Errors
     ///
-    /// Where memory is wanting; then nothing is added.
+    /// [`AllocError`] where there is no memory. Nothing is added then.
     pub fn insert(&mut self, alloc: Global, name: &[u8], array: Array) -> Result<(), AllocError> {
         let name = Vec::from_slice(alloc, name)?;
         self.all.insert(array.start, Named { name, array })?;
         Ok(())
     }
 
-    /// Where a host address lies; `None` where no array has it.
+    /// Returns where a host address lies; `None` where no array has it.
     pub fn spot(&self, address: u64) -> Option<Spot<'_>> {
         let address = u32::try_from(address).ok()?;
         let (_, named) = self.all.range(..=address).next_back()?;
         spot_in(named, u64::from(address))
     }
 
-    /// Where a section begins, if it is not empty and lies in one array.
+    /// Returns where a section begins; `None` where it is empty or does not lie in one array.
     pub fn within(&self, section: Section) -> Option<Spot<'_>> {
         let spot = self.spot(section.start)?;
         let room = u64::from(spot.array.end).saturating_sub(section.start);

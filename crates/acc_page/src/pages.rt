@@ -4,7 +4,7 @@ use acc_base::Fault;
 use std::alloc::Global;
 use std::fmt::{self, Write};
 
-/// A text that grows. [`Page::whole`] alone tells where memory was wanting, so what writes to it needs no `?`.
+/// A text that grows. Only [`Page::whole`] returns that there was no memory, so what writes to a page needs no `?`.
 #[derive(Drop)]
 pub struct Page {
     bytes: Vec<u8>,
@@ -12,7 +12,7 @@ pub struct Page {
 }
 
 impl Page {
-    /// An empty text.
+    /// Returns an empty text.
     pub fn new(alloc: Global) -> Page {
         Page {
             bytes: Vec::new(alloc),
@@ -25,7 +25,7 @@ impl Page {
         self.bytes(text.as_bytes());
     }
 
-    /// Adds bytes. Where memory is wanting they are left out, and [`Page::whole`] fails from then on.
+    /// Adds bytes. Where there is no memory for them they are left out, and [`Page::whole`] fails from then on.
     pub fn bytes(&mut self, bytes: &[u8]) {
         if self.bytes.extend_from_slice(bytes).is_err() {
             self.wants = true;
@@ -47,7 +47,7 @@ impl Page {
         let _ = write!(self, "{fault}");
     }
 
-    /// Takes all text away. That some of it found no memory stays known.
+    /// Removes all text. [`Page::whole`] still fails where some of it found no memory.
     pub fn clear(&mut self) {
         self.bytes.clear();
     }
@@ -67,12 +67,12 @@ impl Page {
         }
     }
 
-    /// The text so far, without what found no memory.
+    /// Returns the text so far, without what found no memory.
     pub fn as_slice(&self) -> &[u8] {
         &self.bytes
     }
 
-    /// The whole text.
+    /// Returns the whole text.
     ///
     /// # Errors
     ///

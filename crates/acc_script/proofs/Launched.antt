@@ -39,7 +39,7 @@ found_bytes view None told e some = absurd cc
 found_bytes view (Some x) told e some = (view x, sym e)
 
 module _ (old new : SessionState) (region : ℕ) (kernel : ScriptKernel) (over : Section) (src : List ℕ) (read : host_read_of (source_of kernel) old.world.state.host ≡ Some src) where
-  -- the loan was refused, or wants memory
+  -- the loan was refused, or there was no memory for it
   pub launch_refused : (fault : Fault) → IsRefusal old.world (Lend region over) fault → new ≡ old
       → Performs old (Kernel region kernel over) new (refusal_of fault)
   launch_refused fault refusal same = by fault refusal

@@ -26,7 +26,7 @@ use Rattle.acc_script.proofs.Fronts.{Took_then, took_on, front_more, front_then,
 abbrev some_turn : Turned → Result Turned ScriptFault
 some_turn turn = Ok turn
 
--- a line that says a statement is run as the statement is
+-- a line that says a statement runs as the statement does
 turn_is : (s : SessionState) (line : List ℕ) (meaning : Meaning) (turn : Turned) → meaning_in s line ≡ Ok meaning
     → turned s meaning ≡ turn → line_turned s line ≡ Ok turn
 unfolding line_turned
@@ -51,7 +51,7 @@ pub line_lost : (number : ℕ) (s after : SessionState) (line : List ℕ) (old n
 line_lost number s after line old new meaning effect said is wrote =
     record { turn = record { state = after; effect = effect }; is = turn_is s line meaning _ said is; wrote = wrote }
 
--- a line that was read and could not be run, since there was no memory for it
+-- a line that was read and could not run, since there was no memory for it
 pub line_wanted : (number : ℕ) (s after left : SessionState) (line : List ℕ) (old : Option Taken) (meaning : Meaning)
     (fault : Fault) → meaning_in s line ≡ Ok meaning → (fault ≡ Memory) × MayWant s meaning left
     → LineRuns number s line old old after (Err fault)
@@ -71,7 +71,7 @@ line_unread number s after line old h = (by (meaning_in s line) h, refl)
     by (Ok meaning) k = rw k refl
     by (Err kind) k = absurd cc
 
--- a line that takes memory is one that is run
+-- a line that needs memory is one that runs
 wanting_runs : (s : SessionState) (line : List ℕ) → line_wants s line ≡ true → (turn : Turned) × (line_turned s line ≡ Ok turn)
 unfolding line_turned
 wanting_runs s line h = by (meaning_in s line) h

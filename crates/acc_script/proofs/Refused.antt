@@ -12,7 +12,7 @@ use Rattle.acc_script.specs.Scripts.{SessionState}
 use Rattle.acc_script.specs.Sessions.{CallsFor, refusal_of}
 use Rattle.acc_script.proofs.Accepted.{memory_accepted}
 
--- a refusal that is no want of memory is that of the definitions
+-- a refusal that is no lack of memory is that of the definitions
 pub refused_by : (w : World) (call : Call Leased) (fault : Fault) → (fault ≡ Memory → ⊥) → IsRefusal w call fault
     → judge w call ≡ Err fault
 refused_by w call fault other refusal = by (judge w call) refusal
@@ -23,7 +23,7 @@ refused_by w call fault other refusal = by (judge w call) refusal
     by (Ok Idle) h = absurd h
     by (Err first) h = rw h refl
 
--- a call that was refused is printed, or wants memory
+-- a call that was refused is printed, or there was no memory for it
 pub refused_call : (old new : SessionState) (call : Call Leased) (fault : Fault) → IsRefusal old.world call fault → new ≡ old
     → CallsFor old call new (refusal_of fault)
 refused_call old new call fault refusal same = by fault refusal

@@ -61,7 +61,7 @@ pub gives_nothing : (start old new : Option (List ℕ)) (ended : Bool) (failures
 gives_nothing (Some all) (Some left) (Some after) ended failures more c e = rw (c, e) refl
 gives_nothing _ _ _ ended failures more c e = search rules
 
--- a read hands out the front of what was left
+-- a read gives the front of what was left
 pub hands_read : (start old new : Option (List ℕ)) (n : ℕ) (piece : List ℕ) (ended next : Bool) (failures more : ℕ)
     → rejoined start old ≡ start → Consumes old new (take n piece)
     → HandsOut (offered_of start old ended failures) (offered_of start new next more) (Some n) piece
@@ -75,7 +75,7 @@ pub hands_nothing : (start old new : Option (List ℕ)) (piece : List ℕ) (ende
 hands_nothing (Some all) (Some left) (Some after) piece ended next failures more h c = c
 hands_nothing _ _ _ piece ended next failures more h c = search rules
 
--- what was told of the end stays true where nothing was consumed
+-- what is known of the end stays true where nothing was consumed
 pub ends_kept : (start old new : Option (List ℕ)) (ended : Bool) → rejoined start old ≡ start → EndsAt start ended old
     → Keeps old new → EndsAt start ended new
 ends_kept (Some all) (Some left) (Some after) true h e c = rw c e
@@ -91,14 +91,14 @@ ends_read (Some all) new (suc n) len h lt =
 ends_read (Some all) None zero len h lt = tt
 ends_read (Some all) (Some left) zero len h lt = h refl lt
 
--- a read into a piece without room leaves what was told of the end
+-- a read into a piece without room leaves what is known of the end
 pub ends_without_room : (start old new : Option (List ℕ)) (ended : Bool) (bs : List ℕ) → rejoined start old ≡ start
     → EndsAt start ended old → Consumes old new bs → length bs ≡ 0 → EndsAt start ended new
 ends_without_room (Some all) (Some left) (Some after) true [] h e c l = sym c ∙ e
 ends_without_room (Some all) (Some left) (Some after) true (b ∷ bs) h e c l = absurd (omega arith)
 ends_without_room _ _ _ _ bs h e c l = search rules
 
--- what a reader is known to have left is nothing once its end was told
+-- what a reader is known to have left is nothing once it met its end
 pub ends_empty : (start left : Option (List ℕ)) (ended : Bool) (failures : ℕ) → EndsAt start ended left
     → EndsEmpty (offered_of start left ended failures)
 ends_empty None left ended failures e = tt
@@ -106,5 +106,5 @@ ends_empty (Some all) None ended failures e = tt
 ends_empty (Some all) (Some left) true failures e = λ _. e
 ends_empty (Some all) (Some left) false failures e = λ told. absurd cc
 
--- what a read leaves of a stream, and what it hands over
+-- what a read leaves of a stream, and what it gives
 pub ruleset reading_laws = (follows_read, follows_kept, gives_read, gives_nothing, hands_read, hands_nothing, ends_kept, ends_read, ends_without_room, ends_empty)

@@ -1,4 +1,4 @@
--- What stands by rising place, told one after the other: the lowest from a place on, and then what stands above it.
+-- What stands by rising place, found one after the other: the lowest from a place on, and then what stands above it.
 use Rattle.std.proofs.Common.{◌≡◌, ℕ, ◌+◌, ◌<◌, ◌≤◌, Bool, true, false, cond, List, [], ◌∷◌, ◌++◌, Option, Some, None, refl, ap, subst, ◌∙◌, arith}
 use Rattle.std.specs.Prelude.{nat_le, filter, find, option_map}
 use Rattle.std.specs.List.{AllByRecursion, flat_map}

@@ -167,7 +167,7 @@ module _ (memory : Section) (births from : ℕ) (w : Records) (apart : AreBlocks
   found_lowest = lowest_first (ended_blocks from w) ∙ ap first (kept_ended from w) ∙ found_kept from (ended_by_place w)
 
   module _ (e : Ended) (found : Some e ≡ ended_from from w) where
-    -- the block of which an answer tells
+    -- the block that an answer describes
     block_found : (b : Block) × (find (lies_from from) (ended_by_place w) ≡ Some b) × (told_ended w.queues b ≡ e)
     block_found =
         let seen = found_view (told_ended w.queues) (lowest (ended_blocks from w)) e found in

@@ -15,7 +15,7 @@ use Rattle.acc_table.specs.Queries.{mapped_as, mapped_from}
 use Rattle.acc_script.specs.Texts.{range_text, ranges_text}
 use Rattle.acc_script.proofs.Rising.{StandsUnder, all_from_zero, texts_from, texts_turn, texts_none, found_view, found_none}
 
--- a range as the report tells it
+-- a range as the report prints it
 abbrev seen : Records → Range → Mapped
 seen w r = mapped_as w.blocks w.loans r
 

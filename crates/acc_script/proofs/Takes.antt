@@ -37,5 +37,5 @@ took_zero (Some a) (Some b) c bytes at p h lt =
     let has_room : (length (drop at bytes) == 0) ≡ false = not_zero (length (drop at bytes)) (omega (arith, length-drop at bytes)) in
     rw (h, has_room) (take at bytes, drop at bytes, sym (take-append-drop at bytes), append-nil b.bytes ∙ p.0, ap one_more p.1)
 
--- what a sink has taken after a piece
+-- what a sink took after a piece
 pub ruleset taking_laws = (took_more, took_none, took_zero)

@@ -13,7 +13,7 @@ input_limit = 16777216
 abbrev pub GaveSome : Option Given → Option Given → Type 0
 GaveSome old new = (bytes : List ℕ) × Gave old new bytes × (length bytes ≤ input_limit)
 
--- all that the source gave, if the limit allows it; what it gave before want of memory; or it failed or gave more
+-- all that the source gave, if the limit allows it; what it gave until there was no memory; or it failed or gave more
 abbrev pub ReadAll : Option Given → Option Given → Result (Vec ℕ) Fault → Type 0
 ReadAll old new (Ok all) = GaveAll old new all.items × (length all.items ≤ input_limit)
 ReadAll old new (Err Memory) = GaveSome old new

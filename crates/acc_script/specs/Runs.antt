@@ -1,4 +1,4 @@
--- What a run of a script reads, writes and answers.
+-- What a run of a script reads, writes and returns.
 use Rattle.std.specs.Prelude.{◌≡◌, ◌⊎◌, ℕ, Bool, true, false, List, slice_index_or, take, Option, Result, Ok, Err, ⊤}
 use Rattle.std.specs.List.{concat}
 use Rattle.acc_base.specs.declared.faults.Fault.{Fault}
@@ -32,7 +32,7 @@ pub record LostLine (number : ℕ) (s : SessionState) (line : List ℕ) (old new
   pub is : line_turned s line ≡ Ok turn
   pub wrote : TookFront old new (line_text number turn)
 
--- a line was run; or it is at fault, it takes memory and there was none, or its text could not be written
+-- a line was run; or it is at fault, it needs memory and there was none, or its text could not be written
 abbrev pub LineRuns : ℕ → SessionState → List ℕ → Option Taken → Option Taken → SessionState → Result Bool Fault → Type 0
 LineRuns number s line old new after (Ok refused) = RanLine number s line old new after refused
 LineRuns number s line old new after (Err Memory) = (line_wants s line ≡ true) × (new ≡ old)
@@ -43,7 +43,7 @@ LineRuns number s line old new after (Err _) = ⊥
 
 -- ---- a script
 
--- what the lines before one that takes memory print was written, and there was no memory for that line
+-- what the lines before one that needs memory print was written, and there was no memory for that line
 abbrev pub WantedMemory : Transcript → Option Taken → Option Taken → Type 0
 WantedMemory t old new =
     (lines : ℕ) × (slice_index_or t.wanting lines false ≡ true) × Took old new (concat (take lines t.texts))
@@ -65,12 +65,13 @@ Played t old new (Err fault) = LinesPlayed t old new (Err fault)
 
 -- ---- a run
 
--- the source told its end and did not fail, and what it gave in this call was run as a script
+-- the source met its end and did not fail, and what it gave in this call was run as a script
 abbrev pub RanAll : Limits → Option Given → Option Given → Option Taken → Option Taken → Result Status Fault → Type 0
 RanAll limits given gave taken took result =
     (input : List ℕ) × GaveAll given gave input × Played (transcript limits input) taken took result
 
--- a run read its whole input and played it; or it could not read the input, or had no memory for it, and wrote nothing
+-- a run read its whole input and played it; or it could not read the input, or found no memory for it, and wrote
+-- nothing
 abbrev pub Ran : Limits → Option Given → Option Given → Option Taken → Option Taken → Result Status Fault → Type 0
 Ran limits given gave taken took (Ok status) = RanAll limits given gave taken took (Ok status)
 Ran limits given gave taken took (Err (Script number kind)) =

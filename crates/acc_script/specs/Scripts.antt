@@ -127,8 +127,8 @@ makes_event (Ok (Makes event)) = true
 makes_event (Ok Idle) = false
 makes_event (Err fault) = false
 
--- a statement takes memory to run where it declares, or makes a call that makes an event. A kernel's call is for its
--- loan, once host memory has the bytes of its source
+-- a statement needs memory to run where it declares an array, or makes a call that makes an event. A kernel's call is
+-- for its loan, once host memory has the bytes of its source
 abbrev pub run_takes_memory : SessionState → Meaning → Bool
 run_takes_memory s (Declare name array) = true
 run_takes_memory s (Direct directive) = makes_event (judge s.world (Do directive))
@@ -159,17 +159,17 @@ is_refused _ = false
 abbrev pub meaning_in : SessionState → List ℕ → Result Meaning ScriptFault
 meaning_in s line = line_at s.layout s.device (newest_of s.world.state.devices) line
 
--- a line run in a state, or its fault
+-- a line after it ran in a state, or its fault
 unfoldable pub line_turned : SessionState → List ℕ → Result Turned ScriptFault
 line_turned s line = do
   meaning ← meaning_in s line
   Ok (turned s meaning)
 
--- a statement takes memory to read or to run
+-- a statement needs memory to be read or to run
 abbrev pub needs_memory : SessionState → Meaning → Bool
 needs_memory s meaning = takes_memory meaning || run_takes_memory s meaning
 
--- the line is not at fault, and what it asks for takes memory
+-- the line is not at fault, and what it asks for needs memory
 abbrev pub line_wants : SessionState → List ℕ → Bool
 line_wants s line = wants (needs_memory s) (meaning_in s line)
 
@@ -185,7 +185,7 @@ pub data Ending : Type 0 where
   Ended : (refused : Bool) → Ending
   Faulty : (number : ℕ) (kind : ScriptFault) → Ending
 
--- the text of each line that was run, whether it takes memory, and the ending
+-- the text of each line that was run, whether it needs memory, and the ending
 pub record Transcript : Type 0 where
   pub texts : List (List ℕ)
   pub wanting : List Bool

@@ -1,4 +1,4 @@
--- What a session of the code is, and what it may be refused.
+-- What a session of the code is, and what it leaves where there is no memory.
 use Rattle.std.specs.Prelude.{◌≡◌, ◌⊎◌, true, Result, Ok, Err}
 use Rattle.acc_base.specs.declared.faults.Fault.{Fault}
 use Rattle.acc_base.specs.declared.faults.Fault.TheVariants.{Memory}
@@ -28,11 +28,11 @@ abbrev pub IsStateLeft : SessionState → Meaning → SessionState → Type 0
 IsStateLeft old (Kernel region kernel over) new = (new ≡ old) ⊎ IsLentFrom old region over new
 IsStateLeft old _ new = new ≡ old
 
--- a statement that takes memory to run, and the state that it leaves where memory is wanting
+-- a statement that needs memory to run, and the state that it leaves where there is none
 abbrev pub MayWant : SessionState → Meaning → SessionState → Type 0
 MayWant old meaning new = (run_takes_memory old meaning ≡ true) × IsStateLeft old meaning new
 
--- a statement was run; or it takes memory and is refused for nothing else
+-- a statement was run; or it needs memory, there was none, and it fails for nothing else
 abbrev pub Performs : SessionState → Meaning → SessionState → Result Effect Fault → Type 0
 Performs old meaning new (Ok effect) = turned old meaning ≡ record { state = new; effect = effect }
 Performs old meaning new (Err fault) = (fault ≡ Memory) × MayWant old meaning new
@@ -42,7 +42,7 @@ abbrev pub effect_of : Reply → Effect
 effect_of replies.Idle = EmptyQueue
 effect_of _ = Nothing
 
--- what a refused call has to print; want of memory is no refusal
+-- what a refused call has to print; lack of memory is no refusal
 abbrev pub refusal_of : Fault → Result Effect Fault
 refusal_of Memory = Err Memory
 refusal_of fault = Ok (Refused fault)

@@ -1,4 +1,4 @@
--- What the statements print that ask of a memory or of a mapping, and the step of an empty queue.
+-- What the statements print that ask for a memory's bytes or a mapping, and the step of an empty queue.
 use Rattle.std.specs.Prelude.{ℕ, Bool, List, ◌++◌, length, Option, Some, None, ◌==◌, if◌then◌else◌, codes}
 use Rattle.hex.specs.Hex.{encode_lower}
 use Rattle.acc_script.specs.Texts.{address}

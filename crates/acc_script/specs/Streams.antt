@@ -1,4 +1,4 @@
--- What a source in memory has still to give, and what the wrappers of std's readers and writers tell.
+-- What a source in memory has still to give, and what the wrappers of std's readers and writers make known.
 use Rattle.std.specs.Prelude.{ℕ, ◌-◌, ◌≡◌, Bool, true, false, ⊤, List, [], ◌++◌, length, take, Option, Some, None, option_map}
 use Rattle.acc_script.specs.Told.{Given, Taken, nothing_given}
 
@@ -24,19 +24,19 @@ offered_at_first all = option_map (λ bytes. record { given = nothing_given; lef
 abbrev pub given_by : Option Offered → Option Given
 given_by offered = option_map (λ o. o.given) offered
 
--- a source hands out what it has left from the front on, and a read that fails leaves it as it was
+-- a source gives what it has left from the front on, and a read that fails leaves it as it was
 abbrev pub HandsOut : Option Offered → Option Offered → Option ℕ → List ℕ → Type 0
 HandsOut None new count piece = ⊤
 HandsOut (Some a) None count piece = ⊥
 HandsOut (Some a) (Some b) None piece = b.left ≡ a.left
 HandsOut (Some a) (Some b) (Some n) piece = a.left ≡ take n piece ++ b.left
 
--- a source whose end was told has nothing left, where this is known
+-- a source that met its end has nothing left, where this is known
 abbrev pub EndsEmpty : Option Offered → Type 0
 EndsEmpty None = ⊤
 EndsEmpty (Some o) = o.given.ended ≡ true → o.left ≡ []
 
--- a reader whose end was told has nothing left, where what it had at first and what is left are known
+-- a reader that met its end has nothing left, where what it had at first and what is left are known
 abbrev pub EndsAt : Option (List ℕ) → Bool → Option (List ℕ) → Type 0
 EndsAt None ended left = ⊤
 EndsAt (Some all) false left = ⊤

@@ -64,7 +64,7 @@ abbrev pub mapping_text : ℕ → ℕ → ℕ → List ℕ
 mapping_text start len place =
     codes "map " ++ (address start ++ (codes " " ++ (decimal len ++ (codes " at " ++ address place))))
 
--- the end of the line of a mapped range, which says whether its block is lent
+-- the end of the line of a mapped range, which shows whether its block is lent
 abbrev pub lent_text : Bool → List ℕ
 lent_text lent = if lent then codes " lent\n" else codes "\n"
 
@@ -165,7 +165,7 @@ each_text device (x ∷ xs) = one_text device x ++ each_text (suc device) xs
 abbrev pub several_text : World → List ℕ
 several_text w = devices_text w.limits.host w.limits.device w.limits.devices ++ each_text 0 w.state.devices
 
--- all devices: the number of one that is alone is not told
+-- all devices: the number of one that is alone is not written
 abbrev pub memories_text : World → List ℕ
 memories_text w = if w.limits.devices == 1 then only_text w else several_text w
 

@@ -1,13 +1,13 @@
 -- What sources gave, what sinks took, and how often they failed.
 use Rattle.std.specs.Prelude.{◌≡◌, ℕ, ◌+◌, ◌%◌, ◌^◌, ◌⊎◌, Bool, true, false, List, [], ◌++◌, length, take, ⊤, Option, Some, None, ◌==◌, if◌then◌else◌}
 
--- what a source has given, whether its last read into a piece with room told the end, and its failures, modulo 2^64
+-- what a source gave, whether its last read into a piece with room met the end, and its failures, modulo 2^64
 pub record Given : Type 0 where
   pub bytes : List ℕ
   pub ended : Bool
   pub failures : ℕ
 
--- what a sink has taken, and its failures, modulo 2^64
+-- what a sink took, and its failures, modulo 2^64
 pub record Taken : Type 0 where
   pub bytes : List ℕ
   pub failures : ℕ
@@ -33,7 +33,7 @@ after_read g (Some n) piece = record {
   failures = g.failures;
 }
 
--- a sink after a write of a piece: it failed, or took so many bytes. None of a piece with bytes is a failure too
+-- a sink after a write of a piece: it failed, or took this many bytes. None of a piece with bytes is a failure too
 abbrev pub after_write : Taken → Option ℕ → List ℕ → Taken
 after_write t None piece = record t { failures = one_more t.failures }
 after_write t (Some n) piece = record {
@@ -41,18 +41,18 @@ after_write t (Some n) piece = record {
   failures = (if length piece == 0 then t.failures else if n == 0 then one_more t.failures else t.failures);
 }
 
--- what is told changes so; where nothing is told, nothing is claimed
+-- what is known changes so; where nothing is known, nothing is claimed
 abbrev pub Becomes : {A : Type 0} → Option A → Option A → (A → A) → Type 0
 Becomes None new f = ⊤
 Becomes (Some a) new f = new ≡ Some (f a)
 
--- a source gave these bytes and did not fail, where it tells
+-- a source gave these bytes and did not fail, where that is known
 abbrev pub Gave : Option Given → Option Given → List ℕ → Type 0
 Gave None new bytes = ⊤
 Gave (Some a) None bytes = ⊥
 Gave (Some a) (Some b) bytes = (b.bytes ≡ a.bytes ++ bytes) × (b.failures ≡ a.failures)
 
--- a source gave these bytes, told its end and did not fail, where it tells
+-- a source gave these bytes, met its end and did not fail, where that is known
 abbrev pub GaveAll : Option Given → Option Given → List ℕ → Type 0
 GaveAll None new bytes = ⊤
 GaveAll (Some a) None bytes = ⊥
@@ -71,7 +71,7 @@ FailedOrPassed limit (Some a) None = ⊥
 FailedOrPassed limit (Some a) (Some b) =
     (b.failures ≡ one_more a.failures) ⊎ ((length b.bytes ≡ length a.bytes + limit + 1) × (b.failures ≡ a.failures))
 
--- a sink took these bytes and did not fail, where it tells
+-- a sink took these bytes and did not fail, where that is known
 abbrev pub Took : Option Taken → Option Taken → List ℕ → Type 0
 Took None new bytes = ⊤
 Took (Some a) None bytes = ⊥

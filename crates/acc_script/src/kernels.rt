@@ -10,7 +10,7 @@ use acc_read::ScriptKernel;
 use std::sync::Wait;
 use std::thread::Threads;
 
-/// The section of host memory that a kernel reads; an empty one but for `plus`.
+/// The section of host memory whose bytes a kernel reads: the source of `plus`, and for other kernels an empty one.
 pub fn source_of(kernel: ScriptKernel) -> Section
     ensures { result ≡ source_of kernel }
 {
@@ -23,7 +23,7 @@ pub fn source_of(kernel: ScriptKernel) -> Section
 }
 
 /// Runs a kernel over all the bytes of a loan, with the bytes of its source (OpenACC 3.3, section 2.5, compute
-/// constructs). It is cut into at most `parts` parts, which are worked on at the same time.
+/// constructs). The work is cut into at most `parts` parts, which run at the same time.
 pub fn run_kernel<R: Threads + Wait + Sync + AllocGlobal>(
     rt: &R,
     parts: usize,
@@ -41,8 +41,8 @@ pub fn run_kernel<R: Threads + Wait + Sync + AllocGlobal>(
     }
 }
 
-/// Parts of one length are worked on at the same time. Where there is no memory for their list the kernel runs in one,
-/// so it never fails.
+/// Parts of one length run at the same time. Where there is no memory for the list of parts, the kernel runs in one
+/// part, so it never fails.
 fn run_evenly<R: Threads + Wait + Sync + AllocGlobal, K: Pointwise + Sync>(
     rt: &R,
     parts: usize,

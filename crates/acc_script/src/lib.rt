@@ -1,5 +1,5 @@
-//! The script language of the data environment: a script is read as bytes, run line by line on a table, and answered
-//! in bytes.
+//! The script language of the data environment. [`run`] reads a script as bytes, runs it line by line on a table,
+//! and writes what it prints as bytes.
 //!
 //! `specs/` says what a script means, apart from any code: its lines, what a line says, and what it prints.
 #![tactic(auto)]

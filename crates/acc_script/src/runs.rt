@@ -16,7 +16,7 @@ use acc_read::{Trouble, line_at, next_line};
 use std::sync::Wait;
 use std::thread::Threads;
 
-/// How a script ended that was run to its last line.
+/// How a script ended that ran to its last line.
 #[derive(Clone, Copy, Debug, PartialEq, Eq)]
 pub enum Status {
     /// No line was refused.
@@ -27,24 +27,24 @@ pub enum Status {
 
 /// Reads a whole script, and then runs it line by line on a new table of these limits.
 ///
-/// The work of a kernel is cut into at most `parts` parts, from 1 to 64, which are worked on at the same time. What is
-/// printed does not depend on it. Where a thread cannot be had, or memory for the list of the parts, a kernel
-/// goes on with fewer.
+/// The work of a kernel is cut into at most `parts` parts, from 1 to 64, which run at the same time. What is printed
+/// does not depend on it. Where a thread does not start, or there is no memory for the list of the parts, a kernel goes
+/// on with fewer.
 ///
-/// The watcher sees each line. Whoever watches, the same is read, written and answered.
+/// The watcher sees each line. With any watcher, the run reads, writes and returns the same.
 ///
-/// What is said here of bytes read and written is proved where the source and the sink tell theirs ([`Source`],
-/// [`Sink`]).
+/// These statements on bytes read and written are proved where contracts know the bytes of the source and of the sink
+/// ([`Source`], [`Sink`]).
 ///
 /// # Errors
 ///
 /// - [`Fault::Read`] where the reader fails or gives more than 16,777,216 bytes. Nothing was written.
 /// - [`Fault::Script`] at the first line that is at fault, or behind the last line where a data region is then open.
 ///   What the lines before print was written.
-/// - [`Fault::Write`] where the writer fails. It has then taken a front of what the script prints.
+/// - [`Fault::Write`] where the writer fails. It took a front of what the script prints.
 /// - [`Fault::Memory`]. Nothing was written where there was none for the input or for the table. Else what the lines
-///   before one print was written; that line is not at fault. It lists items or bytes, declares, or makes a call that
-///   makes an event.
+///   before one print was written. There was no memory for that line, which is not at fault. It lists items or bytes,
+///   declares an array, or makes a call that makes an event.
 pub fn run<R: Threads + Wait + Sync + AllocGlobal, S: Source, W: Sink, X: Watcher<W>>(
     rt: &R,
     reader: &mut S,

@@ -22,9 +22,9 @@ use std::thread::Threads;
 /// A table, the arrays that the script has declared, which device its lines are for, and how kernels run.
 #[derive(Drop)]
 pub struct Session {
-    /// The table.
+    /// The table on which statements make calls.
     pub table: Table,
-    /// The arrays.
+    /// The arrays that the script has declared, by their names.
     pub arrays: Arrays,
     /// The number of the current device.
     pub device: u64,
@@ -33,8 +33,8 @@ pub struct Session {
 }
 
 impl Session {
-    /// A new table of these limits, and no array; the first device is the current one. A kernel is cut into at most
-    /// `parts` parts, from 1 to 64.
+    /// Returns a session with a new table of these limits and no array. The first device is the current one. A kernel
+    /// is cut into at most `parts` parts, from 1 to 64.
     ///
     /// # Errors
     ///
@@ -50,12 +50,12 @@ impl Session {
         })
     }
 
-    /// Runs a statement, and answers what it has to print.
+    /// Runs a statement, and returns what it has to print.
     ///
     /// # Errors
     ///
-    /// [`Fault::Memory`] alone, for a statement that declares, or that makes a call of which the table makes an event.
-    /// Nothing changed then, but a kernel's block stays lent where memory is wanting to bring it back.
+    /// [`Fault::Memory`] alone, for a statement that declares an array, or whose call makes an event. Nothing changed
+    /// then, but a kernel's block stays lent where there is no memory to bring it back.
     pub fn perform<R: Threads + Wait + Sync + AllocGlobal>(
         &mut self,
         rt: &R,
@@ -92,14 +92,14 @@ impl Session {
         }
     }
 
-    /// The number of the open region that was entered last, on whichever device.
+    /// Returns the number of the open region that was entered last, on whichever device.
     pub fn innermost(&self) -> Option<u64>
         ensures { result ≡ newest_of (session_state self.now).world.state.devices }
     {
         self.table.innermost()
     }
 
-    /// It is no call on the table: a device that is not there is refused here.
+    /// Chooses the current device. This is no call on the table: a device that is not there is refused here.
     fn select(&mut self, device: u64) -> Effect
         ensures { selected (session_state self.old) device (device_there (session_state self.old).world device) ≡ record { state = session_state self.new; effect = result } }
     {
@@ -110,7 +110,7 @@ impl Session {
         Effect::Nothing
     }
 
-    /// Makes a call on the table. A lease is let go that it replies, or that it brings and the table refuses.
+    /// Makes a call on the table. It drops a lease that the table replies, or that comes back with a refused call.
     #[tactic(auto, using(crate::proofs::Refused::refused_call))]
     fn call(&mut self, call: Call) -> Result<Effect, Fault>
         ensures { CallsFor (session_state self.old) call (session_state self.new) result }
@@ -146,7 +146,7 @@ impl Session {
         }
     }
 
-    /// The lease is let go, so that its block stays lent, where bringing it back is refused or wants memory.
+    /// Drops the lease, so that its block stays lent, where bringing it back is refused or there is no memory for that.
     fn work<R: Threads + Wait + Sync + AllocGlobal>(
         &mut self,
         rt: &R,
@@ -173,7 +173,7 @@ impl Session {
     }
 }
 
-/// What an accepted call has to print. A lease is let go.
+/// What an accepted call has to print. It drops a lease.
 fn effect_of(reply: Reply) -> Effect
     ensures { result ≡ effect_of reply }
 {
@@ -186,7 +186,7 @@ fn effect_of(reply: Reply) -> Effect
     effect
 }
 
-/// What a refused call has to print; want of memory ends the run. The call is let go.
+/// What a refused call has to print; lack of memory ends the run. It drops the call.
 fn refused(back: (Call, Fault)) -> Result<Effect, Fault>
     ensures { result ≡ refusal_of back.1 }
 {

@@ -12,9 +12,9 @@ use acc_read::Statement;
 
 /// Watches the lines of a script while it runs.
 ///
-/// It changes nothing that the run writes or answers, and it cannot stop it: what fails in a watcher, it keeps.
+/// A watcher changes nothing that the run writes or returns, and cannot stop the run. It keeps its own failures.
 pub trait Watcher<W: Sink> {
-    /// The line of a number says a statement, which is run next.
+    /// Sees the line of a number before its statement runs.
     fn before(
         &mut self,
         _number: u64,
@@ -23,7 +23,7 @@ pub trait Watcher<W: Sink> {
         _session: &Session,
     ) {}
 
-    /// The line of a number was run, and what it prints was written. The writer may be flushed.
+    /// Sees the line of a number after it ran and what it prints was written. A watcher may flush the writer.
     #[tactic(auto, using(crate::proofs::Fronts::took_nothing))]
     fn after(
         &mut self,
@@ -36,7 +36,8 @@ pub trait Watcher<W: Sink> {
         ensures { Took (W.told _writer.old) (W.told _writer.new) [] }
     {}
 
-    /// The run ends at the line of a number, which is at fault or could not be run, or behind the last line.
+    /// Sees how the run ends. That is at the line of a number, which is at fault or could not run, or behind the last
+    /// line.
     fn end(
         &mut self,
         _number: u64,

@@ -1,5 +1,5 @@
-//! What scripts print and how they end: worked examples, tables with small limits, and what is left where a source, a sink
-//! or memory fails. What the program does over sources, sinks and files in memory.
+//! What scripts print and how they end: worked examples, tables with small limits, and what is left where a source, a
+//! sink or memory fails. What the program does over sources, sinks and files in memory.
 
 use acc_base::{Config, Fault, ScriptFault};
 use acc_command::{FileStore, tool};
@@ -24,7 +24,7 @@ mod programs;
 mod streams;
 mod worked;
 
-/// The options, a script, what it prints, what is told on standard error, and the status.
+/// The options, a script, what it prints, what it writes on standard error, and the status.
 type Row = (&'static str, &'static [u8], &'static str, &'static str, u8);
 
 /// The sizes of host and device, and the limits of regions, tickets, counters, queues and trace.
@@ -51,7 +51,7 @@ fn config(limits: &Limits) -> Result<Config, Fault> {
     Config::new(host, device, regions, tickets, counters, queues, trace)
 }
 
-/// The answer of a run that ends so.
+/// What a run returns that ends so.
 fn answer_of(end: End) -> Result<Status, Fault> {
     match end {
         Ok(status) => Ok(status),
@@ -59,7 +59,7 @@ fn answer_of(end: End) -> Result<Status, Fault> {
     }
 }
 
-/// Compares what was found at a place with what is wanted there.
+/// Compares what was found at a place with what is expected there.
 fn same<R: Abort, T: PartialEq + Debug + Copy, P: Debug + Copy>(
     rt: &R,
     found: T,
@@ -85,7 +85,7 @@ fn add_words(words: &mut Vec<String>, alloc: Global, text: &str) -> Result<(), A
     Ok(())
 }
 
-/// A store that has no file. It takes pictures, and looks whether each has some texts.
+/// A store that has no file. It keeps no picture, but counts those that have some texts.
 #[derive(Drop)]
 struct PictureStore {
     /// What a picture has to have.
@@ -112,12 +112,12 @@ impl FileStore for PictureStore {
     }
 }
 
-/// Whether a picture of a name has a part.
+/// Whether a picture has a part: a text in it, or its name.
 fn has_part(name: &str, text: &str, part: &str) -> bool {
     name == part || text.contains(part)
 }
 
-/// A store whose pictures are looked at for these texts.
+/// Returns a store that counts the pictures with these texts.
 fn pictures_with(wanted: &'static [&'static str]) -> PictureStore {
     PictureStore {
         wanted,
@@ -125,7 +125,7 @@ fn pictures_with(wanted: &'static [&'static str]) -> PictureStore {
     }
 }
 
-/// Runs the program over memory, and answers the status.
+/// Runs the program over memory, and returns the status.
 fn run_tool<R: Threads + Wait + Sync + AllocGlobal, O: Sink, E: Sink>(
     rt: &R,
     options: &str,
@@ -139,7 +139,7 @@ fn run_tool<R: Threads + Wait + Sync + AllocGlobal, O: Sink, E: Sink>(
     Ok(tool(rt, words, &mut reader, out, err, store))
 }
 
-/// Compares what was told and the status with what is wanted at a place.
+/// Compares the text on standard error and the status with what is expected at a place.
 fn check_status<R: Abort, P: Debug + Copy>(
     rt: &R,
     err: &MemorySink,
@@ -152,7 +152,7 @@ fn check_status<R: Abort, P: Debug + Copy>(
     same(rt, status, wanted, place);
 }
 
-/// Runs the script of a row, and compares.
+/// Runs the script of a row, and compares what it prints and how it ends.
 fn check_row<R: Threads + Wait + Sync + AllocGlobal + Abort>(
     rt: &R,
     row: &Row,
@@ -203,7 +203,7 @@ fn faults_are_told(rt: HostRuntime) -> Result<(), Fail> {
     Ok(())
 }
 
-/// Runs a line of so many bytes, which is a comment, and compares.
+/// Runs a line of this many bytes, which is a comment, and compares what is printed.
 fn check_comment<R: Threads + Wait + Sync + AllocGlobal + Abort>(
     rt: &R,
     len: usize,

@@ -1,10 +1,10 @@
--- An array that is told over, element by element.
+-- An array that is overwritten, element by element.
 use Rattle.std.proofs.Common.{ℕ, ◌≡◌, ◌+◌, ◌≤◌, ◌<◌, refl, sym, ap, subst, arith, List, [], ◌∷◌, ◌++◌, length, take, drop, Option, None, Some}
 use Rattle.std.specs.Prelude.{suc, zero, slice_set, unwrap_or}
 use Rattle.lamwiest_c.specs.declared.dids.RawDid.{RawDid}
 use Rattle.lamwiest_c.specs.Dids.{told_over}
 
--- what was told, before what is told over the rest
+-- what was written, before what is written over the rest
 abbrev pub told_so_far : (ℕ → Option RawDid) → ℕ → ℕ → List RawDid → List RawDid
 told_so_far told place at dids = take at dids ++ told_over told place (drop at dids)
 
@@ -14,7 +14,7 @@ behind told place at d dids all is =
     let next : suc (at + 1) ≡ suc at + 1 = omega arith in
     subst (λ (n : ℕ). told_so_far told place n (d ∷ dids) ≡ d ∷ all) next (ap (λ (xs : List RawDid). d ∷ xs) is)
 
--- one element more, of which something is told
+-- one element more, over which something is written
 pub told_more : (told : ℕ → Option RawDid) (place at : ℕ) (dids : List RawDid) (did : RawDid) → at < length dids → told place ≡ Some did
     → told_so_far told (place + 1) (at + 1) (slice_set dids at did) ≡ told_so_far told place at dids
 told_more told place at [] did within is = absurd (omega (arith, within))

@@ -59,7 +59,7 @@ pointer_of pointer = if pointer == 0 then None else Some pointer
 abbrev pub queue_of : ℕ → Option ℕ
 queue_of queue = if queue == NO_QUEUE_GIVEN then None else Some queue
 
--- whether a clause without arguments is given; 0 says that it is not
+-- whether a clause without arguments is given: any number but 0 gives it
 abbrev pub is_given : ℕ → Bool
 is_given clause = not (clause == 0)
 

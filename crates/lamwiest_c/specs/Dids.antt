@@ -47,7 +47,8 @@ is_moved _ = false
 
 -- ---- its copy, which is made at once or put into a queue
 
--- so many bytes this way, if they are copied: 1 to the device, 2 to the host; and whether the region's exit copies them back
+-- this many bytes this way, if they are copied: 1 to the device, 2 to the host; and whether the region's exit copies
+-- them back
 abbrev pub copy_fields : ℕ → Bool → Bool → ℕ → CopyFields
 copy_fields way copied back len = record { way = if copied then way else 0; back = if back then 1 else 0; len = if copied then len else 0 }
 
@@ -132,7 +133,7 @@ did_in place e w = option_map (λ d. raw_did d (copy_at place d.step e) (times_o
 abbrev pub did_at : ℕ → World → Option RawDid
 did_at place w = option_and_then (λ e. did_in place e (view 0 w.state).records) (slice_get w.history.trace (length w.history.trace - 1))
 
--- an array from a place on, with what is told over what stood there
+-- an array from a place on, with what the items did written over what stood there
 abbrev pub told_over : (ℕ → Option RawDid) → ℕ → List RawDid → List RawDid
 told_over told place [] = []
 told_over told place (old ∷ olds) = unwrap_or (told place) old ∷ told_over told (place + 1) olds

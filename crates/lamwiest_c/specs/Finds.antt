@@ -26,12 +26,12 @@ abbrev pub IsFoundOrAbsent : {A : Type 0} → Option A → ℕ → A → A → T
 IsFoundOrAbsent None status old new = (status ≡ ABSENT) × (new ≡ old)
 IsFoundOrAbsent (Some x) status old new = (status ≡ 0) × (new ≡ x)
 
--- the handle stays as it is; what was asked of it is found, or the handle has nothing
+-- the handle stays as it is; the query of it has a result, or the handle has no table
 abbrev pub IsAskedOf : {A : Type 0} → Option DataEnvironment → Option DataEnvironment → (DataEnvironment → Option A) → ℕ → A → A → Type 0
 IsAskedOf {A} handle same ask status old new =
     (same ≡ handle) × MatchOption handle ((status ≡ ENDED) × (new ≡ old)) (λ e. IsFoundOrAbsent (ask e) status old new)
 
--- a truth as a number
+-- yes or no as a number
 abbrev pub number_of_bool : Bool → ℕ
 number_of_bool b = if b then 1 else 0
 

@@ -1,4 +1,4 @@
-//! What each item of the last directive did, so that a caller reads it and works nothing out.
+//! What each item of the last directive did, so that a caller reads it and computes nothing.
 
 ghost use Rattle.std.specs.Prelude.{◌≡◌, Some};
 ghost use Rattle.std.specs.List.{slice_get};
@@ -118,21 +118,21 @@ fn is_moved(step: Step) -> bool
     matches!(step, Step::Moved { .. })
 }
 
-/// A new block gets the bytes of the section.
+/// Whether a new block gets the bytes of the section from host memory.
 fn copies_in(clause: RegionClause) -> bool
     ensures { result ≡ copies_in clause }
 {
     matches!(clause, RegionClause::Copy | RegionClause::Copyin)
 }
 
-/// Just before the mapping ends, host memory gets the bytes of the section.
+/// Whether host memory gets the bytes of the section just before the mapping ends.
 fn copies_out(clause: RegionClause) -> bool
     ensures { result ≡ copies_out clause }
 {
     matches!(clause, RegionClause::Copy | RegionClause::Copyout { .. })
 }
 
-/// A copy of so many bytes this way, if it was made or put into a queue.
+/// Returns a copy of this many bytes this way, if it was made or put into a queue.
 fn copy_fields(way: u32, copied: bool, back: bool, len: u64) -> CopyFields
     ensures { result ≡ copy_fields way copied back len }
 {
@@ -278,8 +278,9 @@ fn did_at(table: &Table, place: usize) -> Option<RawDid>
     Some(raw_did(did, copy, times_of(table, did.aim)))
 }
 
-/// What the item of a place, from 0 on, did in the last event. It is `ABSENT` where there is no such item, as behind a
-/// rebase, which leaves no event stored. The items of an exit from a region are those of its entry, in the same order.
+/// Writes into `did` what the item of a place, from 0 on, did in the last event. It returns `ABSENT` where there is no
+/// such item, as behind a rebase, which leaves no event stored. The items of an exit from a region are those of its
+/// entry, in the same order.
 #[unsafe(no_mangle)]
 pub extern "C" fn lw_did(alloc: Global, table: &mut Handle, item: u64, did: &mut RawDid) -> u32
     ensures { IsAskedOf table.old.value table.new.value (λ e. did_at item e.world) result did.old did.new }
@@ -292,8 +293,8 @@ pub extern "C" fn lw_did(alloc: Global, table: &mut Handle, item: u64, did: &mut
     found(answer, did)
 }
 
-/// Tells each item of the last event in the same way. An element of the array stays where the event has no item of its
-/// place.
+/// Writes into each element what the item of its place did in the last event. An element stays where the event has no
+/// item of its place.
 fn tell_all(table: &Table, dids: &mut [RawDid])
     ensures { dids.new ≡ told_over (λ place. did_at place table.now) 0 dids.old }
 {
@@ -307,7 +308,8 @@ fn tell_all(table: &Table, dids: &mut [RawDid])
     }
 }
 
-/// What the items of the last event did, from the first on, as [`lw_did`] tells each. An element behind them stays.
+/// Writes what the items of the last event did, from the first on, as [`lw_did`] writes each. An element behind them
+/// stays.
 #[unsafe(no_mangle)]
 pub extern "C" fn lw_dids(alloc: Global, table: &mut Handle, dids: &mut [RawDid]) -> u32
     ensures { IsAskedOf table.old.value table.new.value (λ e. Some (told_over (λ place. did_at place e.world) 0 dids.old)) result dids.old dids.new }

@@ -13,7 +13,7 @@ use crate::statuses::{FaultFields, Refusal, tell, tell_number};
 use acc_base::Directive;
 use std::alloc::Global;
 
-/// Whether a clause without arguments is given, of which C tells a number.
+/// Whether C gives a clause without arguments: any number but 0 gives it.
 fn is_given(clause: u32) -> bool
     ensures { result ≡ is_given clause }
 {
@@ -81,8 +81,8 @@ pub extern "C" fn lw_enter_data(
     tell(made, fault)
 }
 
-/// The `exit data` directive (OpenACC 3.3, section 2.6.6), without the `finalize` clause where that is 0, and else
-/// with it. The queue is as that of [`lw_enter_data`].
+/// The `exit data` directive (OpenACC 3.3, section 2.6.6), with the `finalize` clause unless `finalize` is 0. The queue
+/// is as that of [`lw_enter_data`].
 #[unsafe(no_mangle)]
 pub extern "C" fn lw_exit_data(
     alloc: Global,
@@ -103,8 +103,8 @@ pub extern "C" fn lw_exit_data(
     tell(made, fault)
 }
 
-/// The `update` directive (OpenACC 3.3, the update directive), without the `if_present` clause where that is 0, and else
-/// with it. The queue is as that of [`lw_enter_data`].
+/// The `update` directive (OpenACC 3.3, the update directive), with the `if_present` clause unless `if_present` is 0.
+/// The queue is as that of [`lw_enter_data`].
 #[unsafe(no_mangle)]
 pub extern "C" fn lw_update(
     alloc: Global,
@@ -126,7 +126,7 @@ pub extern "C" fn lw_update(
 }
 
 /// The `wait` directive (OpenACC 3.3, the wait directive): makes all transfers of a queue, or of all queues where the
-/// queue is `NO_QUEUE_GIVEN`. Where it is done, `count` is how many they were.
+/// queue is `NO_QUEUE_GIVEN`. Where it is done, `count` is how many transfers it made.
 #[unsafe(no_mangle)]
 pub extern "C" fn lw_wait(
     alloc: Global,

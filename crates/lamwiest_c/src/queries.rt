@@ -1,5 +1,6 @@
-//! The queries of a table. None allocates, changes anything or is refused. Where there is nothing to find, the place of
-//! the result keeps what it has. A query of a device is for the one that a table of C has.
+//! The queries of a table. None allocates, changes anything or is refused. Where there is nothing to find, a query
+//! returns `ABSENT`; where the handle has no table, it returns `ENDED`. Then the place of the result keeps its value. A
+//! query of a device is for the one device of the table.
 
 ghost use Rattle.std.specs.Prelude.{◌≡◌, Some, length, option_map};
 ghost use Rattle.acc_base.specs.Blocks.{used_bytes};
@@ -75,7 +76,7 @@ fn raw_mapped(mapped: Mapped) -> RawMapped
     }
 }
 
-/// Puts what was found into its place, and returns the status.
+/// Writes what was found into its place, and returns the status; `ABSENT` where nothing was found.
 pub fn found<T: Copy + Drop>(answer: Option<T>, place: &mut T) -> u32
     ensures { IsFoundOrAbsent answer result place.old place.new }
 {
@@ -88,7 +89,7 @@ pub fn found<T: Copy + Drop>(answer: Option<T>, place: &mut T) -> u32
     }
 }
 
-/// Whether the section is not empty and each of its addresses is in one mapped range: 1 or 0.
+/// Writes 1 where the section is not empty and each of its addresses is in one mapped range, and else 0.
 #[unsafe(no_mangle)]
 pub extern "C" fn lw_is_present(
     alloc: Global,
@@ -107,7 +108,7 @@ pub extern "C" fn lw_is_present(
     found(Some(answer), present)
 }
 
-/// The device address that a host address is mapped to; `ABSENT` where it is in no mapped range.
+/// Writes the device address that a host address is mapped to; returns `ABSENT` where it is in no mapped range.
 #[unsafe(no_mangle)]
 pub extern "C" fn lw_device_address(
     alloc: Global,
@@ -125,7 +126,7 @@ pub extern "C" fn lw_device_address(
     found(answer, place)
 }
 
-/// The reference counters of the mapped range that the section is inside (OpenACC 3.3, section 2.6.7).
+/// Writes the reference counters of the mapped range that the section is inside (OpenACC 3.3, section 2.6.7).
 #[unsafe(no_mangle)]
 pub extern "C" fn lw_counters(
     alloc: Global,
@@ -147,7 +148,7 @@ pub extern "C" fn lw_counters(
     }
 }
 
-/// How often the pointer at a host address is attached (OpenACC 3.3, section 2.6.8).
+/// Writes how often the pointer at a host address is attached (OpenACC 3.3, section 2.6.8).
 #[unsafe(no_mangle)]
 pub extern "C" fn lw_attachment(
     alloc: Global,
@@ -165,7 +166,8 @@ pub extern "C" fn lw_attachment(
     found(Some(answer), count)
 }
 
-/// The mapped range of least start at or above a host address. So a caller finds all of them, one after the other.
+/// Writes the mapped range of least start at or above a host address. So a caller finds all of them, one after the
+/// other.
 #[unsafe(no_mangle)]
 pub extern "C" fn lw_mapped(
     alloc: Global,
@@ -200,7 +202,7 @@ fn range_at(table: &Table, address: u64) -> Option<Mapped>
     }
 }
 
-/// The mapped range that a host address is in, with its counters; `ABSENT` where it is in none.
+/// Writes the mapped range that a host address is in, with its counters; returns `ABSENT` where it is in none.
 #[unsafe(no_mangle)]
 pub extern "C" fn lw_range_at(
     alloc: Global,
@@ -221,7 +223,7 @@ pub extern "C" fn lw_range_at(
     }
 }
 
-/// How many transfers wait in a queue; 0 where there is no such queue (OpenACC 3.3, section 2.16).
+/// Writes how many transfers wait in a queue; 0 where there is no such queue (OpenACC 3.3, section 2.16).
 #[unsafe(no_mangle)]
 pub extern "C" fn lw_queue_len(alloc: Global, table: &mut Handle, queue: u64, len: &mut u64) -> u32
     ensures { IsAskedOf table.old.value table.new.value (λ e. Some (length (queue_at queue (view 0 e.world.state).records.queues))) result len.old len.new }
@@ -234,7 +236,7 @@ pub extern "C" fn lw_queue_len(alloc: Global, table: &mut Handle, queue: u64, le
     found(Some(answer), len)
 }
 
-/// The bytes of device memory that all blocks take, each rounded up to a multiple of 16.
+/// Writes how many bytes of device memory all blocks take, each rounded up to a multiple of 16.
 #[unsafe(no_mangle)]
 pub extern "C" fn lw_used(alloc: Global, table: &mut Handle, used: &mut u64) -> u32
     ensures { IsAskedOf table.old.value table.new.value (λ e. Some (used_bytes (view 0 e.world.state).records.blocks)) result used.old used.new }
@@ -247,7 +249,7 @@ pub extern "C" fn lw_used(alloc: Global, table: &mut Handle, used: &mut u64) -> 
     found(Some(answer), used)
 }
 
-/// How many data regions are open.
+/// Writes how many data regions are open.
 #[unsafe(no_mangle)]
 pub extern "C" fn lw_regions(alloc: Global, table: &mut Handle, regions: &mut u64) -> u32
     ensures { IsAskedOf table.old.value table.new.value (λ e. Some (open_regions e.world.state)) result regions.old regions.new }
@@ -260,7 +262,7 @@ pub extern "C" fn lw_regions(alloc: Global, table: &mut Handle, regions: &mut u6
     found(Some(answer), regions)
 }
 
-/// How many events there were in all.
+/// Writes how many events there were in all.
 #[unsafe(no_mangle)]
 pub extern "C" fn lw_events(alloc: Global, table: &mut Handle, events: &mut u64) -> u32
     ensures { IsAskedOf table.old.value table.new.value (λ e. Some (event_count e.world.history)) result events.old events.new }

@@ -66,7 +66,7 @@ fn begin(alloc: Global, limits: &RawLimits) -> Result<Box<Environment>, Refusal>
     Ok(Box::new(alloc, environment)?)
 }
 
-/// The limits that `accrun` gives its tables.
+/// Writes the limits that `accrun` gives its tables where no option says otherwise.
 #[unsafe(no_mangle)]
 pub extern "C" fn lw_limits_default(limits: &mut RawLimits)
     ensures { limits.new ≡ default_limits }
@@ -83,8 +83,8 @@ pub extern "C" fn lw_limits_default(limits: &mut RawLimits)
     };
 }
 
-/// Puts a new table into a handle: nothing is mapped, no region is open, and host memory is zero. What the handle had
-/// is ended. Where it is refused, the handle stays as it is.
+/// Puts a new table into a handle: nothing is mapped, no region is open, and host memory is zero. It ends the table
+/// that the handle had. Where it is refused, the handle stays as it is.
 #[unsafe(no_mangle)]
 pub extern "C" fn lw_table_new(
     alloc: Global,

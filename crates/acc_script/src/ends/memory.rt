@@ -32,7 +32,7 @@ impl<'a> Model for MemorySource<'a> {
 }
 
 impl<'a> MemorySource<'a> {
-    /// A source that gives these bytes from the first on.
+    /// Returns a source that gives these bytes from the first on.
     pub fn new(bytes: &'a [u8]) -> MemorySource<'a>
         ensures { result ≡ record { given = nothing_given; left = bytes.now } }
     {
@@ -47,7 +47,7 @@ impl<'a> MemorySource<'a> {
 impl<'a> Source for MemorySource<'a> {
     ghost told = { λ s. Some s.given };
 
-    /// Gives as many of the bytes that it has left as fit into the piece.
+    /// Gives the bytes that it has left, as many as fit into the piece.
     fn read(&mut self, piece: &mut [u8]) -> Option<usize>
         ensures bound { IfSome result (λ n. n ≤ length piece.old) }
         ensures tells { self.new.given ≡ after_read self.old.given result piece.new }
@@ -75,7 +75,7 @@ fn give(bytes: &[u8], at: usize, piece: &mut [u8]) -> usize
     count
 }
 
-/// Bytes in memory, as a sink. It fails where it can have no memory for the bytes.
+/// Bytes in memory, as a sink. It fails where there is no memory for the bytes.
 ///
 /// Contracts see the bytes and the number of failures.
 #[derive(Drop)]
@@ -93,7 +93,7 @@ impl Model for MemorySink {
 }
 
 impl MemorySink {
-    /// A sink that took nothing yet.
+    /// Returns a sink that took nothing yet.
     pub fn new(alloc: Global) -> MemorySink
         ensures { result ≡ nothing_taken }
     {
@@ -103,7 +103,7 @@ impl MemorySink {
         }
     }
 
-    /// The bytes that it took so far.
+    /// Returns the bytes that it took so far.
     pub fn as_slice(&self) -> &[u8]
         ensures { result.now ≡ self.now.bytes }
     {
@@ -114,7 +114,7 @@ impl MemorySink {
 impl Sink for MemorySink {
     ghost told = { λ s. Some s };
 
-    /// Takes all of the piece, or fails.
+    /// Takes all of the piece; fails where there is no memory for it.
     fn write(&mut self, piece: &[u8]) -> Option<usize>
         ensures bound { IfSome result (λ n. n ≤ length piece.now) }
         ensures tells { self.new ≡ after_write self.old result piece.now }

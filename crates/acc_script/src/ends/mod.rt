@@ -9,13 +9,13 @@ pub mod whole;
 
 /// Gives bytes.
 ///
-/// Contracts see, where a source tells it, what it has given so far. They see whether its last read into a piece that
-/// was not empty told the end. They see how often it failed, modulo 2^64.
+/// Where a source makes it known, contracts see what it gave so far, and how often it failed, modulo 2^64. They also
+/// see whether its last read into a piece that was not empty met the end.
 pub trait Source {
-    /// What it has given so far, where it tells.
+    /// What it gave so far; `None` where contracts do not know it.
     ghost told: { Self → Option Given } = { λ _. None };
 
-    /// Gives bytes at the front of the piece, and answers how many. No byte into a piece that is not empty tells the
+    /// Gives bytes at the front of the piece, and returns how many. No byte into a piece that is not empty means the
     /// end; `None` is a failure.
     fn read(&mut self, piece: &mut [u8]) -> Option<usize>
         ensures bound { IfSome result (λ n. n ≤ length piece.old) }
@@ -24,19 +24,19 @@ pub trait Source {
 
 /// Takes bytes.
 ///
-/// Contracts see, where it tells, what it has taken so far, and how often it failed, modulo 2^64.
+/// Where a sink makes it known, contracts see what it took so far, and how often it failed, modulo 2^64.
 pub trait Sink {
-    /// What it has taken so far, where it tells.
+    /// What it took so far; `None` where contracts do not know it.
     ghost told: { Self → Option Taken } = { λ _. None };
 
-    /// Takes bytes from the front of the piece, and answers how many. `None` is a failure, and so is no byte of a piece
+    /// Takes bytes from the front of the piece, and returns how many. `None` is a failure, and so is no byte of a piece
     /// that is not empty.
     fn write(&mut self, piece: &[u8]) -> Option<usize>
         ensures bound { IfSome result (λ n. n ≤ length piece.now) }
         ensures tells { Becomes (told self.old) (told self.new) (λ t. after_write t result piece.now) };
 
-    /// Hands on what it kept back, if it keeps anything back; true where that was done. It is no write: what was taken
-    /// stays, and so does the number of failures.
+    /// Flushes what it kept back, if it keeps anything back; returns whether that succeeded. This is no write: what it
+    /// took stays, and so does the number of failures.
     #[tactic(auto, using(crate::proofs::Fronts::took_nothing))]
     fn flush(&mut self) -> bool
         ensures { Took (told self.old) (told self.new) [] }

@@ -11,7 +11,7 @@ use std::snapshot::Snapshot;
 
 /// A reader of std as a source. Every error is a failure, an interruption too.
 ///
-/// It tells what it gave, and has left, where contracts see what the reader has left, as for a slice or a `Cursor`.
+/// Contracts see what it gave and has left where they see what the reader has left, as for a slice or a `Cursor`.
 #[derive(Drop)]
 pub struct FromRead<R: Read + Drop> {
     start: Snapshot<R>,
@@ -34,7 +34,7 @@ impl<R: Read + Drop> Model for FromRead<R> {
 }
 
 impl<R: Read + Drop> FromRead<R> {
-    /// A source that gives what the reader has left.
+    /// Returns a source that gives what the reader has left.
     pub fn new(inner: R) -> FromRead<R>
         ensures { result ≡ offered_at_first (R.remaining inner) }
     {
@@ -46,7 +46,7 @@ impl<R: Read + Drop> FromRead<R> {
         }
     }
 
-    /// What holds of every such source: where its end was told, it has nothing left. Nothing is done.
+    /// Shows what holds of every such source: once it met its end, it has nothing left. It does nothing.
     #[tactic(auto, using(crate::proofs::Rejoins::ends_empty))]
     pub fn laws(&self)
         ensures { EndsEmpty self.now }
@@ -83,7 +83,7 @@ impl<R: Read + Drop> Source for FromRead<R> {
 
 /// A writer of std as a sink. Every error is a failure, an interruption too.
 ///
-/// It tells what it took where contracts see what the writer holds, as for a `Vec`.
+/// Contracts see what it took where they see what the writer holds, as for a `Vec`.
 #[derive(Drop)]
 pub struct ToWrite<W: Write + Drop> {
     inner: W,
@@ -101,7 +101,7 @@ impl<W: Write + Drop> Model for ToWrite<W> {
 }
 
 impl<W: Write + Drop> ToWrite<W> {
-    /// A sink that hands bytes to the writer.
+    /// Returns a sink that writes bytes to the writer.
     pub fn new(inner: W) -> ToWrite<W>
         ensures { result ≡ taken_of (W.contents inner) 0 }
     {

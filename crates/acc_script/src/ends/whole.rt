@@ -12,7 +12,7 @@ use std::alloc::Global;
 /// How many bytes an input may have.
 const LIMIT: usize = 16_777_216;
 
-/// One read of at most `room` bytes.
+/// Makes one read of at most `room` bytes.
 #[tactic(auto, using(crate::proofs::Gives::gave_part))]
 fn read_piece<R: Source>(reader: &mut R, piece: &mut [u8], room: usize) -> Option<usize>
     requires some { 0 < room }
@@ -25,12 +25,12 @@ fn read_piece<R: Source>(reader: &mut R, piece: &mut [u8], room: usize) -> Optio
     reader.read(&mut piece[..room])
 }
 
-/// All that a source gives up to its end.
+/// Reads all that a source gives up to its end.
 ///
 /// # Errors
 ///
 /// [`Fault::Memory`] where there is none for what it gave so far; [`Fault::Read`] where the source fails or gives more
-/// than 16,777,216 bytes. No more than one byte past these is read.
+/// than 16,777,216 bytes. It reads no more than one byte past these.
 pub fn read_all<R: Source>(alloc: Global, reader: &mut R) -> Result<Vec<u8>, Fault>
     ensures { ReadAll (R.told reader.old) (R.told reader.new) result }
 {
@@ -47,7 +47,7 @@ pub fn read_all<R: Source>(alloc: Global, reader: &mut R) -> Result<Vec<u8>, Fau
     }
 }
 
-/// Hands all of the bytes to a sink; false where it failed, which has then taken a front of them.
+/// Writes all of the bytes to a sink; false where it failed, which then took a front of them.
 #[tactic(auto, using(crate::proofs::Takes::taking_laws))]
 pub fn write_all<W: Sink>(writer: &mut W, bytes: &[u8]) -> bool
     ensures { Wrote (W.told writer.old) (W.told writer.new) bytes.now result }
@@ -63,7 +63,7 @@ pub fn write_all<W: Sink>(writer: &mut W, bytes: &[u8]) -> bool
     true
 }
 
-/// Hands the pieces to a sink, one after the other; false where it failed.
+/// Writes the pieces to a sink, one after the other; false where it failed.
 pub fn write_pieces<W: Sink>(writer: &mut W, pieces: &[&[u8]]) -> bool
     ensures { Wrote (W.told writer.old) (W.told writer.new) (flat_map (λ p. p.now) pieces.now) result }
 {

@@ -1,4 +1,4 @@
-//! Addresses as hexadecimal digits, without memory.
+//! Addresses as hexadecimal digits, without allocation.
 
 ghost use Rattle.std.specs.Prelude.{◌≡◌, ◌≤◌, ◌<◌, false, drop, length};
 ghost use Rattle.std.specs.Fmt.{digits, digit_glyph};
@@ -10,12 +10,12 @@ pub struct AddressBuffer {
 }
 
 impl AddressBuffer {
-    /// A buffer for one address at a time.
+    /// Returns a buffer for one address at a time.
     pub fn new() -> AddressBuffer {
         AddressBuffer { bytes: [0; 64] }
     }
 
-    /// The hexadecimal digits of an address, in lower case and without leading zeros.
+    /// Returns the hexadecimal digits of an address, in lower case and without leading zeros.
     pub fn format(&mut self, address: u64) -> &[u8]
         ensures { result.now ≡ digits 16 false address }
     {

@@ -1,4 +1,4 @@
-//! Bytes, presence, device addresses and the step of an empty queue, each written without memory.
+//! Bytes, presence, device addresses and the step of an empty queue, each written without allocation.
 
 ghost use Rattle.std.specs.Prelude.{◌≡◌, ◌≤◌, ◌*◌, length, option_map};
 ghost use Rattle.hex.specs.Hex.{encode_lower};

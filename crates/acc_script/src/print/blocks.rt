@@ -1,4 +1,4 @@
-//! The blocks whose mapping has ended, written without memory.
+//! The blocks whose mapping has ended, written without allocation.
 
 ghost use Rattle.std.specs.Prelude.{◌<◌};
 ghost use Rattle.acc_base.specs.Devices.{view};

@@ -14,7 +14,7 @@ use acc_table::Table;
 /// What a statement has to print.
 #[derive(Clone, Copy)]
 pub enum Effect {
-    /// Nothing.
+    /// Nothing, as for a blank line, a declaration, and a call that was done.
     Nothing,
     /// That the queue of a step was empty.
     EmptyQueue,
@@ -26,19 +26,19 @@ pub enum Effect {
     DeviceBytes {
         /// The number of the device.
         device: u64,
-        /// The section.
+        /// The section of host memory.
         section: Section,
     },
     /// Whether a section is present.
     Presence(bool),
     /// A device address, if there is one.
     Place(Option<u64>),
-    /// The report.
+    /// The report of the table.
     Reported,
 }
 
 impl Effect {
-    /// The line was refused.
+    /// Whether the line was refused.
     pub fn is_refused(self) -> bool
         ensures { result ≡ is_refused self }
     {

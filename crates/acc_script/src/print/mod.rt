@@ -1,5 +1,5 @@
-//! Writes what a line has to print, without memory. Each text goes to its sink in pieces, so it is known what a sink
-//! took before it failed. A new kind of answer is one case more in `effects`.
+//! Writes what a line has to print, without allocation. Each text goes to its sink in pieces, so contracts know what a
+//! sink took before it failed. A new kind of answer is one more case in `effects`.
 
 mod addresses;
 mod answers;

@@ -1,4 +1,4 @@
-//! The attached pointers of a mapped range, written without memory.
+//! The attached pointers of a mapped range, written without allocation.
 
 ghost use Rattle.std.specs.Prelude.{◌+◌, ◌<◌, ◌^◌};
 ghost use Rattle.acc_base.specs.Devices.{view};

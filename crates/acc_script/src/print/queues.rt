@@ -1,4 +1,4 @@
-//! The queues in which transfers wait, written without memory.
+//! The queues in which transfers wait, written without allocation.
 
 ghost use Rattle.std.specs.Prelude.{◌<◌};
 ghost use Rattle.acc_base.specs.Devices.{view};

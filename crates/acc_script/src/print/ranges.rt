@@ -1,4 +1,4 @@
-//! The mapped ranges of a device, written without memory.
+//! The mapped ranges of a device, written without allocation.
 
 ghost use Rattle.std.specs.Prelude.{◌≡◌, ◌+◌, ◌<◌, ◌^◌};
 ghost use Rattle.acc_base.specs.Devices.{view};
@@ -96,7 +96,7 @@ fn write_counters<W: Sink>(writer: &mut W, structured: u64, dynamic: u64, lent: 
     )
 }
 
-/// The end of the line of a mapped range, which says whether its block is lent.
+/// The end of the line of a mapped range, which shows whether its block is lent.
 fn lent_end(lent: bool) -> &'static [u8]
     ensures { result.now ≡ lent_text lent }
 {

@@ -1,5 +1,5 @@
-//! The line of a refusal, written piece by piece. `Display` of `Fault` writes the same text, but says nothing of how
-//! much was written where the sink fails.
+//! The line of a refusal, written piece by piece. `Display` of `Fault` writes the same text, but does not show how much
+//! was written where the sink fails.
 
 ghost use Rattle.std.specs.Prelude.{◌++◌, codes};
 ghost use Rattle.acc_base.specs.Faults.{fields_text, kind_name_of};
@@ -45,7 +45,7 @@ fn write_refusal_start<W: Sink>(writer: &mut W, line: u64, fault: Fault) -> bool
     )
 }
 
-/// Each field of the fault, with its name and its value.
+/// Writes each field of the fault, with its name and its value; false where the sink failed.
 #[tactic(auto, using(crate::proofs::Fronts::took_nothing))]
 fn write_fields<W: Sink>(writer: &mut W, fault: Fault) -> bool
     ensures { Wrote (W.told writer.old) (W.told writer.new) (fields_text fault) result }

@@ -1,4 +1,4 @@
-//! The report of a table, written without memory.
+//! The report of a table, written without allocation.
 
 ghost use Rattle.std.specs.Prelude.{◌<◌};
 ghost use Rattle.acc_base.specs.Devices.{device_at, view};
@@ -15,11 +15,11 @@ use acc_base::Fault;
 use acc_table::Table;
 use itoa::Buffer;
 
-/// Writes the report of a table, which takes no memory. It says the sizes of the memories in bytes, what each device
-/// has, and how many regions are open and how many events there were. Devices stand by number where there are several.
-/// What was written is proved where the sink tells its bytes.
+/// Writes the report of a table, without allocation. It shows the sizes of the memories in bytes, what each device has,
+/// and how many regions are open and how many events there were. Several devices stand in the order of their numbers.
+/// What was written is proved where the sink makes its bytes known.
 ///
-/// Of a device it says how many bytes its blocks take, and then three lists:
+/// Of a device it shows how many bytes its blocks take, and then three lists:
 ///
 /// - its mapped ranges by rising start, with counters, attached pointers, and whether the block is lent;
 /// - the blocks whose mapping has ended, by rising place;
@@ -27,7 +27,7 @@ use itoa::Buffer;
 ///
 /// # Errors
 ///
-/// [`Fault::Write`] where the sink fails. It has then taken a front of the report.
+/// [`Fault::Write`] where the sink fails. It took a front of the report.
 pub fn report<W: Sink>(table: &Table, writer: &mut W) -> Result<(), Fault>
     ensures { Printed (W.told writer.old) (W.told writer.new) (report_text table.now) result }
 {
@@ -48,7 +48,7 @@ pub fn write_report<W: Sink>(table: &Table, writer: &mut W) -> bool
     write_totals(writer, table.regions(), table.events())
 }
 
-/// The number of a device that is alone is not told.
+/// Writes the lines of all devices. The number of a device that is alone is not written.
 fn write_memories<W: Sink>(table: &Table, writer: &mut W) -> bool
     ensures { Wrote (W.told writer.old) (W.told writer.new) (memories_text table.now) result }
 {

@@ -1,4 +1,4 @@
-//! Command lines: which are taken, what is told of the others, what the help has.
+//! Command lines: which are accepted, what is printed for the others, what the help has.
 
 use super::{pictures_with, run_tool, same};
 use acc_command::{WordsFault, read_words, tell_words};
@@ -11,8 +11,8 @@ use std::sync::Wait;
 use std::test::Fail;
 use std::thread::Threads;
 
-/// Command lines with an empty script, and their status. What has to stand in the text on standard output and on
-/// standard error follows; an empty one is no text.
+/// Command lines with an empty script, and their status. The words follow that the text on standard output and on
+/// standard error has to have; an empty one is no text.
 const COMMAND_LINES: [(&str, u8, &str, &str); 25] = [
     ("--help", 0, "Usage: accrun [OPTIONS] [FILE]", ""),
     (
@@ -71,7 +71,7 @@ const COMMAND_LINES: [(&str, u8, &str, &str); 25] = [
     ("--host", 2, "", "'--host <BYTES>'"),
 ];
 
-/// The text has these words, or there is none where they are empty.
+/// Checks that the text has these words, or that there is none where they are empty.
 fn check_text<R: Abort>(rt: &R, text: &[u8], part: &str, place: &str) -> Result<(), Utf8Error> {
     let text = str::from_utf8(text)?;
     same(rt, text.is_empty(), part.is_empty(), place);
@@ -114,7 +114,7 @@ fn command_lines_are_read(rt: HostRuntime) -> Result<(), Fail> {
     Ok(())
 }
 
-/// What the help has to name, between bars.
+/// What the help has to name, with bars between the words.
 const HELP_WORDS: &str =
     "[FILE]|--expect <OUTPUT>|--echo|--json|--log|--explain|--svg <PICTURE>|--svg-every <PICTURE>|\
     --version|--emit <LANGUAGE>|--until-refusal|--devices <N>|--threads <N>|--drill <ROUNDS>|\
@@ -126,14 +126,14 @@ const HELP_WORDS: &str =
     kernel number K REF|kernel plus REF REF|show REF|peek REF|present REF|address PLACE|report|\
     REF via PLACE";
 
-/// The help has lines of 80 columns at most.
+/// Checks that the help has lines of 80 columns at most.
 fn check_width<R: Abort>(rt: &R, text: &str) {
     for line in text.lines() {
         same(rt, line.len() <= 80, true, line);
     }
 }
 
-/// The help names each word.
+/// Checks that the help names each word.
 fn check_words<R: Abort>(rt: &R, text: &str) {
     for word in HELP_WORDS.split('|') {
         same(rt, text.contains(word), true, word);

@@ -29,7 +29,7 @@ fn reports_a_table(rt: HostRuntime) -> Result<(), Fail> {
     Ok(())
 }
 
-/// Gives so many line feeds.
+/// Gives this many line feeds.
 #[derive(Drop)]
 struct LineFeeds {
     left: usize,
@@ -44,7 +44,8 @@ impl Source for LineFeeds {
     }
 }
 
-/// Runs a script of so many line feeds; compares how many are left, the answer, and that nothing is printed.
+/// Runs a script of this many line feeds. Compares how many are left and what the run returns, and that nothing is
+/// printed.
 fn check_line_feeds<R: Abort + Threads + Wait + Sync + AllocGlobal>(
     rt: &R,
     count: usize,
@@ -73,7 +74,7 @@ fn reads_so_many_bytes_and_no_more(rt: HostRuntime) -> Result<(), Fail> {
     Ok(())
 }
 
-/// Gives its bytes one by one, and then fails or tells its end.
+/// Gives its bytes one by one, and then fails or gives none.
 #[derive(Drop)]
 pub struct Trickle<'a> {
     pub bytes: &'a [u8],
@@ -145,7 +146,7 @@ pub const LOAN: Row = (
     1,
 );
 
-/// The answer of a run whose script has this status, and no fault.
+/// What a run returns whose script has this status, and no fault.
 pub fn status_of(row: &Row) -> Status {
     if row.4 == 0 {
         Status::Clean
@@ -154,7 +155,8 @@ pub fn status_of(row: &Row) -> Status {
     }
 }
 
-/// Runs the script from a source that gives its bytes one by one, and compares the answer and how much was printed.
+/// Runs the script from a source that gives its bytes one by one. Compares what the run returns and how much was
+/// printed.
 fn check_trickle<R: Abort + Threads + Wait + Sync + AllocGlobal>(
     rt: &R,
     row: &Row,

@@ -1,4 +1,4 @@
-//! What a refused growth leaves of a script. The gate refuses each growth of these tests in turn.
+//! What is left of a script where memory cannot grow. The gate refuses each growth of these tests in turn.
 
 ghost use Rattle.std.specs.Prelude.{◌≤◌};
 
@@ -22,7 +22,7 @@ const SCRIPTS: &[Row] = &[COPYIN, FINALIZED, ATTACHED, ENDED_BLOCK];
 /// A kernel over 127 bytes.
 const KERNEL: Row = ("", NUMBERED, NUMBERS, "", 0);
 
-/// What was printed where memory was wanting is the text of the first lines.
+/// Checks that what was printed, where there was no memory, is the text of the first lines.
 fn check_front<R: Abort>(rt: &R, row: &Row, printed: &Narrow) {
     let (text, len) = (row.2.as_bytes(), printed.len);
     same(rt, printed.taken(), text.get(..len), row.1);
@@ -30,7 +30,7 @@ fn check_front<R: Abort>(rt: &R, row: &Row, printed: &Narrow) {
     assert!(rt; is_line, "{len} bytes are no lines");
 }
 
-/// Runs the script of a row within limits, each kernel in so many parts at most; answers how it ends.
+/// Runs the script of a row within limits, each kernel in this many parts at most; returns how it ends.
 fn run_into<R: Threads + Wait + Sync + AllocGlobal>(
     rt: &R,
     limits: &Limits,
@@ -50,7 +50,7 @@ fn run_into<R: Threads + Wait + Sync + AllocGlobal>(
     )
 }
 
-/// Runs the script of a row; answers whether memory was wanting, and compares.
+/// Runs the script of a row; returns whether memory was lacking, and compares.
 fn is_scarce<R: Abort + Threads + Wait + Sync + AllocGlobal>(
     rt: &R,
     limits: &Limits,
@@ -70,7 +70,7 @@ fn is_scarce<R: Abort + Threads + Wait + Sync + AllocGlobal>(
     false
 }
 
-/// Runs the script of a row, and once more where memory was wanting.
+/// Runs the script of a row, and once more where memory was lacking.
 fn check_scarce<R: Abort + Threads + Wait + Sync + AllocGlobal>(
     rt: &R,
     limits: &Limits,
@@ -104,7 +104,7 @@ fn a_refused_growth_changes_no_byte_of_a_kernel(rt: HostRuntime) {
     check_scarce(&rt, &WIDE, 64, &KERNEL);
 }
 
-/// What a line has to print; `None` where memory is wanting.
+/// What a line has to print; `None` where there is no memory.
 fn effect_at<R: Threads + Wait + Sync + AllocGlobal>(
     rt: &R,
     session: &mut Session,
@@ -115,7 +115,7 @@ fn effect_at<R: Threads + Wait + Sync + AllocGlobal>(
     session.perform(rt, statement).ok()
 }
 
-/// Runs a line, and once more where memory is wanting; answers whether it could be run and its text be written.
+/// Runs a line, and once more where there is no memory; returns whether it ran and its text was written.
 fn run_line<R: Threads + Wait + Sync + AllocGlobal>(
     rt: &R,
     session: &mut Session,
@@ -160,7 +160,7 @@ fn check_lines<R: Abort + Threads + Wait + Sync + AllocGlobal>(
     same(rt, printed.taken(), Some(row.2.as_bytes()), row.1);
 }
 
-/// Opens a session, and once more where memory is wanting.
+/// Opens a session, and once more where there is no memory.
 fn opened<R: AllocGlobal>(rt: &R, limits: &Limits) -> Result<Session, Fault> {
     let config = config(limits)?;
     match Session::new(rt.alloc(), config, 1) {
@@ -189,10 +189,10 @@ fn a_line_that_a_refused_growth_ended_is_made_once_more(rt: HostRuntime) -> Resu
     Ok(())
 }
 
-/// What the program tells where memory is wanting.
+/// What the program writes on standard error where there is no memory.
 const MEMORY: &[u8] = b"accrun: 1 Memory\n";
 
-/// Runs the program on the script of a row; answers whether memory was wanting, and compares.
+/// Runs the program on the script of a row; returns whether memory was lacking, and compares.
 fn is_tool_scarce<R: Abort + Threads + Wait + Sync + AllocGlobal>(rt: &R, row: &Row) -> bool {
     let mut printed = Narrow::new(512, true);
     let mut told = Narrow::new(512, true);

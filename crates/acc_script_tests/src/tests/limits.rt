@@ -1,4 +1,4 @@
-//! Tables with small limits, which the program has not: the limits, a script, what it prints, how it ends.
+//! Tables with small limits, which no option of the program gives: the limits, a script, what it prints, how it ends.
 
 use super::{CLEAN, LimitedRow, REFUSED, answer_of, config, same};
 use acc_base::{Fault, ScriptFault};
@@ -11,7 +11,7 @@ use std::thread::Threads;
 /// A script whose third line is like its second.
 const TWICE: &[u8] = b"array a 20\nenter data copyin(a)\nenter data copyin(a)\n";
 
-/// Directives and copies.
+/// Limits that directives and copies meet.
 const DIRECTIVES: &[LimitedRow] = &[
     ([64, 64, 1, 2, 8, 1, 2], TWICE, "", CLEAN),
     (
@@ -41,7 +41,7 @@ const DIRECTIVES: &[LimitedRow] = &[
             map 0x1000 20 at 0x100000000 structured 0 dynamic 1\nqueue 0 length 1\nregions 0 events 5\n",
         REFUSED,
     ),
-    // A full queue takes what moves nothing: a count, and an exit that does not end the mapping.
+    // What moves nothing is not refused for a full queue: a count, and an exit that does not end the mapping.
     (
         [64, 64, 1, 100, 64, 2, 100],
         b"array a 1\nenter data copyin(a)\nupdate self(a, a) async(4)\nenter data copyin(a) async(4)\n\
@@ -51,7 +51,7 @@ const DIRECTIVES: &[LimitedRow] = &[
     ),
 ];
 
-/// Regions.
+/// Limits that regions meet.
 const REGIONS: &[LimitedRow] = &[
     // Each counter has the limit for itself, and a refused directive counts nothing.
     (
@@ -80,7 +80,7 @@ const REGIONS: &[LimitedRow] = &[
     ),
 ];
 
-/// Kernels.
+/// Limits that kernels meet.
 const KERNELS: &[LimitedRow] = &[
     // No ticket for the loan: nothing is lent.
     (

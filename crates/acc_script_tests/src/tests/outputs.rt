@@ -1,4 +1,4 @@
-//! What the program tells where a source or a sink fails.
+//! What the program writes on standard error where a source or a sink fails.
 
 use super::ends::Trickle;
 use super::{check_status, pictures_with, same, words};
@@ -12,7 +12,7 @@ use std::sync::Wait;
 use std::test::Fail;
 use std::thread::Threads;
 
-/// Takes so many bytes and then fails, and fails to flush where it is told to.
+/// Takes this many bytes and then fails, and fails to flush where a test says so.
 #[derive(Drop)]
 struct LimitedWriter<'a> {
     room: usize,
@@ -40,7 +40,7 @@ impl Write for LimitedWriter<'_> {
     }
 }
 
-/// Keeps what it is told, in how many pieces, and how many bytes of the output were taken by then.
+/// Keeps the text on standard error, in how many pieces it came, and how many bytes of the output were taken by then.
 #[derive(Drop)]
 struct Witness<'a> {
     text: MemorySink,
@@ -79,8 +79,8 @@ fn a_failed_read_runs_nothing(rt: HostRuntime) -> Result<(), Fail> {
     Ok(())
 }
 
-/// How many bytes standard output takes, whether its flush succeeds, the options, a script, what is told, and the
-/// status. Then how many bytes of the output were taken at the end, and before anything was told.
+/// How many bytes standard output takes, whether its flush succeeds, the options, a script, the text on standard error,
+/// and the status. Then how many bytes of the output were taken at the end, and before that text.
 type OutputRow = (
     usize,
     bool,
@@ -91,13 +91,13 @@ type OutputRow = (
     usize,
 );
 
-/// What is told of an output that cannot be written.
+/// The line for an output that cannot be written.
 const WRITE: &str = "accrun: 21 Write\n";
 
-/// What is told of a fault behind the first line.
+/// The line for a fault behind the first line.
 const FAULT: &str = "accrun: line 2: UnknownName\n";
 
-/// All that a buffer kept back is handed on, where that can be done, and else this is told.
+/// A flush writes all that a buffer kept back. Where that fails, the program writes a line on standard error.
 const OUTPUTS: &[OutputRow] = &[
     (100, true, "", "report\n", "", 0, 50),
     (100, true, "", "array a 1\nupdate self(a)\n", "", 1, 37),
@@ -110,12 +110,13 @@ const OUTPUTS: &[OutputRow] = &[
     // What is printed is longer than the buffer, which is full before the line ends.
     (10_000, true, "", "array a 4100\nshow a\n", "", 0, 8201),
     (5_000, true, "", "array a 4100\nshow a\n", WRITE, 2, 5_000),
-    // A program that cannot be taken whole is told; of a script at fault nothing is taken.
+    // A program that cannot be written whole is a fault; of a script at fault nothing is written.
     (100, true, "--emit c", "array a 1\n", WRITE, 2, 100),
     (100, true, "--emit c", "array a 1\nshow b\n", FAULT, 2, 0),
 ];
 
-/// Runs the script of a row over standard output; compares what is told, when, the status, and what was taken.
+/// Runs the script of a row over standard output. Compares the text on standard error, when it came, the status, and
+/// what was taken.
 fn check_output_over<R: Threads + Wait + Sync + AllocGlobal + Abort, O: Sink>(
     rt: &R,
     out: &mut O,

@@ -8,7 +8,8 @@ use std::sync::Wait;
 use std::test::Fail;
 use std::thread::Threads;
 
-/// Options, a script, its status, what some pictures have, or what their file is, and how many they are.
+/// Options, a script, its status, texts in some pictures, or the name of their file, and how many such pictures there
+/// are.
 type Row = (&'static str, &'static str, u8, &'static [&'static str], u64);
 
 /// A life of arrays, with a pointer and a queue.
@@ -150,7 +151,7 @@ const ROWS: [Row; 17] = [
     ),
 ];
 
-/// Runs the script of a row, and compares the status and how many pictures have what they have to.
+/// Runs the script of a row, and compares the status and how many pictures have their texts.
 fn check_row<R: Threads + Wait + Sync + AllocGlobal + Abort>(
     rt: &R,
     row: Row,

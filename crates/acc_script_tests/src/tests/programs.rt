@@ -197,7 +197,7 @@ const PROGRAMS: [Row; 4] = [
     ),
 ];
 
-/// The program of a row has its declarations, and ends with its `main`.
+/// Checks that the program of a row has its declarations, and ends with its `main`.
 fn check_program<R: Threads + Wait + Sync + AllocGlobal + Abort>(
     rt: &R,
     row: Row,

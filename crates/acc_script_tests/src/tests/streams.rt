@@ -11,7 +11,7 @@ use std::sync::Wait;
 use std::test::Fail;
 use std::thread::Threads;
 
-/// Fails once, after so many turns.
+/// Fails once, after this many turns.
 #[derive(Drop)]
 struct Turns {
     left: usize,
@@ -19,7 +19,7 @@ struct Turns {
 }
 
 impl Turns {
-    /// Takes a turn.
+    /// Counts a turn; fails once, where none is left.
     fn take(&mut self) -> io::Result<()> {
         if self.left > 0 {
             self.left -= 1;
@@ -73,11 +73,11 @@ impl Write for Counting<'_> {
     }
 }
 
-/// The reads before one that fails, the writes before one that fails, and what either fails with. Then the answer of
-/// the run of a report, and how many bytes of its 44 were taken.
+/// How many reads or writes come before the one that fails, and what either fails with. Then what the run of a report
+/// returns, and how many of its 44 bytes were taken.
 type Row = (usize, usize, ErrorKind, Result<Status, Fault>, usize);
 
-/// So many turns are never taken.
+/// More turns than a run has.
 const NEVER: usize = usize::MAX;
 
 /// An interruption is no reason to try once more, and no end.
@@ -86,7 +86,7 @@ const HALTS: [Row; 11] = [
     (0, NEVER, ErrorKind::Interrupted, Err(Fault::Read), 0),
     (3, NEVER, ErrorKind::Interrupted, Err(Fault::Read), 0),
     (3, NEVER, ErrorKind::Other, Err(Fault::Read), 0),
-    // The six bytes are given, and their end is not told; or it is, and nothing is read any more.
+    // The six bytes are given, and their end is not met; or it is, and nothing is read any more.
     (6, NEVER, ErrorKind::Interrupted, Err(Fault::Read), 0),
     (7, NEVER, ErrorKind::Interrupted, Ok(Status::Clean), 44),
     (NEVER, 0, ErrorKind::Interrupted, Err(Fault::Write), 0),
@@ -96,7 +96,7 @@ const HALTS: [Row; 11] = [
     (NEVER, 44, ErrorKind::Interrupted, Ok(Status::Clean), 44),
 ];
 
-/// Runs a report over a reader and a writer, and compares the answer and how much was taken.
+/// Runs a report over a reader and a writer, and compares what the run returns and how much was taken.
 fn check_halts<R: Abort + Threads + Wait + Sync + AllocGlobal>(
     rt: &R,
     row: Row,

@@ -1,4 +1,4 @@
-//! Worked examples of scripts: the options, a script, what it prints, what is told on standard error, and the status.
+//! Worked examples of scripts: the options, a script, what it prints, what it writes on standard error, and the status.
 
 use super::Row;
 
@@ -66,7 +66,7 @@ pub const LIVES: &[Row] = &[
         0,
     ),
     ATTACHED,
-    // No copy takes the bytes of an attached pointer.
+    // No copy moves the bytes of an attached pointer.
     (
         "",
         b"array s 16\narray a 16\npoint s[8] to a[0]\nenter data copyin(s) copyin(a via s[8])\n\
@@ -93,7 +93,7 @@ pub const LIVES: &[Row] = &[
     ),
 ];
 
-/// A region that copies nothing out which it did not map.
+/// A region that copies out only what it mapped.
 const ADDED: Row = (
     "",
     b"array a 4\nwrite a[0] 01020304\nenter data copyin(a)\ndata copy(a)\nkernel add 1 a\nend data\nshow a\n\
@@ -103,7 +103,7 @@ const ADDED: Row = (
     0,
 );
 
-/// What `finalize` does not take, as a region holds it.
+/// What `finalize` leaves, as a region holds it.
 pub const FINALIZED: Row = (
     "",
     b"array a 4\nwrite a[0] 0a0b0c0d\nenter data copyin(a)\ndata present(a)\nexit data copyout(a) finalize\nreport\n\
@@ -137,7 +137,7 @@ pub const KERNELS: &[Row] = &[
     ),
 ];
 
-/// The first place at which a block fits exactly; a refused second item takes the first one back.
+/// The first place at which a block fits exactly; a refused second item undoes the first one.
 pub const SMALL_DEVICE: Row = (
     "--device 64",
     b"array a 16\narray b 16\narray c 32\narray d 17\nenter data copyin(a, b, c)\nexit data delete(a)\n\
@@ -193,7 +193,7 @@ pub const REFUSALS: &[Row] = &[
     ),
 ];
 
-/// Scripts at fault that print nothing, and what is told.
+/// Scripts at fault that print nothing, and the text on standard error.
 pub const FAULTS: &[(&[u8], &str)] = &[
     (b"\x80", "accrun: line 1: NotText\n"),
     (b"array a 0", "accrun: line 1: Number\n"),

@@ -1,3 +1,4 @@
+pub mod Kept
 pub mod Words
 pub mod Inside
 pub mod Limits

@@ -1,5 +1,5 @@
 -- The limits of a table, the bounds that each of them keeps, and whether its trace stores bytes.
-use Rattle.std.specs.Prelude.{ℕ, ◌≡◌, ◌+◌, ◌-◌, ◌*◌, ◌/◌, ◌<◌, ◌≤◌, ◌%◌, ◌^◌, Bool, if◌then◌else◌, List, []}
+use Rattle.std.specs.Prelude.{ℕ, ◌≡◌, ◌+◌, ◌*◌, ◌<◌, ◌≤◌, ◌%◌, ◌^◌, Bool, if◌then◌else◌, List, []}
 use Rattle.acc_base.specs.declared.addresses.TheConstants.{DEVICE_BASE, MEMORY_MAX}
 
 pub record Limits : Type 0 where
@@ -39,10 +39,6 @@ recorded full xs = if full then xs else []
 -- where the memory of a device begins: each device has its own addresses
 abbrev pub base_on : ℕ → ℕ
 base_on d = (d + 1) * DEVICE_BASE
-
--- the number of the device whose memory begins there
-abbrev pub number_at : ℕ → ℕ
-number_at base = base / DEVICE_BASE - 1
 
 -- the limits as one device has them
 abbrev pub limits_on : ℕ → Limits → Limits

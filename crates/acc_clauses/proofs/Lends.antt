@@ -7,7 +7,7 @@ use Rattle.acc_clauses.specs.Words.{Section, Range, Block, Loan, Event}
 use Rattle.acc_base.specs.declared.faults.Fault.TheVariants.{NoLease}
 use Rattle.acc_base.specs.declared.events.Event.TheVariants.{Lent}
 use Rattle.acc_base.specs.Results.{refuse_if}
-use Rattle.acc_base.specs.Limits.{Limits, recorded, base_on, number_at, IsWithinBounds}
+use Rattle.acc_base.specs.Limits.{Limits, recorded, base_on, IsWithinBounds}
 use Rattle.acc_base.specs.Records.{Records, State, layout_of}
 use Rattle.acc_base.specs.Blocks.{block_at, used_bytes}
 use Rattle.acc_base.specs.Loans.{Leased, loan_of, is_loan_of, is_lent, with_loan, without_loan, len_of}
@@ -25,7 +25,7 @@ use Rattle.acc_base.proofs.Loaned.{with_loans, placed_loan}
 use Rattle.acc_base.proofs.Memories.{lent_sized, gathered_sized}
 use Rattle.acc_base.proofs.LegalEvents.{lend_legal, IsGathered, gather_legal}
 use Rattle.acc_dev.specs.Marks.{is_ended_at, IsMarkOf}
-use Rattle.acc_dev.specs.Device.{DeviceState, HasBlock, IsTakenOut, IsPutBack}
+use Rattle.acc_dev.specs.Device.{DeviceState, number_at, HasBlock, IsTakenOut, IsPutBack}
 use Rattle.acc_clauses.specs.declared.numbers.Numbers.{Numbers}
 use Rattle.acc_clauses.specs.Contents.{WithHost, Contents, state_of, AreSizedBy, ArePartsSound}
 use Rattle.acc_clauses.specs.Stored.{IsStoreSound, AreHoldingsWithin}

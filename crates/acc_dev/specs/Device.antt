@@ -1,5 +1,6 @@
 -- What a device holds, and what its calls make of it.
-use Rattle.std.specs.Prelude.{ℕ, suc, ◌≡◌, ◌+◌, ◌<◌, ◌≤◌, ◌⊎◌, Bool, true, false, List, [], ◌∷◌, ◌++◌, replicate, map, Option, Some, IsSome}
+use Rattle.std.specs.Prelude.{ℕ, suc, ◌≡◌, ◌+◌, ◌-◌, ◌/◌, ◌<◌, ◌≤◌, ◌⊎◌, Bool, true, false, List, [], ◌∷◌, ◌++◌, replicate, map, Option, Some, IsSome}
+use Rattle.acc_base.specs.declared.addresses.TheConstants.{DEVICE_BASE}
 use Rattle.acc_base.specs.declared.faults.Fault.{Fault}
 use Rattle.acc_base.specs.declared.faults.Fault.TheVariants.{Lent, Memory as OutOfMemory}
 use Rattle.acc_base.specs.declared.loans.Loan.{Loan}
@@ -26,6 +27,10 @@ pub record DeviceState : Type 0 where
   pub loans : List Loan
   pub births : ℕ
   pub room : List ℕ
+
+-- the number of the device whose memory begins there
+abbrev pub number_at : ℕ → ℕ
+number_at base = base / DEVICE_BASE - 1
 
 -- the block is one of the device's
 abbrev pub HasBlock : DeviceState → ℕ → Type 0

@@ -3,7 +3,7 @@
 ghost use Rattle.std.specs.Prelude.{◌≡◌, ◌+◌, ◌^◌, ◌<◌, ◌≤◌, ◌⊎◌, ◌↔◌, ◌++◌, length, drop, [], replicate, All, IfOk, IfErr, OnOk, OnErr, IsSome, IsSomeAnd, IfSome, IsTrue, Err, None, Some, true, false};
 ghost use Rattle.std.specs.List.{AllZip, AllByRecursion};
 ghost use Rattle.std.specs.Bool.{OnTrue, OnFalse};
-ghost use Rattle.acc_base.specs.Limits.{number_at, IsSize, IsFromOne};
+ghost use Rattle.acc_base.specs.Limits.{IsSize, IsFromOne};
 ghost use Rattle.acc_base.specs.Section.{end_of};
 ghost use Rattle.acc_base.specs.Blocks.{rounded as rounded_of, place_for, block_at, size_of, used_bytes, IsPlaceFor};
 ghost use Rattle.acc_base.specs.Holes.{IsDevice, IsNextHole};
@@ -12,7 +12,7 @@ ghost use Rattle.acc_base.specs.Accounts.{IsMemoryOf};
 ghost use Rattle.acc_base.specs.Loans.{loan_of, is_lent};
 ghost use Rattle.acc_placement.specs.Ranges.{IsTakeBelow};
 ghost use Rattle.acc_dev.specs.Marks.{Mark, pins_at, is_ended_at, lowest_ended as lowest_ended_of, IsMarkOf, IsSoundMark};
-ghost use Rattle.acc_dev.specs.Device.{HasBlock, IsNew, IsUnchanged, IsBorn, IsBornWith, IsNextRoom, IsBlockWritten, IsMarked, IsPinned, IsUnpinned, IsEnded, IsRetired, IsLoanOn, AreLoansRising, HasBlocksApart, birth_place, planned_blocks};
+ghost use Rattle.acc_dev.specs.Device.{number_at, HasBlock, IsNew, IsUnchanged, IsBorn, IsBornWith, IsNextRoom, IsBlockWritten, IsMarked, IsPinned, IsUnpinned, IsEnded, IsRetired, IsLoanOn, AreLoansRising, HasBlocksApart, birth_place, planned_blocks};
 ghost use Rattle.acc_dev.specs.Kept.{IsStoredOf};
 
 use crate::ended::EndedBlocks;

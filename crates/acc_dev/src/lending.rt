@@ -1,12 +1,11 @@
 //! The loans of a device: a block is taken out by a lease, which is put back.
 
 ghost use Rattle.std.specs.Prelude.{◌≡◌, ◌+◌, ◌≤◌, ◌↔◌, IfOk, IfErr, OnOk, OnErr, IsOk, IsErr, true, false};
-ghost use Rattle.acc_base.specs.Limits.{number_at};
 ghost use Rattle.acc_base.specs.Bytes.{bytes_of};
 ghost use Rattle.acc_base.specs.Loans.{loan_of, is_lent, len_of};
 ghost use Rattle.acc_base.specs.Leases.{is_returnable};
 ghost use Rattle.acc_dev.specs.Marks.{is_ended_at};
-ghost use Rattle.acc_dev.specs.Device.{HasBlock, IsTakenOut, IsLoanRefused, IsPutBack};
+ghost use Rattle.acc_dev.specs.Device.{number_at, HasBlock, IsTakenOut, IsLoanRefused, IsPutBack};
 
 use crate::devices::Device;
 use crate::entries::{copy_at, lend_at, loan_at, restore_at, slot_of_block};

@@ -1,8 +1,8 @@
 use Rattle.std.proofs.Common.{◌≡◌, sym, subst, true, Result, Ok, Err, OnOk}
 use Rattle.std.specs.Result.{IsOk}
 use Rattle.acc_base.specs.Leases.{is_returnable}
-use Rattle.acc_dev.specs.Device.{IsPutBack}
-use Rattle.acc_base.specs.Limits.{limits_on, number_at}
+use Rattle.acc_dev.specs.Device.{number_at, IsPutBack}
+use Rattle.acc_base.specs.Limits.{limits_on}
 use Rattle.acc_clauses.specs.Contents.{beside, Contents, ArePartsSound}
 use Rattle.acc_clauses.proofs.Lends.{number_told, gathered_parts}
 use Rattle.acc_clauses.proofs.parts.Parts.gather.Goals as goal

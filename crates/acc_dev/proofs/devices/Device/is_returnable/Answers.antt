@@ -1,7 +1,6 @@
 use Rattle.std.proofs.Common.{◌∙◌, ap}
-use Rattle.acc_base.specs.Limits.{number_at}
 use Rattle.acc_base.specs.Leases.{is_returnable}
-use Rattle.acc_dev.specs.Device.{DeviceState}
+use Rattle.acc_dev.specs.Device.{number_at, DeviceState}
 use Rattle.acc_dev.proofs.devices.Device.is_returnable.Goals as goal
 
 pub slot_back-requires-clause-rising : goal.slot_back-requires-clause-rising

@@ -1,10 +1,9 @@
 use Rattle.std.proofs.Common.{◌≡◌, ℕ, Option, true, false, refl, sym, ap, ◌∙◌, subst}
 use Rattle.std.specs.Prelude.{is_some}
 use Rattle.std.proofs.lemmas.Bool.{false≢true}
-use Rattle.acc_base.specs.Limits.{number_at}
 use Rattle.acc_base.specs.Leases.{is_returnable}
 use Rattle.acc_dev.specs.Room.{room_ready}
-use Rattle.acc_dev.specs.Device.{DeviceState, IsPutBack}
+use Rattle.acc_dev.specs.Device.{number_at, DeviceState, IsPutBack}
 use Rattle.acc_dev.specs.Kept.{blocks_in, marks_in}
 use Rattle.acc_dev.proofs.EndedPlaces.{ended_same}
 use Rattle.acc_dev.proofs.Keeping.{device_of, filled_slot, room_kept}

@@ -1,12 +1,11 @@
 use Rattle.std.proofs.lemmas.Result.{err_from_is_err_and}
 use Rattle.std.proofs.Common.{◌≡◌, ◌+◌, ◌≤◌, List, ℕ, true, false, None, get_or, refl, sym, ap, ◌∙◌, subst, inl, inr}
 use Rattle.std.proofs.lemmas.Bool.{false≢true}
-use Rattle.acc_base.specs.Limits.{number_at}
 use Rattle.acc_base.specs.Bytes.{bytes_of}
 use Rattle.acc_base.specs.Loans.{Leased, is_lent, len_of}
 use Rattle.acc_dev.specs.Room.{room_ready}
 use Rattle.acc_dev.specs.Marks.{is_ended_at}
-use Rattle.acc_dev.specs.Device.{DeviceState, IsTakenOut, IsLoanRefused}
+use Rattle.acc_dev.specs.Device.{number_at, DeviceState, IsTakenOut, IsLoanRefused}
 use Rattle.acc_dev.specs.Kept.{stored_bytes, blocks_in, marks_in}
 use Rattle.acc_dev.proofs.EndedPlaces.{ended_same}
 use Rattle.acc_dev.proofs.Keeping.{device_of, block_listed, filled_slot, bytes_at, room_kept}

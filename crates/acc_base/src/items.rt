@@ -1,5 +1,9 @@
 //! Sections of host memory, and the items of data clauses.
 
+ghost use Rattle.std.specs.Prelude.{◌≡◌};
+ghost use Rattle.acc_base.specs.Section.{end_of, is_within, is_apart};
+ghost use Rattle.acc_base.specs.Clauses.{as_region, copies_in, copies_out, is_copyout, is_to_self, is_zeroed, is_attach, is_detach};
+
 /// The host addresses from `start` to `start + len - 1`, in bytes (OpenACC 3.3, section 2.6, data environment).
 ///
 /// Addresses are whole numbers without an upper bound: a section may reach past the last `u64`.
@@ -9,6 +13,29 @@ pub struct Section {
     pub start: u64,
     /// The length in bytes. With 0 the section is empty.
     pub len: u64,
+}
+
+impl Section {
+    /// The host address behind its last one.
+    pub fn end(self) -> u128
+        ensures { result ≡ end_of self }
+    {
+        u128::from(self.start) + u128::from(self.len)
+    }
+
+    /// Whether each of its addresses is one of the other's. It is not empty.
+    pub fn is_within(self, other: Section) -> bool
+        ensures { result ≡ is_within self other }
+    {
+        other.start <= self.start && self.end() <= other.end()
+    }
+
+    /// Whether none of its addresses is one of the other's. Neither is empty.
+    pub fn is_apart(self, other: Section) -> bool
+        ensures { result ≡ is_apart self other }
+    {
+        self.end() <= u128::from(other.start) || other.end() <= u128::from(self.start)
+    }
 }
 
 /// One item of a data clause: the clause and the section that stands in it.
@@ -51,6 +78,39 @@ pub enum RegionClause {
     Attach,
 }
 
+impl RegionClause {
+    /// Whether a new block gets the bytes of the section.
+    pub fn copies_in(self) -> bool
+        ensures { result ≡ copies_in self }
+    {
+        matches!(self, RegionClause::Copy | RegionClause::Copyin)
+    }
+
+    /// Whether host memory gets the bytes of the section just before the mapping ends.
+    pub fn copies_out(self) -> bool
+        ensures { result ≡ copies_out self }
+    {
+        matches!(self, RegionClause::Copy | RegionClause::Copyout { .. })
+    }
+
+    /// Whether it has the modifier `zero`.
+    pub fn is_zeroed(self) -> bool
+        ensures { result ≡ is_zeroed self }
+    {
+        match self {
+            RegionClause::Copyout { zero } | RegionClause::Create { zero } => zero,
+            _ => false,
+        }
+    }
+
+    /// Whether it is `attach`, which names a pointer alone.
+    pub fn is_attach(self) -> bool
+        ensures { result ≡ is_attach self }
+    {
+        matches!(self, RegionClause::Attach)
+    }
+}
+
 /// The clauses of the `enter data` directive (OpenACC 3.3, sections 2.6.6 and 2.7).
 #[derive(Clone, Copy, Debug, PartialEq, Eq)]
 pub enum EnterClause {
@@ -66,6 +126,19 @@ pub enum EnterClause {
     Attach,
 }
 
+impl EnterClause {
+    /// The clause of a region that does the same on entry.
+    pub fn as_region(self) -> RegionClause
+        ensures { result ≡ as_region self }
+    {
+        match self {
+            EnterClause::Copyin => RegionClause::Copyin,
+            EnterClause::Create { zero } => RegionClause::Create { zero },
+            EnterClause::Attach => RegionClause::Attach,
+        }
+    }
+}
+
 /// The clauses of the `exit data` directive (OpenACC 3.3, sections 2.6.6 and 2.7).
 #[derive(Clone, Copy, Debug, PartialEq, Eq)]
 pub enum ExitClause {
@@ -79,6 +152,22 @@ pub enum ExitClause {
     Detach,
 }
 
+impl ExitClause {
+    /// Whether host memory gets the bytes of the section just before the mapping ends.
+    pub fn copies_out(self) -> bool
+        ensures { result ≡ is_copyout self }
+    {
+        matches!(self, ExitClause::Copyout)
+    }
+
+    /// Whether it is `detach`, which names a pointer alone.
+    pub fn is_detach(self) -> bool
+        ensures { result ≡ is_detach self }
+    {
+        matches!(self, ExitClause::Detach)
+    }
+}
+
 /// The clauses of the `update` directive (OpenACC 3.3, the update directive).
 #[derive(Clone, Copy, Debug, PartialEq, Eq)]
 pub enum UpdateClause {
@@ -86,4 +175,13 @@ pub enum UpdateClause {
     ToSelf,
     /// The `device` clause: the bytes of the section are copied from host memory to the device.
     ToDevice,
+}
+
+impl UpdateClause {
+    /// Whether it copies to host memory, and not to the device.
+    pub fn copies_out(self) -> bool
+        ensures { result ≡ is_to_self self }
+    {
+        matches!(self, UpdateClause::ToSelf)
+    }
 }

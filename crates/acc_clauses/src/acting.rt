@@ -14,7 +14,7 @@ ghost use Rattle.acc_clauses.specs.Acts.{CanAct, CanCount, CanBear, CanMove, Can
 
 use crate::environments::Environment;
 use crate::pointers::aim_on;
-use crate::rows::{copies_in, gives_bytes, is_zeroed, queue_of, section_of};
+use crate::rows::{gives_bytes, queue_of, section_of};
 use crate::transfers::{move_bytes, transfer_at};
 use acc_base::{Counter, Did, Item, RegionClause, Section, Step, Task, Transfer};
 use acc_dev::Device;
@@ -57,7 +57,7 @@ fn recount(present: &mut Present, task: Task, block: u64, hint: Hint)
 fn is_copied_now(clause: RegionClause, queue: Option<u64>) -> bool
     ensures { result ≡ is_copied_now clause queue }
 {
-    copies_in(clause) && queue.is_none()
+    clause.copies_in() && queue.is_none()
 }
 
 /// A new block for a section that is mapped by a clause, with its bytes: copied at once, or filled.
@@ -77,7 +77,7 @@ fn make_block(
         };
         device.born_with_reserved(bytes);
     } else {
-        device.born_reserved(section.len, is_zeroed(clause));
+        device.born_reserved(section.len, clause.is_zeroed());
     }
 }
 
@@ -93,7 +93,7 @@ fn fill_later(
     requires marked { AreMarked (beside environment.old host.old) }
     ensures filled { IsFilledLater queue item block (beside environment.old host.old) (beside environment.new host.new) }
 {
-    if queue.is_some() && copies_in(item.clause) {
+    if queue.is_some() && item.clause.copies_in() {
         let section = section_of(Task::Enter {
             counter: Counter::Dynamic,
             item,

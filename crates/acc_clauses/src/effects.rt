@@ -5,7 +5,6 @@ ghost use Rattle.acc_clauses.specs.Overlays.{recount, are_zero, counters_by, cou
 
 use crate::acted::Acted;
 use crate::rows::{moves, queue_of, section_of};
-use crate::sections::{is_apart, is_within};
 use acc_base::{Counter, Counters, Found, Section, Step, Task};
 
 /// The counters of a range that a task counts or drops.
@@ -97,11 +96,11 @@ fn found_beside(section: Section, range: Section, block: u64, found: Found) -> F
 {
     match found {
         Found::Absent => {
-            if is_within(section, range) {
+            if section.is_within(range) {
                 let offset = section.start - range.start;
                 return Found::Inside { block, offset };
             }
-            if is_apart(section, range) {
+            if section.is_apart(range) {
                 return Found::Absent;
             }
             Found::Partly

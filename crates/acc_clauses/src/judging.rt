@@ -13,7 +13,6 @@ ghost use Rattle.acc_clauses.specs.Aims.{step_free};
 ghost use Rattle.acc_base.specs.Steps.{block_needed, judge_row};
 ghost use Rattle.acc_base.specs.Queues.{queue_named};
 ghost use Rattle.acc_base.specs.Transfers.{transfer_of, room_for};
-ghost use Rattle.acc_base.specs.Blocks.{rounded};
 ghost use Rattle.acc_base.specs.declared.events.Step.TheVariants.{Dropped};
 ghost use Rattle.acc_clauses.specs.Overlays.{IsPlanned, AreUnmixed, tasks_in, records_after, enters, are_zero, recount};
 
@@ -23,11 +22,12 @@ use crate::lending::not_lent;
 use crate::parts::Parts;
 use crate::readings::{counters_after, number_after, place_after, queue_len_after};
 use crate::rows::{moves, pointer_of, queue_of, section_of};
-use crate::sections::{POINTER_LEN, is_within, pointer_at};
+use crate::sections::{POINTER_LEN, pointer_at};
 use acc_base::{
     Aim, Counter, Counters, ExitClause, Fault, Found, HOST_BASE, Holding, Item, RegionClause,
     Section, Step, Task, UpdateClause,
 };
+use acc_placement::rounded;
 use acc_present::{Hint, Located};
 
 /// A section that is not empty lies in host memory. Nothing of an empty one is checked.
@@ -38,7 +38,7 @@ pub(crate) fn in_host(parts: &Parts, n: u64, section: Section) -> Result<(), Fau
         start: HOST_BASE,
         len: parts.host_size(),
     };
-    if section.len != 0 && !is_within(section, host) {
+    if section.len != 0 && !section.is_within(host) {
         return Err(Fault::OutOfHost { item: n });
     }
     Ok(())
@@ -55,7 +55,7 @@ fn pointer_checked(parts: &Parts, n: u64, pointer: Option<u64>) -> Result<(), Fa
         start: HOST_BASE,
         len: parts.host_size(),
     };
-    if !is_within(pointer_at(pointer), host) {
+    if !pointer_at(pointer).is_within(host) {
         return Err(Fault::OutOfHost { item: n });
     }
     if pointer % POINTER_LEN != 0 {
@@ -70,14 +70,6 @@ fn checked(parts: &Parts, n: u64, task: Task) -> Result<(), Fault>
 {
     in_host(parts, n, section_of(task))?;
     pointer_checked(parts, n, pointer_of(task))
-}
-
-// What a block takes of the device: the least multiple of 16 that is at least its length.
-fn rounded(len: u64) -> u64
-    requires { len ≤ MEMORY_MAX }
-    ensures { result ≡ rounded len }
-{
-    16 * ((len + 15) / 16)
 }
 
 // The section is mapped to a new block, where the device has a place for it.

@@ -3,25 +3,11 @@
 ghost use Rattle.std.specs.Prelude.{◌≡◌};
 ghost use Rattle.acc_base.specs.Tasks.{section_of, pointer_of, queue_of};
 ghost use Rattle.acc_base.specs.Steps.{is_action, pointer_aimed};
-ghost use Rattle.acc_base.specs.Clauses.{is_attach, is_detach, section_named, pointer_named, copies_in, copies_out, is_zeroed};
+ghost use Rattle.acc_base.specs.Clauses.{section_named, pointer_named};
 ghost use Rattle.acc_base.specs.Transfers.{gets_bytes, gives_bytes, goes_out};
 ghost use Rattle.acc_clauses.specs.Overlays.{moves};
 
-use acc_base::{ExitClause, RegionClause, Section, Step, Task, UpdateClause};
-
-// The clause names a pointer alone.
-fn is_attach(clause: RegionClause) -> bool
-    ensures { result ≡ is_attach clause }
-{
-    matches!(clause, RegionClause::Attach)
-}
-
-// The clause names a pointer alone.
-fn is_detach(clause: ExitClause) -> bool
-    ensures { result ≡ is_detach clause }
-{
-    matches!(clause, ExitClause::Detach)
-}
+use acc_base::{Section, Step, Task};
 
 // The section that an item names.
 fn section_named(alone: bool, section: Section) -> Section
@@ -55,9 +41,9 @@ pub fn section_of(task: Task) -> Section
     ensures { result ≡ section_of task }
 {
     match task {
-        Task::Enter { item, .. } => section_named(is_attach(item.clause), item.section),
+        Task::Enter { item, .. } => section_named(item.clause.is_attach(), item.section),
         Task::ExitRegion { holding } => holding.item.section,
-        Task::ExitData { item, .. } => section_named(is_detach(item.clause), item.section),
+        Task::ExitData { item, .. } => section_named(item.clause.is_detach(), item.section),
         Task::Move { item, .. } => item.section,
     }
 }
@@ -68,10 +54,10 @@ pub fn pointer_of(task: Task) -> Option<u64>
 {
     match task {
         Task::Enter { item, .. } => {
-            pointer_named(is_attach(item.clause), item.section, item.pointer)
+            pointer_named(item.clause.is_attach(), item.section, item.pointer)
         }
         Task::ExitData { item, .. } => {
-            pointer_named(is_detach(item.clause), item.section, item.pointer)
+            pointer_named(item.clause.is_detach(), item.section, item.pointer)
         }
         _ => None,
     }
@@ -92,8 +78,8 @@ pub fn pointer_aimed(task: Task, step: Step) -> Option<u64>
     ensures { result ≡ pointer_aimed task step }
 {
     let alone = match task {
-        Task::Enter { item, .. } => is_attach(item.clause),
-        Task::ExitData { item, .. } => is_detach(item.clause),
+        Task::Enter { item, .. } => item.clause.is_attach(),
+        Task::ExitData { item, .. } => item.clause.is_detach(),
         _ => false,
     };
     if alone || is_action(step) {
@@ -115,39 +101,12 @@ pub fn queue_of(task: Task) -> Option<u64>
     }
 }
 
-/// A new block of this clause gets the bytes of the section.
-pub fn copies_in(clause: RegionClause) -> bool
-    ensures { result ≡ copies_in clause }
-{
-    match clause {
-        RegionClause::Copy | RegionClause::Copyin => true,
-        _ => false,
-    }
-}
-
-/// Just before the mapping ends, host memory gets the bytes of the section.
-fn copies_out(clause: RegionClause) -> bool
-    ensures { result ≡ copies_out clause }
-{
-    matches!(clause, RegionClause::Copy | RegionClause::Copyout { .. })
-}
-
-/// The modifier `zero` of a clause.
-pub fn is_zeroed(clause: RegionClause) -> bool
-    ensures { result ≡ is_zeroed clause }
-{
-    match clause {
-        RegionClause::Copyout { zero } | RegionClause::Create { zero } => zero,
-        _ => false,
-    }
-}
-
 // A birth by this task copies the section to the new block.
 fn gets_bytes(task: Task) -> bool
     ensures { result ≡ gets_bytes task }
 {
     match task {
-        Task::Enter { item, .. } => copies_in(item.clause),
+        Task::Enter { item, .. } => item.clause.copies_in(),
         _ => false,
     }
 }
@@ -157,8 +116,8 @@ pub fn gives_bytes(task: Task) -> bool
     ensures { result ≡ gives_bytes task }
 {
     match task {
-        Task::ExitRegion { holding } => copies_out(holding.item.clause),
-        Task::ExitData { item, .. } => matches!(item.clause, ExitClause::Copyout),
+        Task::ExitRegion { holding } => holding.item.clause.copies_out(),
+        Task::ExitData { item, .. } => item.clause.copies_out(),
         _ => false,
     }
 }
@@ -170,7 +129,7 @@ pub fn goes_out(task: Task) -> bool
     match task {
         Task::Enter { .. } => false,
         Task::ExitRegion { .. } | Task::ExitData { .. } => true,
-        Task::Move { item, .. } => matches!(item.clause, UpdateClause::ToSelf),
+        Task::Move { item, .. } => item.clause.copies_out(),
     }
 }
 

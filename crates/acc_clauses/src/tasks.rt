@@ -2,29 +2,17 @@
 
 ghost use Rattle.std.specs.Prelude.{ℕ, ◌≡◌, ◌<◌, ◌≤◌, length, get_or};
 ghost use Rattle.acc_base.specs.declared.tasks.Task.{Task};
-ghost use Rattle.acc_base.specs.Clauses.{as_region};
 ghost use Rattle.acc_base.specs.Walk.{enter_data_task};
 ghost use Rattle.acc_base.specs.Judge.{tasks_with};
 
-use acc_base::{Counter, Directive, EnterClause, Holding, Item, RegionClause, Task};
-
-// A clause of `enter data` is the row of this clause of a region.
-fn as_region(clause: EnterClause) -> RegionClause
-    ensures { result ≡ as_region clause }
-{
-    match clause {
-        EnterClause::Copyin => RegionClause::Copyin,
-        EnterClause::Create { zero } => RegionClause::Create { zero },
-        EnterClause::Attach => RegionClause::Attach,
-    }
-}
+use acc_base::{Counter, Directive, EnterClause, Holding, Item, Task};
 
 // The task of an item of `enter data`.
 fn enter_data_task(item: Item<EnterClause>, queue: Option<u64>) -> Task
     ensures { result ≡ enter_data_task queue item }
 {
     let item = Item {
-        clause: as_region(item.clause),
+        clause: item.clause.as_region(),
         section: item.section,
         pointer: item.pointer,
     };

@@ -109,7 +109,7 @@ fn reply_told(directive: &Directive, number: u64) -> Reply
 }
 
 /// Makes room for a planned directive in the store and for its event in the trace. It returns what the items will do,
-/// as the event stores it: a list of its own, allocated at its length.
+/// as the event stores it: a list of its own, which takes no memory for one item.
 fn make_room(
     store: &mut Store,
     trace: &mut Vec<Event>,
@@ -123,10 +123,10 @@ fn make_room(
     ensures place { OnOk result (vec_len trace.new < vec_capacity trace.new) }
     ensures only { IfErr result (λ fault. fault ≡ Memory) }
 {
-    let did = plan.did().to_vec(*trace.allocator())?;
+    let did = List::from_slice(*trace.allocator(), plan.did())?;
     trace.reserve(1)?;
     store.reserve(directive, plan)?;
-    Ok(List::from_vec(did))
+    Ok(did)
 }
 
 /// Does a directive for which this was planned and room was made, and returns the reply. The directive is not idle.

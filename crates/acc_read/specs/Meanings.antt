@@ -24,7 +24,7 @@ meaning_of code.Report = Report
 
 -- what clauses in memory say
 abbrev pub clauses_read : {C : Type 0} → Clauses C → ClausesRead C
-clauses_read clauses = record { items = clauses.items.items; has_option = clauses.has_option; queue = clauses.queue }
+clauses_read clauses = record { items = clauses.items; has_option = clauses.has_option; queue = clauses.queue }
 
 -- ---- lists that are being filled
 

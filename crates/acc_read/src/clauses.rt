@@ -13,14 +13,14 @@ use crate::kept::Kept;
 use crate::queues::async_queue_at;
 use crate::tokens::{is_at_end, is_mark_next, is_word_before, mark_at, skip_comma, word_at};
 use crate::troubles::Trouble;
-use acc_base::{Item, ScriptFault};
+use acc_base::{Item, List as Items, ScriptFault};
 use std::alloc::Global;
 
 /// What the clauses and options of a directive say.
 #[derive(Drop)]
 pub struct Clauses<C> {
     /// The items, in written order.
-    pub items: Vec<Item<C>>,
+    pub items: Items<Item<C>>,
     /// Whether the directive's option stands among them: `finalize` or `if_present`.
     pub has_option: bool,
     /// The queue of `async`, if it stands among them (OpenACC 3.3, section 2.16).
@@ -176,7 +176,7 @@ fn with_clause<C: Copy>(unfinished: Unfinished<C>) -> Result<Clauses<C>, Trouble
     ensures { (read : ClausesRead C) → IsRead unfinished read → Gives always clauses_read result (with_clause read) }
 {
     let items = unfinished.items.finish()?;
-    if items.is_empty() {
+    if items.as_slice().is_empty() {
         return Err(Trouble::Line(ScriptFault::Syntax));
     }
     Ok(Clauses {

@@ -10,7 +10,7 @@ use crate::queues::last_enclosed_at;
 use crate::statements::Statement;
 use crate::tokens::{is_at_end, keyword_at};
 use crate::troubles::Trouble;
-use acc_base::{Directive, List, ScriptFault};
+use acc_base::{Directive, ScriptFault};
 use std::alloc::Global;
 
 /// The start of a `data` construct on a device (OpenACC 3.3, section 2.6.5).
@@ -23,7 +23,7 @@ pub fn data_at(
 ) -> Result<Statement<'static>, Trouble>
     ensures { Gives takes_memory meaning_of result (data_at arrays.now device text.now) }
 {
-    let items = List::from_vec(clauses_at(alloc, arrays, text)?.items);
+    let items = clauses_at(alloc, arrays, text)?.items;
     Ok(Statement::Direct(Directive::Enter { device, items }))
 }
 
@@ -59,7 +59,7 @@ pub fn enter_at(
     Ok(Statement::Direct(Directive::EnterData {
         device,
         queue: clauses.queue,
-        items: List::from_vec(clauses.items),
+        items: clauses.items,
     }))
 }
 
@@ -79,7 +79,7 @@ pub fn exit_at(
         device,
         finalize: clauses.has_option,
         queue: clauses.queue,
-        items: List::from_vec(clauses.items),
+        items: clauses.items,
     }))
 }
 
@@ -98,7 +98,7 @@ pub fn update_at(
         device,
         if_present: clauses.has_option,
         queue: clauses.queue,
-        items: List::from_vec(clauses.items),
+        items: clauses.items,
     }))
 }
 

@@ -3,6 +3,7 @@
 ghost use Rattle.std.specs.Prelude.{◌≡◌, ◌==◌, ◌∷◌, ◌++◌, [], false, List, length, MatchResult};
 ghost use Rattle.acc_read.specs.Meanings.{IsKept};
 
+use acc_base::List as Items;
 use std::alloc::{AllocError, Global};
 
 /// What is kept of the items of a line. Once memory was refused for one of them no more are kept, and the rest of the
@@ -33,20 +34,23 @@ impl<T: Copy> Kept<T> {
         }
     }
 
-    /// All items. The list gives back the places that no item needs.
+    /// All items, in no more memory than they need: one takes none.
     ///
     /// # Errors
     ///
     /// Where memory was wanting for one of them.
-    pub fn finish(self) -> Result<Vec<T>, AllocError>
+    pub fn finish(self) -> Result<Items<T>, AllocError>
         ensures { (items : List T) → IsKept self items
-            → MatchResult result (λ all. all.items ≡ items) (λ _. (length items == 0) ≡ false) }
+            → MatchResult result (λ all. all ≡ items) (λ _. (length items == 0) ≡ false) }
     {
         if self.is_wanting {
             return Err(AllocError);
         }
         let mut items = self.items;
+        if let [item] = items.as_slice() {
+            return Ok(Items::one(*item));
+        }
         items.shrink_to_fit();
-        Ok(items)
+        Ok(Items::from_vec(items))
     }
 }

@@ -4,7 +4,7 @@ ghost use Rattle.acc_present.specs.Present.{HasRange};
 
 use crate::measuring::Subject;
 use acc_base::{Counters, Fault, Found, HOST_BASE, Section};
-use acc_present::{Hint, Located, Present};
+use acc_present::Present;
 use std::alloc::Global;
 
 /// A table of so many ranges of 16 bytes.
@@ -40,8 +40,8 @@ impl Mapped {
     /// Maps 16 bytes from an address on to the next block, where they are absent and it has no range.
     fn map(&mut self, start: u64) -> Result<(), Fault> {
         let section = Section { start, len: 16 };
-        let is_new = self.present.range(self.next, Hint::default()).is_none();
-        if is_new && self.present.find(section).found == Found::Absent {
+        let is_new = self.present.range(self.next).is_none();
+        if is_new && self.present.find(section) == Found::Absent {
             self.present.add(section, self.next)?;
             self.next = self.next.wrapping_add(1);
         }
@@ -50,23 +50,22 @@ impl Mapped {
 
     /// Ends the mapping of the range at an address.
     fn unmap(&mut self, start: u64) {
-        let Located { found, hint } = self.present.find(Section { start, len: 16 });
-        if let Found::Inside { block, .. } = found {
-            end_mapping(&mut self.present, block, hint);
+        if let Found::Inside { block, .. } = self.present.find(Section { start, len: 16 }) {
+            end_mapping(&mut self.present, block);
         }
     }
 }
 
 /// Ends the mapping to a block, where no counter of it is above zero.
-fn end_mapping(present: &mut Present, block: u64, hint: Hint)
+fn end_mapping(present: &mut Present, block: u64)
     requires { HasRange present.old.table block }
 {
     let unused = Counters {
         structured: 0,
         dynamic: 0,
     };
-    if present.counters(block, hint) == unused {
-        present.remove(block, hint);
+    if present.counters(block) == unused {
+        present.remove(block);
     }
 }
 
@@ -100,7 +99,7 @@ impl Subject for Mapped {
         match work {
             Work::Find(behind) => {
                 let start = start.wrapping_add(*behind);
-                let found = self.present.find(Section { start, len: 8 }).found;
+                let found = self.present.find(Section { start, len: 8 });
                 Ok(u64::from(found != Found::Absent))
             }
             Work::Change(behind) => {

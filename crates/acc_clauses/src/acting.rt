@@ -19,36 +19,36 @@ use crate::transfers::{move_bytes, transfer_at};
 use acc_base::{Counter, Did, Item, RegionClause, Section, Step, Task, Transfer};
 use acc_dev::Device;
 use acc_host::HostMem;
-use acc_present::{Hint, Present};
+use acc_present::Present;
 
 /// Raises a counter of the range that is mapped to a block.
-fn raise(present: &mut Present, counter: Counter, block: u64, hint: Hint)
+fn raise(present: &mut Present, counter: Counter, block: u64)
     requires there { HasRange present.old.table block }
     requires below { counter_of counter block present.old.table.ranges < present.old.table.counter_max }
     ensures table { present.new.table ≡ with_ranges present.old.table (changed_at block (risen counter) present.old.table.ranges) }
     ensures room { IsRoomKept present.old.room present.new.room }
 {
     let raised = match counter {
-        Counter::Structured => present.count_structured(block, hint),
-        Counter::Dynamic => present.count_dynamic(block, hint),
+        Counter::Structured => present.count_structured(block),
+        Counter::Dynamic => present.count_dynamic(block),
     };
     let Ok(()) = raised else { unreachable!() };
 }
 
 /// Changes the counters of the range that is mapped to a block as the task does (OpenACC 3.3, section 2.6.7).
-fn recount(present: &mut Present, task: Task, block: u64, hint: Hint)
+fn recount(present: &mut Present, task: Task, block: u64)
     requires can { CanCount present.old.table.counter_max task block present.old.table.ranges }
     ensures table { present.new.table ≡ with_ranges present.old.table (changed_at block (recounted task) present.old.table.ranges) }
     ensures room { IsRoomKept present.old.room present.new.room }
 {
     match task {
-        Task::Enter { counter, .. } => raise(present, counter, block, hint),
-        Task::ExitRegion { .. } => present.drop_structured(block, hint),
-        Task::ExitData { finalize: true, .. } => present.clear_dynamic(block, hint),
+        Task::Enter { counter, .. } => raise(present, counter, block),
+        Task::ExitRegion { .. } => present.drop_structured(block),
+        Task::ExitData { finalize: true, .. } => present.clear_dynamic(block),
         Task::ExitData {
             finalize: false,
             ..
-        } => present.drop_dynamic(block, hint),
+        } => present.drop_dynamic(block),
         Task::Move { .. } => {}
     }
 }
@@ -134,13 +134,13 @@ fn bear(
     let copied = is_copied_now(item.clause, queue);
     environment.device.laws();
     make_block(&mut environment.device, host, copied, section, item.clause);
-    let hint = environment.present.add_reserved(section, block);
-    raise(&mut environment.present, counter, block, hint);
+    environment.present.add_reserved(section, block);
+    raise(&mut environment.present, counter, block);
     fill_later(environment, host, queue, item, block);
 }
 
 /// Where the task copies at the end of a mapping, host memory gets the bytes of the section, at once or later.
-fn give_bytes(environment: &mut Environment, host: &mut HostMem, task: Task, block: u64, hint: Hint)
+fn give_bytes(environment: &mut Environment, host: &mut HostMem, task: Task, block: u64)
     requires can { CanMove (section_of task) block (bare_state (beside environment.old host.old)) }
     requires free { is_lent block environment.old.device.loans ≡ false }
     requires queue { CanQueue task (Dropped block true) (beside environment.old host.old) }
@@ -149,13 +149,13 @@ fn give_bytes(environment: &mut Environment, host: &mut HostMem, task: Task, blo
     ensures given { IsGivenBy task block (beside environment.old host.old) (beside environment.new host.new) }
 {
     if gives_bytes(task) {
-        let t = transfer_at(&environment.present, task, block, hint);
+        let t = transfer_at(&environment.present, task, block);
         move_bytes(environment, host, queue_of(task), t);
     }
 }
 
 /// Ends the mapping to a block. A block that a queued transfer names stays; else it is given back.
-fn end(environment: &mut Environment, host: &mut HostMem, task: Task, block: u64, hint: Hint)
+fn end(environment: &mut Environment, host: &mut HostMem, task: Task, block: u64)
     requires can { CanDrop task block true (bare_state (beside environment.old host.old)) }
     requires free { is_lent block environment.old.device.loans ≡ false }
     requires queue { CanQueue task (Dropped block true) (beside environment.old host.old) }
@@ -163,24 +163,17 @@ fn end(environment: &mut Environment, host: &mut HostMem, task: Task, block: u64
     requires marked { AreMarked (beside environment.old host.old) }
     ensures acted { IsActedBy task (Dropped block true) (beside environment.old host.old) (beside environment.new host.new) }
 {
-    give_bytes(environment, host, task, block, hint);
+    give_bytes(environment, host, task, block);
     environment.device.laws();
-    recount(&mut environment.present, task, block, hint);
-    environment.present.remove(block, hint);
+    recount(&mut environment.present, task, block);
+    environment.present.remove(block);
     if environment.device.retire(block) {
         environment.attached.forget(block);
     }
 }
 
 /// Lowers the counters of a range, or ends its mapping where none is above zero then.
-fn lower(
-    environment: &mut Environment,
-    host: &mut HostMem,
-    task: Task,
-    block: u64,
-    ended: bool,
-    hint: Hint,
-)
+fn lower(environment: &mut Environment, host: &mut HostMem, task: Task, block: u64, ended: bool)
     requires can { CanDrop task block ended (bare_state (beside environment.old host.old)) }
     requires free { is_lent block environment.old.device.loans ≡ false }
     requires queue { CanQueue task (Dropped block ended) (beside environment.old host.old) }
@@ -189,14 +182,14 @@ fn lower(
     ensures acted { IsActedBy task (Dropped block ended) (beside environment.old host.old) (beside environment.new host.new) }
 {
     if ended {
-        end(environment, host, task, block, hint);
+        end(environment, host, task, block);
     } else {
-        recount(&mut environment.present, task, block, hint);
+        recount(&mut environment.present, task, block);
     }
 }
 
 /// Copies the section of an update, at once or later.
-fn update(environment: &mut Environment, host: &mut HostMem, task: Task, block: u64, hint: Hint)
+fn update(environment: &mut Environment, host: &mut HostMem, task: Task, block: u64)
     requires can { CanMove (section_of task) block (bare_state (beside environment.old host.old)) }
     requires needed { CanNeed task (Moved block) (beside environment.old host.old) }
     requires queue { CanQueue task (Moved block) (beside environment.old host.old) }
@@ -204,12 +197,12 @@ fn update(environment: &mut Environment, host: &mut HostMem, task: Task, block: 
     requires marked { AreMarked (beside environment.old host.old) }
     ensures acted { IsActedBy task (Moved block) (beside environment.old host.old) (beside environment.new host.new) }
 {
-    let t = transfer_at(&environment.present, task, block, hint);
+    let t = transfer_at(&environment.present, task, block);
     move_bytes(environment, host, queue_of(task), t);
 }
 
 /// Does the step of a task.
-fn step_on(environment: &mut Environment, host: &mut HostMem, task: Task, step: Step, hint: Hint)
+fn step_on(environment: &mut Environment, host: &mut HostMem, task: Task, step: Step)
     requires can { CanAct environment.old.present.table.counter_max environment.old.device.memory task step (bare_state (beside environment.old host.old)) }
     requires needed { CanNeed task step (beside environment.old host.old) }
     requires queue { CanQueue task step (beside environment.old host.old) }
@@ -220,7 +213,7 @@ fn step_on(environment: &mut Environment, host: &mut HostMem, task: Task, step: 
 {
     match step {
         Step::Nothing => {}
-        Step::Counted { block } => recount(&mut environment.present, task, block, hint),
+        Step::Counted { block } => recount(&mut environment.present, task, block),
         Step::Born { block, place } => {
             let Task::Enter {
                 counter,
@@ -232,20 +225,13 @@ fn step_on(environment: &mut Environment, host: &mut HostMem, task: Task, step: 
             };
             bear(environment, host, counter, item, queue, block, place);
         }
-        Step::Dropped { block, ended } => lower(environment, host, task, block, ended, hint),
-        Step::Moved { block } => update(environment, host, task, block, hint),
+        Step::Dropped { block, ended } => lower(environment, host, task, block, ended),
+        Step::Moved { block } => update(environment, host, task, block),
     }
 }
 
-/// Does what a task does: entry attaches after its step, and exit detaches before its step. The hint is of the range of
-/// the task.
-pub(crate) fn act_on(
-    environment: &mut Environment,
-    host: &mut HostMem,
-    task: Task,
-    did: Did,
-    hint: Hint,
-)
+/// Does what a task does: entry attaches after its step, and exit detaches before its step.
+pub(crate) fn act_on(environment: &mut Environment, host: &mut HostMem, task: Task, did: Did)
     requires can { CanDo (beside environment.old host.old) task did }
     requires room { HasRoomFor (birth_of task did.step) (room_of (beside environment.old host.old)) }
     requires pointers { pointers_of did.aim ≤ (room_of (beside environment.old host.old)).attachments }
@@ -255,12 +241,12 @@ pub(crate) fn act_on(
 {
     match task {
         Task::Enter { .. } => {
-            step_on(environment, host, task, did.step, hint);
+            step_on(environment, host, task, did.step);
             aim_on(environment, host, did.aim);
         }
         Task::ExitRegion { .. } | Task::ExitData { .. } | Task::Move { .. } => {
             aim_on(environment, host, did.aim);
-            step_on(environment, host, task, did.step, hint);
+            step_on(environment, host, task, did.step);
         }
     }
 }

@@ -24,7 +24,7 @@ pub(crate) fn attach(parts: &Parts, draft: &Draft, n: u64, pointer: u64) -> Resu
     requires checked { pointer_checked parts.now.limits n (Some pointer) ≡ Ok tt }
     ensures { result ≡ judge_attach parts.now.limits n pointer (state_after draft.now parts.now.state) }
 {
-    let Some((block, hint)) = block_after(parts, draft, pointer) else {
+    let Some(block) = block_after(parts, draft, pointer) else {
         return Ok(Aim::None);
     };
     let Some(target) = address_after(parts, draft, parts.host_pointer(pointer)) else {
@@ -32,7 +32,7 @@ pub(crate) fn attach(parts: &Parts, draft: &Draft, n: u64, pointer: u64) -> Resu
     };
     not_lent(parts, Some(block))?;
     let count = count_after(parts, draft, block, pointer);
-    if count == 0 || value_after(parts, draft, block, pointer, hint) != target {
+    if count == 0 || value_after(parts, draft, block, pointer) != target {
         return Ok(Aim::New {
             pointer,
             block,
@@ -72,7 +72,7 @@ fn detach(parts: &Parts, draft: &Draft, immediate: bool, pointer: Option<u64>) -
         return Aim::None;
     };
     match block_after(parts, draft, pointer) {
-        Some((block, _)) => detach_from(parts, draft, immediate, block, pointer),
+        Some(block) => detach_from(parts, draft, immediate, block, pointer),
         None => Aim::None,
     }
 }
@@ -89,7 +89,7 @@ fn release(parts: &Parts, draft: &Draft, held: Option<(u64, u64)>) -> Aim
         return Aim::None;
     };
     match block_after(parts, draft, pointer) {
-        Some((holder, _)) if holder == block => detach_from(parts, draft, false, block, pointer),
+        Some(holder) if holder == block => detach_from(parts, draft, false, block, pointer),
         Some(_) | None => Aim::None,
     }
 }

@@ -16,7 +16,7 @@ use acc_attach::Attached;
 use acc_base::Section;
 use acc_dev::Device;
 use acc_host::HostMem;
-use acc_present::{Hint, Present};
+use acc_present::Present;
 
 /// Copies a run of bytes to host memory from a block that is not lent and is mapped from the host address `start` on.
 fn run_out(device: &Device, host: &mut HostMem, run: Section, block: u64, start: u64)
@@ -51,10 +51,10 @@ pub(crate) fn run_in(device: &mut Device, host: &HostMem, run: Section, block: u
 }
 
 /// The host address at which the range that is mapped to a block begins; 0 where none is.
-pub(crate) fn start_of(present: &Present, block: u64, hint: Hint) -> u64
+pub(crate) fn start_of(present: &Present, block: u64) -> u64
     ensures { result ≡ start_of block present.now.table.ranges }
 {
-    match present.range(block, hint) {
+    match present.range(block) {
         Some(range) => range.section.start,
         None => 0,
     }

@@ -7,7 +7,6 @@ ghost use Rattle.acc_clauses.specs.declared.acted.Acted.{Acted};
 use crate::acted::Acted;
 use crate::rows::section_of;
 use acc_base::{Aim, Did, Step};
-use acc_present::Hint;
 use arrayvec::ArrayVec;
 use std::marker::Model;
 
@@ -19,8 +18,6 @@ pub(crate) struct Draft {
     births: ArrayVec<(u64, u64), 64>,
     // The blocks whose mappings they end.
     ended: ArrayVec<u64, 64>,
-    // Where the range of each stood when it was judged. Nothing rests on it.
-    hints: ArrayVec<Hint, 64>,
 }
 
 impl Model for Draft {
@@ -69,7 +66,6 @@ impl Draft {
             acts: ArrayVec::new(),
             births: ArrayVec::new(),
             ended: ArrayVec::new(),
-            hints: ArrayVec::new(),
         }
     }
 
@@ -80,17 +76,15 @@ impl Draft {
         self.acts.clear();
         self.births.clear();
         self.ended.clear();
-        self.hints.clear();
     }
 
-    /// One more task was judged, whose range stood there.
-    pub(crate) fn push(&mut self, x: Acted, hint: Hint)
+    /// One more task was judged.
+    pub(crate) fn push(&mut self, x: Acted)
         requires { length self.old < 64 }
         ensures { self.new ≡ self.old ++ x ∷ [] }
     {
         tally(&mut self.births, &mut self.ended, x, &self.acts);
         self.acts.push(x);
-        let _ = self.hints.try_push(hint);
     }
 
     /// This became of the pointer of the task that was judged last.
@@ -112,11 +106,6 @@ impl Draft {
         ensures few { length result.now ≤ 64 }
     {
         &self.acts
-    }
-
-    /// Where the range of each stood when it was judged.
-    pub(crate) fn hints(&self) -> &[Hint] {
-        &self.hints
     }
 
     /// The place and the length of each block that they give birth to.

@@ -16,17 +16,9 @@ use crate::parts::Parts;
 use crate::readings::found_after;
 use crate::rows::{pointer_aimed, section_of};
 use acc_base::{Aim, Did, Fault, Step, Task};
-use acc_present::Hint;
 
 // Adds an entry whose step is judged. Its pointer is attached in what the step leaves.
-fn enter(
-    parts: &Parts,
-    draft: &mut Draft,
-    n: u64,
-    task: Task,
-    step: Step,
-    hint: Hint,
-) -> Result<(), Fault>
+fn enter(parts: &Parts, draft: &mut Draft, n: u64, task: Task, step: Step) -> Result<(), Fault>
     requires entry { enters task ≡ true }
     requires step { judge_step parts.now.limits n task (records_after draft.old parts.now.state.records) ≡ Ok step }
     requires planned { IsPlanned parts.now.limits draft.old parts.now.state.records }
@@ -39,7 +31,7 @@ fn enter(
         step,
         aim: Aim::None,
     };
-    draft.push(Acted { task, did }, hint);
+    draft.push(Acted { task, did });
     if let Some(pointer) = pointer_aimed(task, step) {
         let aim = attach(parts, draft, n, pointer)?;
         draft.aim(aim);
@@ -57,14 +49,14 @@ pub(crate) fn judge(parts: &Parts, draft: &mut Draft, n: u64, task: Task) -> Res
     requires few { n < 64 }
     ensures { MatchResult result (λ _. IsJudgedNext parts.now.limits n task parts.now.state draft.old draft.new) (λ fault. judge_task parts.now.limits n task (state_after draft.old parts.now.state) ≡ Err fault) }
 {
-    let located = found_after(parts, draft, section_of(task));
-    let step = judge_row(parts, draft, n, task, located)?;
+    let found = found_after(parts, draft, section_of(task));
+    let step = judge_row(parts, draft, n, task, found)?;
     let aim = aim_before(parts, draft, task, step);
     step_free(parts, draft, task, step, aim)?;
     if let Task::Enter { .. } = task {
-        return enter(parts, draft, n, task, step, located.hint);
+        return enter(parts, draft, n, task, step);
     }
     let did = Did { step, aim };
-    draft.push(Acted { task, did }, located.hint);
+    draft.push(Acted { task, did });
     Ok(())
 }

@@ -28,7 +28,6 @@ use acc_base::{
     Section, Step, Task, UpdateClause,
 };
 use acc_placement::rounded;
-use acc_present::{Hint, Located};
 
 /// A section that is not empty lies in host memory. Nothing of an empty one is checked.
 pub(crate) fn in_host(parts: &Parts, n: u64, section: Section) -> Result<(), Fault>
@@ -125,12 +124,11 @@ fn counted(
     n: u64,
     counter: Counter,
     block: u64,
-    hint: Hint,
 ) -> Result<Step, Fault>
     requires { IsPlanned parts.now.limits draft.now parts.now.state.records }
     ensures { result ≡ counted parts.now.limits counter n block (records_after draft.now parts.now.state.records) }
 {
-    let counters = counters_after(parts, draft, block, hint);
+    let counters = counters_after(parts, draft, block);
     let count = match counter {
         Counter::Structured => counters.structured,
         Counter::Dynamic => counters.dynamic,
@@ -150,12 +148,12 @@ fn enter(
     counter: Counter,
     item: Item<RegionClause>,
     queue: Option<u64>,
-    located: Located,
+    found: Found,
 ) -> Result<Step, Fault>
     requires planned { IsPlanned parts.now.limits draft.now parts.now.state.records }
     requires entering { list_all enters (tasks_in draft.now) ≡ true }
     requires births { parts.now.state.records.births < 2 ^ 48 }
-    requires located { located.found ≡ where_is (section_of (Task.Enter counter item queue)) (records_after draft.now parts.now.state.records).ranges }
+    requires located { found ≡ where_is (section_of (Task.Enter counter item queue)) (records_after draft.now parts.now.state.records).ranges }
     ensures { result ≡ judge_row parts.now.limits n (Task.Enter counter item queue) (records_after draft.now parts.now.state.records) }
 {
     let task = Task::Enter {
@@ -164,10 +162,9 @@ fn enter(
         queue,
     };
     checked(parts, n, task)?;
-    let Located { found, hint } = located;
     match found {
         Found::Empty => Ok(Step::Nothing),
-        Found::Inside { block, .. } => counted(parts, draft, n, counter, block, hint),
+        Found::Inside { block, .. } => counted(parts, draft, n, counter, block),
         Found::Absent => enter_absent(parts, draft, n, item.clause, section_of(task)),
         Found::Partly => Err(Fault::PartlyPresent { item: n }),
     }
@@ -186,13 +183,13 @@ fn dropped(task: Task, block: u64, counters: Counters) -> Step
 
 // Undoes what an item of a region's entry counted, and nothing else.
 #[tactic(auto, using(crate::proofs::Laws::plan_laws), unfolding(acc_base::specs::Steps::judge_row))]
-fn leave(parts: &Parts, draft: &Draft, holding: Holding, hint: Hint) -> Result<Step, Fault>
+fn leave(parts: &Parts, draft: &Draft, holding: Holding) -> Result<Step, Fault>
     requires { IsPlanned parts.now.limits draft.now parts.now.state.records }
     ensures { (n : ℕ) → result ≡ judge_row parts.now.limits n (Task.ExitRegion holding) (records_after draft.now parts.now.state.records) }
 {
     match holding.block {
         Some(block) => {
-            let counters = counters_after(parts, draft, block, hint);
+            let counters = counters_after(parts, draft, block);
             Ok(dropped(Task::ExitRegion { holding }, block, counters))
         }
         None => Ok(Step::Nothing),
@@ -208,10 +205,10 @@ fn exit(
     finalize: bool,
     item: Item<ExitClause>,
     queue: Option<u64>,
-    located: Located,
+    found: Found,
 ) -> Result<Step, Fault>
     requires planned { IsPlanned parts.now.limits draft.now parts.now.state.records }
-    requires located { located.found ≡ where_is (section_of (Task.ExitData finalize item queue)) (records_after draft.now parts.now.state.records).ranges }
+    requires located { found ≡ where_is (section_of (Task.ExitData finalize item queue)) (records_after draft.now parts.now.state.records).ranges }
     ensures { result ≡ judge_row parts.now.limits n (Task.ExitData finalize item queue) (records_after draft.now parts.now.state.records) }
 {
     let task = Task::ExitData {
@@ -220,11 +217,10 @@ fn exit(
         queue,
     };
     checked(parts, n, task)?;
-    let Located { found, hint } = located;
     match found {
         Found::Empty => Ok(Step::Nothing),
         Found::Inside { block, .. } => {
-            let counters = counters_after(parts, draft, block, hint);
+            let counters = counters_after(parts, draft, block);
             if counters.dynamic == 0 {
                 return Ok(Step::Nothing);
             }
@@ -260,7 +256,7 @@ fn copy(
     }
 }
 
-/// What the clause tables say of the task of the item at place `n` after those that were judged before it. `located` is
+/// What the clause tables say of the task of the item at place `n` after those that were judged before it. `found` is
 /// where its section lies then.
 #[tactic(auto, using(crate::proofs::Laws::kind_laws))]
 pub(crate) fn judge_row(
@@ -268,12 +264,12 @@ pub(crate) fn judge_row(
     draft: &Draft,
     n: u64,
     task: Task,
-    located: Located,
+    found: Found,
 ) -> Result<Step, Fault>
     requires planned { IsPlanned parts.now.limits draft.now parts.now.state.records }
     requires unmixed { AreUnmixed (tasks_in draft.now ++ task ∷ []) }
     requires births { parts.now.state.records.births < 2 ^ 48 }
-    requires located { located.found ≡ where_is (section_of task) (records_after draft.now parts.now.state.records).ranges }
+    requires located { found ≡ where_is (section_of task) (records_after draft.now parts.now.state.records).ranges }
     ensures { result ≡ judge_row parts.now.limits n task (records_after draft.now parts.now.state.records) }
 {
     match task {
@@ -281,18 +277,18 @@ pub(crate) fn judge_row(
             counter,
             item,
             queue,
-        } => enter(parts, draft, n, counter, item, queue, located),
-        Task::ExitRegion { holding } => leave(parts, draft, holding, located.hint),
+        } => enter(parts, draft, n, counter, item, queue, found),
+        Task::ExitRegion { holding } => leave(parts, draft, holding),
         Task::ExitData {
             finalize,
             item,
             queue,
-        } => exit(parts, draft, n, finalize, item, queue, located),
+        } => exit(parts, draft, n, finalize, item, queue, found),
         Task::Move {
             if_present,
             item,
             ..
-        } => copy(parts, n, if_present, item, located.found),
+        } => copy(parts, n, if_present, item, found),
     }
 }
 

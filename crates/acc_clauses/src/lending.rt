@@ -11,7 +11,6 @@ use crate::judging::in_host;
 use crate::parts::Parts;
 use acc_base::{Directive, Fault, Found, Loan, QUEUE_COUNT, Section};
 use acc_lend::Lease;
-use acc_present::Located;
 
 /// The block, if there is one, is not lent.
 pub(crate) fn not_lent(parts: &Parts, block: Option<u64>) -> Result<(), Fault>
@@ -82,8 +81,7 @@ pub(crate) fn plan_loan(parts: &Parts, region: u64, section: Section) -> Result<
 {
     region_open(parts, region)?;
     in_host(parts, 0, section)?;
-    let Located { found, hint } = parts.find(section);
-    match found {
+    match parts.find(section) {
         Found::Empty => Err(Fault::NotPresent { item: 0 }),
         Found::Absent => Err(Fault::NotPresent { item: 0 }),
         Found::Partly => Err(Fault::PartlyPresent { item: 0 }),
@@ -92,7 +90,7 @@ pub(crate) fn plan_loan(parts: &Parts, region: u64, section: Section) -> Result<
             Ok(Loan {
                 serial: parts.next_serial(),
                 block,
-                offset: section.start.saturating_sub(parts.start(block, hint)),
+                offset: section.start.saturating_sub(parts.start(block)),
                 len: section.len,
             })
         }

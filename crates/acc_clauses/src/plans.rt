@@ -8,7 +8,6 @@ ghost use Rattle.acc_clauses.specs.Acts.{lens_born};
 use crate::acted::Acted;
 use crate::drafts::Draft;
 use acc_base::{Did, Holding};
-use acc_present::Hint;
 use arrayvec::ArrayVec;
 use std::marker::Model;
 
@@ -57,11 +56,6 @@ impl Plan {
         ensures few { length result.now ≤ 64 }
     {
         self.draft.acts()
-    }
-
-    /// Where the range of each task stood when it was judged.
-    pub(crate) fn hints(&self) -> &[Hint] {
-        self.draft.hints()
     }
 
     /// What each item does, in the order in which the directive or the region names them. It allocates nothing.

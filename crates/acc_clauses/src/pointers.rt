@@ -17,7 +17,6 @@ use crate::sections::pointer_at;
 use acc_attach::Left;
 use acc_base::Aim;
 use acc_host::HostMem;
-use acc_present::Hint;
 
 /// Writes the device address of a target over a pointer in a block, which is not lent.
 fn write_target(environment: &mut Environment, pointer: u64, block: u64, target: u64)
@@ -25,7 +24,7 @@ fn write_target(environment: &mut Environment, pointer: u64, block: u64, target:
     ensures { let s = bare_state (beside environment.old []) in environment.new ≡ record environment.old { device = record environment.old.device { memories = pointer_written block pointer (λ a. slice_index (to_le_bytes w64 target) (a - pointer)) s } } }
 {
     environment.device.laws();
-    let start = start_of(&environment.present, block, Hint::default());
+    let start = start_of(&environment.present, block);
     environment
         .device
         .write(block, pointer - start, &target.to_le_bytes());
@@ -36,7 +35,7 @@ fn write_back(environment: &mut Environment, host: &HostMem, pointer: u64, block
     requires can { CanAttach pointer block (bare_state (beside environment.old host.now)) }
     ensures { let s = bare_state (beside environment.old host.now) in environment.new ≡ record environment.old { device = record environment.old.device { memories = pointer_written block pointer (host_byte s.host) s } } }
 {
-    let start = start_of(&environment.present, block, Hint::default());
+    let start = start_of(&environment.present, block);
     run_in(
         &mut environment.device,
         host,

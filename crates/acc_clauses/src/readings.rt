@@ -14,30 +14,28 @@ ghost use Rattle.acc_clauses.specs.Overlays.{IsPlanned, AreUnmixed, tasks_in, re
 use crate::drafts::Draft;
 use crate::effects::{counters_over, found_over, puts_in};
 use crate::parts::Parts;
-use acc_base::{Counters, Section};
-use acc_present::{Hint, Located};
+use acc_base::{Counters, Found, Section};
 
-/// Where a section lies after the tasks, and where its range stands now.
+/// Where a section lies after the tasks.
 #[tactic(auto, using(crate::proofs::Laws::plan_laws))]
-pub(crate) fn found_after(parts: &Parts, draft: &Draft, section: Section) -> Located
+pub(crate) fn found_after(parts: &Parts, draft: &Draft, section: Section) -> Found
     requires planned { IsPlanned parts.now.limits draft.now parts.now.state.records }
     requires unmixed { AreUnmixed (tasks_in draft.now) }
-    ensures { result.found ≡ where_is section (records_after draft.now parts.now.state.records).ranges }
+    ensures { result ≡ where_is section (records_after draft.now parts.now.state.records).ranges }
 {
-    let Located { found, hint } = parts.find_apart(section, draft.ended());
-    let found = found_over(section, found, draft.acts());
-    Located { found, hint }
+    let found = parts.find_apart(section, draft.ended());
+    found_over(section, found, draft.acts())
 }
 
 /// The counters of the range that is mapped to a block after the tasks; both are 0 where none is.
 #[tactic(auto, using(crate::proofs::Laws::plan_laws))]
-pub(crate) fn counters_after(parts: &Parts, draft: &Draft, block: u64, hint: Hint) -> Counters
+pub(crate) fn counters_after(parts: &Parts, draft: &Draft, block: u64) -> Counters
     requires planned { IsPlanned parts.now.limits draft.now parts.now.state.records }
     ensures value { result ≡ counters_at block (records_after draft.now parts.now.state.records).ranges }
     ensures structured { result.structured < 2 ^ 33 }
     ensures dynamic { result.dynamic < 2 ^ 33 }
 {
-    let counters = parts.counters(block, hint);
+    let counters = parts.counters(block);
     counters_over(block, counters, draft.acts())
 }
 

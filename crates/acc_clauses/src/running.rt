@@ -8,20 +8,10 @@ ghost use Rattle.acc_clauses.specs.Acts.{AreKnown, HasRoomFor, HasPutRoom, lens_
 
 use crate::acted::Acted;
 use crate::parts::Parts;
-use acc_present::Hint;
-
-// The hint of the task at place `n`.
-fn hint_of(hints: &[Hint], n: usize) -> Hint {
-    if n < hints.len() {
-        hints[n]
-    } else {
-        Hint::default()
-    }
-}
 
 /// Does the steps of these tasks, one after the other. Each was judged in what those before it leave, and there is room
-/// for all. It allocates nothing and is never refused. The hints are of the ranges of the tasks.
-pub fn act_all(parts: &mut Parts, acts: &[Acted], hints: &[Hint])
+/// for all. It allocates nothing and is never refused.
+pub fn act_all(parts: &mut Parts, acts: &[Acted])
     requires judged { AreJudged parts.old.limits 0 (tasks_in acts.now) (dids_in acts.now) parts.old.state.records }
     requires known { AreKnown (tasks_in acts.now) (dids_in acts.now) parts.old.state.records }
     requires few { length acts.now ≤ 64 }
@@ -36,6 +26,6 @@ pub fn act_all(parts: &mut Parts, acts: &[Acted], hints: &[Hint])
 {
     for n in 0..acts.len() {
         let Acted { task, did } = acts[n];
-        parts.act(task, did, hint_of(hints, n));
+        parts.act(task, did);
     }
 }

@@ -158,7 +158,7 @@ impl Store {
         ensures state { self.new.state ≡ state_by self.old.limits.full (verdict_of self.old.limits.number directive.now self.old.state plan.now.dids) self.old.state }
     {
         self.parts.laws();
-        act_all(&mut self.parts, plan.acts(), plan.hints());
+        act_all(&mut self.parts, plan.acts());
         finish(&mut self.parts, directive, plan);
         self.parts.laws();
     }

@@ -1,6 +1,6 @@
 //! What look-ups of pointers and of their targets return in what the tasks judged so far will leave.
 
-ghost use Rattle.std.specs.Prelude.{◌≡◌, ◌%◌, ◌<◌, option_map, Some, true, false};
+ghost use Rattle.std.specs.Prelude.{◌≡◌, ◌%◌, ◌<◌, Some, true, false};
 ghost use Rattle.std.specs.List.{list_all};
 ghost use Rattle.acc_base.specs.Attachments.{count_at};
 ghost use Rattle.acc_base.specs.Detaching.{block_with};
@@ -14,17 +14,15 @@ use crate::parts::Parts;
 use crate::readings::found_after;
 use crate::sections::pointer_at;
 use acc_base::{Found, Section};
-use acc_present::{Hint, Located};
 
-/// The block that holds a pointer after the tasks, if one does, and where its range stands.
-pub(crate) fn block_after(parts: &Parts, draft: &Draft, pointer: u64) -> Option<(u64, Hint)>
+/// The block that holds a pointer after the tasks, if one does.
+pub(crate) fn block_after(parts: &Parts, draft: &Draft, pointer: u64) -> Option<u64>
     requires planned { IsPlanned parts.now.limits draft.now parts.now.state.records }
     requires unmixed { AreUnmixed (tasks_in draft.now) }
-    ensures { option_map (λ holder. holder.0) result ≡ block_with pointer (records_after draft.now parts.now.state.records).ranges }
+    ensures { result ≡ block_with pointer (records_after draft.now parts.now.state.records).ranges }
 {
-    let Located { found, hint } = found_after(parts, draft, pointer_at(pointer));
-    match found {
-        Found::Inside { block, .. } => Some((block, hint)),
+    match found_after(parts, draft, pointer_at(pointer)) {
+        Found::Inside { block, .. } => Some(block),
         Found::Empty | Found::Partly | Found::Absent => None,
     }
 }
@@ -50,7 +48,7 @@ pub(crate) fn address_after(parts: &Parts, draft: &Draft, address: u64) -> Optio
         start: address,
         len: 1,
     };
-    match found_after(parts, draft, only).found {
+    match found_after(parts, draft, only) {
         Found::Inside { block, offset } => {
             let place = place_over(block, parts.place(block), draft.acts());
             Some(place + offset)
@@ -61,7 +59,7 @@ pub(crate) fn address_after(parts: &Parts, draft: &Draft, address: u64) -> Optio
 
 /// The address that an attached pointer holds on the device after the tasks, of which each enters, where its block is
 /// not lent.
-pub(crate) fn value_after(parts: &Parts, draft: &Draft, block: u64, pointer: u64, hint: Hint) -> u64
+pub(crate) fn value_after(parts: &Parts, draft: &Draft, block: u64, pointer: u64) -> u64
     requires planned { IsPlanned parts.now.limits draft.now parts.now.state.records }
     requires entering { list_all enters (tasks_in draft.now) ≡ true }
     requires aligned { pointer % 8 ≡ 0 }
@@ -71,6 +69,6 @@ pub(crate) fn value_after(parts: &Parts, draft: &Draft, block: u64, pointer: u64
     ensures { result ≡ device_pointer block pointer (state_after draft.now parts.now.state) }
 {
     parts.laws();
-    let value = parts.device_pointer(block, pointer, hint);
+    let value = parts.device_pointer(block, pointer);
     value_over(block, pointer, value, draft.acts())
 }

@@ -15,15 +15,15 @@ use crate::environments::Environment;
 use crate::rows::{goes_out, section_of};
 use acc_base::{Task, Transfer};
 use acc_host::HostMem;
-use acc_present::{Hint, Present};
+use acc_present::Present;
 
 /// The copy of a task's section between host memory and the block that it is mapped to.
-pub(crate) fn transfer_at(present: &Present, task: Task, block: u64, hint: Hint) -> Transfer
+pub(crate) fn transfer_at(present: &Present, task: Task, block: u64) -> Transfer
     requires { HasRange present.now.table block }
     ensures { result ≡ transfer_at task block present.now.table.ranges }
 {
     let section = section_of(task);
-    let offset = section.start.saturating_sub(start_of(present, block, hint));
+    let offset = section.start.saturating_sub(start_of(present, block));
     Transfer {
         block,
         offset,

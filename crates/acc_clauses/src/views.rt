@@ -23,7 +23,6 @@ use crate::sections::pointer_at;
 use acc_base::{
     Attachment, Config, Counters, Ended, Fault, Found, Hole, QUEUE_COUNT, Range, Section,
 };
-use acc_present::Hint;
 use std::alloc::Global;
 use std::marker::Model;
 
@@ -67,7 +66,7 @@ impl<'a> View<'a> {
     pub fn find(&self, section: Section) -> Found
         ensures { result ≡ where_is section self.now.device.records.ranges }
     {
-        self.environment.present.find(section).found
+        self.environment.present.find(section)
     }
 
     /// The mapped range of least start at or above a host address, if there is one.
@@ -82,7 +81,7 @@ impl<'a> View<'a> {
         ensures structured { result.structured ≡ structured_of block self.now.device.records.ranges }
         ensures dynamic { result.dynamic ≡ dynamic_of block self.now.device.records.ranges }
     {
-        match self.environment.present.range(block, Hint::default()) {
+        match self.environment.present.range(block) {
             Some(range) => Counters {
                 structured: range.structured,
                 dynamic: range.dynamic,

@@ -17,6 +17,8 @@ mod placement;
 #[cfg(test)]
 mod queues;
 #[cfg(test)]
+mod ranges;
+#[cfg(test)]
 mod room;
 #[cfg(test)]
 mod searches;

@@ -7,7 +7,7 @@ ghost use Rattle.acc_base.specs.Ranges.{where_is, range_of};
 
 use crate::calls::{Subject, is_as_wanted};
 use acc_base::{Fault, Found, HOST_BASE, Section};
-use acc_present::{Hint, Present};
+use acc_present::Present;
 use std::alloc::Global;
 
 /// One call on a table, and its answer.
@@ -53,19 +53,19 @@ const ROWS: &[Row] = &[
 ];
 
 /// The 16 bytes that are mapped to a block.
-fn section_of(block: u64) -> Section {
+pub fn section_of(block: u64) -> Section {
     Section {
-        start: HOST_BASE + 32 * (block % 1_024),
+        start: HOST_BASE + 32 * (block % 0x100_0000),
         len: 16,
     }
 }
 
 /// Whether a section is absent, and no range is mapped to a block.
-fn is_absent(present: &Present, section: Section, block: u64) -> bool
+pub fn is_absent(present: &Present, section: Section, block: u64) -> bool
     ensures absent { OnTrue result (where_is section present.now.table.ranges ≡ Absent) }
     ensures new { OnTrue result (range_of block present.now.table.ranges ≡ None) }
 {
-    present.range(block, Hint::default()).is_none() && present.find(section).found == Found::Absent
+    present.range(block).is_none() && present.find(section) == Found::Absent
 }
 
 /// Maps a section to each of the first so many blocks that has none.
@@ -123,7 +123,7 @@ impl Subject for Present {
                     start: *start,
                     len: *len,
                 };
-                Ok(self.find(asked).found == *found)
+                Ok(self.find(asked) == *found)
             }
             Row::Enters(number) => enter(self, alloc, *number),
             Row::Regions(count) => Ok(self.regions() == *count),

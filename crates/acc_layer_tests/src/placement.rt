@@ -162,7 +162,7 @@ fn step(space: &mut Space, number: u64) -> Result<bool, Fault> {
 }
 
 /// The number after this one in a fixed list of 2,147,483,646 numbers.
-fn following(number: u64) -> u64 {
+pub fn following(number: u64) -> u64 {
     number.wrapping_mul(48_271) % 2_147_483_647
 }
 

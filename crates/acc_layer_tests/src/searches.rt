@@ -20,8 +20,8 @@ enum Search {
     FirstFit(u64),
     /// Of the entries on both sides of a key in the rows.
     InRows(u128),
-    /// Of where a section of this start and length lies.
-    Find(u64, u64),
+    /// Of where a section of this start and length lies among so many ranges.
+    Find(u64, u64, u64),
     /// Of a place for so many bytes.
     Fit(u64),
 }
@@ -31,7 +31,8 @@ enum Search {
 /// The tree has 30 at its top. On the left it has 10 with 20 on its right, and on the right 50 with 40 on its left. The
 /// size of an entry is a tenth of its key. The rows have 1 to 63 in the first, and 64 and 65 in the second. A search by
 /// halves of two least keys looks at the second, and then at the first where the key is not above that. Seven ranges
-/// stand in one row.
+/// stand in one node. Of 200 the node at the top has those from 0x1800 to 0x1fef. One hangs on its left, and two on its
+/// right, one below the other.
 const SEARCHES: &[(Search, u64)] = &[
     (Search::Get(30), 1),
     (Search::Get(10), 2),
@@ -51,10 +52,19 @@ const SEARCHES: &[(Search, u64)] = &[
     (Search::InRows(40), 8),
     (Search::InRows(65), 3),
     (Search::InRows(66), 2),
-    (Search::Find(0x1000, 1), 4),
-    (Search::Find(0x1063, 2), 4),
-    (Search::Find(0xfff, 1), 1),
-    (Search::Find(0x1000, 0), 0),
+    (Search::Find(0, 0x1000, 1), 0),
+    (Search::Find(7, 0x1000, 1), 1),
+    (Search::Find(7, 0x1063, 2), 1),
+    (Search::Find(7, 0xfff, 1), 1),
+    (Search::Find(7, 0x1000, 0), 0),
+    (Search::Find(200, 0x1800, 1), 1),
+    (Search::Find(200, 0x1fc0, 64), 1),
+    (Search::Find(200, 0x1fe0, 1), 2),
+    (Search::Find(200, 0x10a0, 1), 2),
+    (Search::Find(200, 0xfff, 1), 2),
+    (Search::Find(200, 0x2040, 1), 2),
+    (Search::Find(200, 0x2860, 1), 3),
+    (Search::Find(200, 0x3000, 1), 3),
     (Search::Fit(64), 1),
     (Search::Fit(65), 1),
 ];
@@ -108,10 +118,10 @@ fn in_rows(alloc: Global, key: u128) -> Result<u64, Fault> {
     Ok(steps.count())
 }
 
-/// How many steps a search of seven mapped ranges counts.
-fn in_ranges(alloc: Global, asked: Section) -> Result<u64, Fault> {
+/// How many steps a search of so many mapped ranges counts.
+fn in_ranges(alloc: Global, count: u64, asked: Section) -> Result<u64, Fault> {
     let mut present = Present::new(alloc, 1);
-    map_all(&mut present, 7)?;
+    map_all(&mut present, count)?;
     let mut steps = Steps::new();
     present.find_counted(asked, &mut steps);
     Ok(steps.count())
@@ -131,7 +141,7 @@ fn in_holes(alloc: Global, need: u64) -> Result<u64, Fault> {
 fn counted(alloc: Global, search: Search) -> Result<u64, Fault> {
     match search {
         Search::InRows(key) => in_rows(alloc, key),
-        Search::Find(start, len) => in_ranges(alloc, Section { start, len }),
+        Search::Find(count, start, len) => in_ranges(alloc, count, Section { start, len }),
         Search::Fit(need) => in_holes(alloc, need),
         in_the_tree => Ok(in_tree(&tree(alloc)?, in_the_tree)),
     }

@@ -1,6 +1,6 @@
 -- Where a section lies, one range after the other.
 use Rattle.std.proofs.Common.{ℕ, ◌≡◌, ◌+◌, ◌<◌, ◌≤◌, refl, sym, ap, ◌∙◌, subst, Bool, true, false, cond, List, [], ◌∷◌, ◌++◌, length, Option, Some, None, arith}
-use Rattle.std.specs.Prelude.{◌==◌, ◌-◌, not, nat_lt, nat_le, filter}
+use Rattle.std.specs.Prelude.{◌==◌, ◌-◌, not, nat_lt, nat_le, IfSome, Contains}
 use Rattle.std.specs.Option.{option_or}
 use Rattle.std.specs.List.{AllByRecursion, list_all, list_any}
 use Rattle.std.proofs.lemmas.Bool.Decides.{nat_tests}
@@ -12,9 +12,11 @@ use Rattle.acc_base.specs.declared.mappings.Found.TheVariants.{Inside, Partly, A
 use Rattle.acc_base.specs.Section.{is_empty, is_within, is_apart, end_of}
 use Rattle.acc_base.specs.Ranges.{where_is, where_is_apart, without_ranges, range_around, range_from, found_in}
 use Rattle.acc_base.specs.Accounts.{EachPair, IsBelow}
-use Rattle.acc_base.proofs.Elements.{AllByRecursion-weaker, AllByRecursion-both, AllByRecursion-filter, EachPair-filter, find-none, find_none, filter-kept, filter-none, found_has, list_all-to}
-use Rattle.acc_tree.proofs.Steps.{all_behind}
+use Rattle.acc_base.proofs.Elements.{IfSome-weaker, find_passes, AllByRecursion-weaker, AllByRecursion-both, AllByRecursion-filter, EachPair-filter, find-none, find_none, filter-kept, filter-none, found_has, list_all-from, list_all-to}
+use Rattle.acc_base.proofs.Where.{absent_says}
+use Rattle.acc_ordered.proofs.Steps.{all_behind}
 use Rattle.acc_present.specs.Present.{AreMapped}
+use Rattle.acc_present.specs.Kept.{ranges_from, IsNext}
 
 -- one of the listed blocks is this one
 abbrev pub is_listed : List ℕ → ℕ → Bool
@@ -73,10 +75,6 @@ partly_first s blocks r rs some m free out reaches reached =
     rw free (rw (t, out, touches, none) refl)
 
 -- ---- the ranges on both sides of an address
-
--- the ranges that begin at an address or behind it
-abbrev pub ranges_from : ℕ → List Range → List Range
-ranges_from k rs = filter (λ r. nat_le k r.section.start) rs
 
 -- the last that begins below it
 abbrev pub last_below : ℕ → List Range → Option Range
@@ -171,28 +169,23 @@ skip_all : (s : Section) (blocks : List ℕ) (front rs : List Range) → 0 < s.l
 skip_all s blocks [] rs some lens ends = refl
 skip_all s blocks (r ∷ front) rs some lens ends = skip_below s blocks r (front ++ rs) some lens.0 ends.0 ∙ skip_all s blocks front rs some lens.1 ends.1
 
--- so a search may begin at the last range below the address behind a section's first
-from_last : (s : Section) (blocks : List ℕ) (rs : List Range) (r : Range) → 0 < s.len → AreMapped rs → last_below (s.start + 1) rs ≡ Some r → where_is_apart s blocks rs ≡ where_is_apart s blocks (r ∷ ranges_from (s.start + 1) rs)
-from_last s blocks rs r some m e =
-    let l = last_is (s.start + 1) rs r m e in
+-- so a search may begin at the last range below an address that is not far behind a section's first
+from_last : (k : ℕ) (s : Section) (blocks : List ℕ) (rs : List Range) (r : Range) → k ≤ s.start + 1 → 0 < s.len → AreMapped rs → last_below k rs ≡ Some r → where_is_apart s blocks rs ≡ where_is_apart s blocks (r ∷ ranges_from k rs)
+from_last k s blocks rs r near some m e =
+    let l = last_is k rs r m e in
     let starts = l.starts in
     let lens = subst (λ (ts : List Range). AllByRecursion (λ (t : Range). 0 < t.section.len) ts) l.parts m.some in
-    ap (where_is_apart s blocks) l.parts ∙ skip_all s blocks l.front (r ∷ ranges_from (s.start + 1) rs) some lens (AllByRecursion-weaker (λ (t : Range). IsBelow t.section r.section) (λ (t : Range). end_of t.section ≤ s.start) l.front (λ t below. omega arith) l.before)
+    ap (where_is_apart s blocks) l.parts ∙ skip_all s blocks l.front (r ∷ ranges_from k rs) some lens (AllByRecursion-weaker (λ (t : Range). IsBelow t.section r.section) (λ (t : Range). end_of t.section ≤ s.start) l.front (λ t below. omega arith) l.before)
 
 -- what that one says holds of all
-pub told_last : (s : Section) (blocks : List ℕ) (rs : List Range) (r : Range) (found : Found) → 0 < s.len → AreMapped rs → last_below (s.start + 1) rs ≡ Some r
+pub told_last : (k : ℕ) (s : Section) (blocks : List ℕ) (rs : List Range) (r : Range) (found : Found) → k ≤ s.start + 1 → 0 < s.len → AreMapped rs → last_below k rs ≡ Some r
     → ((others : List Range) → AreMapped (r ∷ others) → where_is_apart s blocks (r ∷ others) ≡ found) → found ≡ where_is_apart s blocks rs
-told_last s blocks rs r found some m e told = sym (from_last s blocks rs r some m e ∙ told (ranges_from (s.start + 1) rs) (last_is (s.start + 1) rs r m e).mapped)
+told_last k s blocks rs r found near some m e told = sym (from_last k s blocks rs r near some m e ∙ told (ranges_from k rs) (last_is k rs r m e).mapped)
 
 pub last_filled : (k : ℕ) (rs : List Range) (r : Range) → AreMapped rs → last_below k rs ≡ Some r → 0 < r.section.len
 last_filled k rs r m e = (last_is k rs r m e).mapped.some.0
 
 -- ---- one range after the other
-
--- the first of the ranges that are left, which say what all say
-abbrev pub IsNext : Section → List ℕ → List Range → Option Range → Type 0
-IsNext s blocks rs None = where_is_apart s blocks rs ≡ Absent
-IsNext s blocks rs (Some r) = (range_from r.section.start rs ≡ Some r) × (where_is_apart s blocks rs ≡ where_is_apart s blocks (ranges_from r.section.start rs))
 
 -- nothing begins between an address and the first range from there on
 nothing_between : (k : ℕ) (rs : List Range) (r : Range) → StartsRise rs → range_from k rs ≡ Some r → (ranges_from k rs ≡ ranges_from r.section.start rs) × (range_from r.section.start rs ≡ Some r) × (k ≤ r.section.start)
@@ -226,6 +219,10 @@ next_is s blocks rs k some m same = go (range_from k rs) refl
     go None e = same ∙ ap (where_is_apart s blocks) (no_range_from k rs e) ∙ absent_from s [] some tt
     go (Some r) e = let p = nothing_between k rs r (starts_rise rs m) e in (p.1, same ∙ ap (where_is_apart s blocks) p.0)
 
+-- that one does not begin below
+pub from_behind : (start k : ℕ) (rs : List Range) → start ≤ k → IfSome (range_from k rs) (λ (r : Range). start ≤ r.section.start)
+from_behind start k rs le = IfSome-weaker (λ (r : Range). Contains rs r × (nat_le k r.section.start ≡ true)) (λ (r : Range). start ≤ r.section.start) (range_from k rs) (λ r h. let t = h.1 in grind (arith, nat_tests)) (find_passes (λ (r : Range). nat_le k r.section.start) rs)
+
 -- the ranges from a range's start on are that range and those behind it
 pub rest_parts : (rs : List Range) (r : Range) → StartsRise rs → range_from r.section.start rs ≡ Some r → ranges_from r.section.start rs ≡ r ∷ ranges_from (r.section.start + 1) rs
 rest_parts [] r rise e = cc
@@ -243,14 +240,14 @@ rest_parts (x ∷ rs) r rise e = go (rest_parts rs r rise.1) (nat_le r.section.s
         let out : nat_le (r.section.start + 1) x.section.start ≡ false = grind (arith, nat_tests) in
         rw out (rest h)
 
--- where no range begins below the address behind a section's first
-pub no_last : (s : Section) (blocks : List ℕ) (rs : List Range) → 0 < s.len → AreMapped rs → last_below (s.start + 1) rs ≡ None → IsNext s blocks rs (range_from (s.start + 1) rs)
-no_last s blocks rs some m none = next_is s blocks rs (s.start + 1) some m (ap (where_is_apart s blocks) (sym (all_from_below (s.start + 1) rs none)))
+-- where no range begins below an address
+pub no_last : (k : ℕ) (s : Section) (blocks : List ℕ) (rs : List Range) → 0 < s.len → AreMapped rs → last_below k rs ≡ None → IsNext s blocks rs (range_from k rs)
+no_last k s blocks rs some m none = next_is s blocks rs k some m (ap (where_is_apart s blocks) (sym (all_from_below k rs none)))
 
 -- or the last of them says nothing
-pub silent_last : (s : Section) (blocks : List ℕ) (rs : List Range) (r : Range) → 0 < s.len → AreMapped rs → last_below (s.start + 1) rs ≡ Some r
-    → ((others : List Range) → where_is_apart s blocks (r ∷ others) ≡ where_is_apart s blocks others) → IsNext s blocks rs (range_from (s.start + 1) rs)
-silent_last s blocks rs r some m e silent = next_is s blocks rs (s.start + 1) some m (from_last s blocks rs r some m e ∙ silent (ranges_from (s.start + 1) rs))
+pub silent_last : (k : ℕ) (s : Section) (blocks : List ℕ) (rs : List Range) (r : Range) → k ≤ s.start + 1 → 0 < s.len → AreMapped rs → last_below k rs ≡ Some r
+    → ((others : List Range) → where_is_apart s blocks (r ∷ others) ≡ where_is_apart s blocks others) → IsNext s blocks rs (range_from k rs)
+silent_last k s blocks rs r near some m e silent = next_is s blocks rs k some m (from_last k s blocks rs r near some m e ∙ silent (ranges_from k rs))
 
 -- what the next one says holds of all
 pub told_next : (s : Section) (blocks : List ℕ) (rs : List Range) (r : Range) (found : Found) → AreMapped rs → IsNext s blocks rs (Some r)
@@ -287,3 +284,15 @@ without_none (r ∷ rs) = ap (λ ts. r ∷ ts) (without_none rs)
 
 pub apart_from_none : (s : Section) (rs : List Range) → where_is_apart s [] rs ≡ where_is s rs
 apart_from_none s rs = ap (where_is s) (without_none rs)
+
+-- so where the next one begins at the section's start or behind it, and says nothing, the section is absent
+pub silent_absent : (s : Section) (rs : List Range) (r : Range) → 0 < s.len → AreMapped rs → IsNext s [] rs (Some r) → s.start ≤ r.section.start
+    → ((others : List Range) → where_is_apart s [] (r ∷ others) ≡ where_is_apart s [] others) → where_is s rs ≡ Absent
+silent_absent s rs r some m n behind silent =
+    let parts = rest_parts rs r (starts_rise rs m) n.0 in
+    let mapped : AreMapped (r ∷ ranges_from (r.section.start + 1) rs) = subst (λ (ts : List Range). AreMapped ts) parts (mapped_rest_from r.section.start rs m) in
+    let len : 0 < r.section.len = mapped.some.0 in
+    let alone : where_is s (r ∷ []) ≡ Absent = silent [] ∙ absent_from s [] some tt in
+    let apart : is_apart s r.section ≡ true = (list_all-from (λ (t : Range). is_apart s t.section) (r ∷ []) (absent_says s (r ∷ []) alone).0).0 in
+    let before : end_of s ≤ r.section.start = grind (arith, nat_tests) in
+    sym (apart_from_none s rs) ∙ n.1 ∙ ap (where_is_apart s []) parts ∙ absent_before s [] r (ranges_from (r.section.start + 1) rs) some mapped before

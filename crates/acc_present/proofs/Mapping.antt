@@ -1,9 +1,8 @@
 -- The entries of the mapped ranges and of their starts, as mappings begin and end.
-use Rattle.std.proofs.Common.{ℕ, ◌≡◌, ◌+◌, ◌^◌, ◌<◌, refl, sym, ap, subst, ◌∙◌, Bool, true, false, cond, List, [], ◌∷◌, Option, Some, None, IsSome, arith}
-use Rattle.std.specs.Prelude.{◌==◌, not, option_map, nat_lt, nat_le, IfSome, IfNone, Contains, ⊤}
+use Rattle.std.proofs.Common.{ℕ, ◌≡◌, ◌^◌, ◌<◌, ◌≤◌, refl, sym, ap, subst, ◌∙◌, Bool, true, false, cond, List, [], ◌∷◌, Option, Some, None, IsSome, arith}
+use Rattle.std.specs.Prelude.{◌==◌, not, find, option_map, nat_lt, nat_le, IfSome, Contains}
 use Rattle.std.specs.Option.{option_or}
 use Rattle.std.specs.List.{AllByRecursion}
-use Rattle.std.specs.Borrow.{Bor}
 use Rattle.std.proofs.lemmas.Bool.Decides.{nat_tests}
 use Rattle.std.proofs.lemmas.Option.{same_Some}
 use Rattle.acc_base.specs.declared.items.Section.{Section}
@@ -20,12 +19,10 @@ use Rattle.acc_base.proofs.Lookups.{at, at-own}
 use Rattle.acc_base.proofs.Options.{some_mapped, none_mapped, still_some, from_some, from_none}
 use Rattle.acc_base.proofs.Elements.{AllByRecursion-weaker, AllByRecursion-both, AllByRecursion-filter, AllByRecursion-map, EachPair-filter, EachPair-map, find-map, find-none, find_none, find_passes, found_has, list_all-from}
 use Rattle.acc_base.proofs.Keyed as keyed
-use Rattle.acc_tree.specs.declared.entries.Entry.{Entry}
-use Rattle.acc_tree.specs.Listing.{at_key, first_from, last_before, with_entry, without_key, value_written, with_value, seen}
-use Rattle.acc_tree.proofs.Values.{key-written}
-use Rattle.acc_present.specs.declared.entries.Mapping.{Mapping}
+use Rattle.acc_ordered.specs.declared.entries.Entry.{Entry}
+use Rattle.acc_ordered.specs.Listing.{at_key, first_from, last_before, with_entry, without_key, value_written, with_value, values_in}
 use Rattle.acc_present.specs.Present.{AreMapped}
-use Rattle.acc_present.specs.Kept.{range_in, ranges_in, mapping_of, AreBounded, IsEntryOf, start_in, start_at, IsIndexed}
+use Rattle.acc_present.specs.Kept.{range_in, ranges_in, IsKeyed, start_in, start_at, IsIndexed}
 use Rattle.acc_present.proofs.Finding.{last_below, starts_rise}
 
 -- a range's start and its block
@@ -36,165 +33,160 @@ abbrev pub block_key : Range → ℕ
 block_key r = r.block
 
 -- the same of an entry
-abbrev pub key_of : Entry Mapping → ℕ
+abbrev pub key_of : Entry Range → ℕ
 key_of e = e.key
 
-abbrev pub mapped_block : Entry Mapping → ℕ
+abbrev pub mapped_block : Entry Range → ℕ
 mapped_block e = e.value.block
 
 -- ---- what a search among the entries finds
 
-pub first-ranges : (k : ℕ) (es : List (Entry Mapping)) → option_map range_in (first_from k es) ≡ range_from k (ranges_in es)
+pub first-ranges : (k : ℕ) (es : List (Entry Range)) → option_map range_in (first_from k es) ≡ range_from k (ranges_in es)
 first-ranges k es = sym (find-map range_in (λ e. nat_le k e.key) (λ r. nat_le k r.section.start) es (λ e. refl))
 
-pub last-ranges : (k : ℕ) (es : List (Entry Mapping)) → option_map range_in (last_before k es) ≡ last_below k (ranges_in es)
+pub last-ranges : (k : ℕ) (es : List (Entry Range)) → option_map range_in (last_before k es) ≡ last_below k (ranges_in es)
 last-ranges k [] = refl
 last-ranges k (e ∷ es) = go (last-ranges k es) (last_before k es) refl (nat_lt e.key k)
   where
-    go : option_map range_in (last_before k es) ≡ last_below k (ranges_in es) → (o : Option (Entry Mapping)) → last_before k es ≡ o → (b : Bool)
+    go : option_map range_in (last_before k es) ≡ last_below k (ranges_in es) → (o : Option (Entry Range)) → last_before k es ≡ o → (b : Bool)
         → option_map range_in (option_or o (cond b (Some e) None)) ≡ option_or (last_below k (ranges_in es)) (cond b (Some (range_in e)) None)
     go rest None is true = rw (← rest, is) refl
     go rest None is false = rw (← rest, is) refl
     go rest (Some x) is b = rw (← rest, is) refl
 
-pub block-ranges : (block : ℕ) (es : List (Entry Mapping)) → range_of block (ranges_in es) ≡ option_map range_in (at mapped_block block es)
+pub block-ranges : (block : ℕ) (es : List (Entry Range)) → range_of block (ranges_in es) ≡ option_map range_in (at mapped_block block es)
 block-ranges block es = find-map range_in (λ e. e.value.block == block) (λ r. r.block == block) es (λ e. refl)
 
-pub start-ranges : (start : ℕ) (es : List (Entry Mapping)) → at start_key start (ranges_in es) ≡ option_map range_in (at_key start es)
+pub start-ranges : (start : ℕ) (es : List (Entry Range)) → at start_key start (ranges_in es) ≡ option_map range_in (at_key start es)
 start-ranges start es = find-map range_in (λ e. e.key == start) (λ r. r.section.start == start) es (λ e. refl)
 
--- what a search finds is an address
-pub bounded_first : (k : ℕ) (es : List (Entry Mapping)) → AreBounded es → IfSome (first_from k es) (λ e. e.key < 2 ^ 64)
-bounded_first k es bounded = go (first_from k es) refl
-  where
-    go : (o : Option (Entry Mapping)) → first_from k es ≡ o → IfSome o (λ e. e.key < 2 ^ 64)
-    go None e = tt
-    go (Some x) e = (found_has (λ (x : Entry Mapping). x.key < 2 ^ 64) (λ e. nat_le k e.key) es x bounded e).0
+-- a value is the range of its entry
+value_is : (e : Entry Range) → IsKeyed e → e.value ≡ range_in e
+value_is e keyed = ap (λ (k : ℕ). record { section = record { start = k; len = e.value.section.len }; block = e.value.block; structured = e.value.structured; dynamic = e.value.dynamic }) keyed.start
 
-pub bounded_last : (k : ℕ) (es : List (Entry Mapping)) → AreBounded es → IfSome (last_before k es) (λ e. e.key < 2 ^ 64)
-bounded_last k [] bounded = tt
-bounded_last k (e ∷ es) bounded = go (last_before k es) (nat_lt e.key k) (bounded_last k es bounded.1)
+value_if : (o : Option (Entry Range)) → IfSome o IsKeyed → option_map (λ (e : Entry Range). e.value) o ≡ option_map range_in o
+value_if None keyed = refl
+value_if (Some e) keyed = ap (λ (r : Range). Some r) (value_is e keyed)
+
+keyed_found : (p : Entry Range → Bool) (es : List (Entry Range)) → AllByRecursion IsKeyed es → IfSome (find p es) IsKeyed
+keyed_found p es keyed = go (find p es) refl
   where
-    go : (o : Option (Entry Mapping)) (b : Bool) → IfSome o (λ x. x.key < 2 ^ 64) → IfSome (option_or o (cond b (Some e) None)) (λ x. x.key < 2 ^ 64)
-    go None true h = bounded.0
+    go : (o : Option (Entry Range)) → find p es ≡ o → IfSome o IsKeyed
+    go None e = tt
+    go (Some x) e = (found_has IsKeyed p es x keyed e).0
+
+keyed_last : (k : ℕ) (es : List (Entry Range)) → AllByRecursion IsKeyed es → IfSome (last_before k es) IsKeyed
+keyed_last k [] keyed = tt
+keyed_last k (e ∷ es) keyed = go (last_before k es) (nat_lt e.key k) (keyed_last k es keyed.1)
+  where
+    go : (o : Option (Entry Range)) (b : Bool) → IfSome o IsKeyed → IfSome (option_or o (cond b (Some e) None)) IsKeyed
+    go None true h = keyed.0
     go None false h = tt
     go (Some x) b h = h
 
--- the range of the last entry below an address is the last range below
-pub last_found : (k start : ℕ) (es : List (Entry Mapping)) (before : Option (Entry Mapping)) (o want : Option Range) → k ≡ start → before ≡ last_before (k + 1) es → o ≡ option_map range_in before → o ≡ want → last_below (start + 1) (ranges_in es) ≡ want
-last_found k start es before o want same is image wanted = ap (λ n. last_below (n + 1) (ranges_in es)) (sym same) ∙ sym (last-ranges (k + 1) es) ∙ ap (option_map range_in) (sym is) ∙ sym image ∙ wanted
+pub first_value : (k : ℕ) (es : List (Entry Range)) → AllByRecursion IsKeyed es → option_map (λ (e : Entry Range). e.value) (first_from k es) ≡ range_from k (ranges_in es)
+first_value k es keyed = value_if (first_from k es) (keyed_found (λ e. nat_le k e.key) es keyed) ∙ first-ranges k es
 
--- that of the first entry from an address on is the first range
-pub next_range_found : (k start : ℕ) (es : List (Entry Mapping)) (from : Option (Entry Mapping)) (o : Option Range) → k ≡ start → from ≡ first_from (k + 1) es → o ≡ option_map range_in from → o ≡ range_from (start + 1) (ranges_in es)
-next_range_found k start es from o same is image = image ∙ ap (option_map range_in) is ∙ first-ranges (k + 1) es ∙ ap (λ n. range_from (n + 1) (ranges_in es)) same
+last_value : (k : ℕ) (es : List (Entry Range)) → AllByRecursion IsKeyed es → option_map (λ (e : Entry Range). e.value) (last_before k es) ≡ last_below k (ranges_in es)
+last_value k es keyed = value_if (last_before k es) (keyed_last k es keyed) ∙ last-ranges k es
 
--- an entry is found by its own key
-pub key_found : (k : ℕ) (es : List (Entry Mapping)) (e : Entry Mapping) → at_key k es ≡ Some e → at_key e.key es ≡ Some e
-key_found k es e found =
-    let passes = subst (λ o. IfSome o (λ x. Contains es x × ((x.key == k) ≡ true))) found (find_passes (λ x. x.key == k) es) in
-    subst (λ n. at_key n es ≡ Some e) (sym (equal e.key k passes.1)) found
+-- the last entry below an address has the last range below it
+pub last_found : (k : ℕ) (es : List (Entry Range)) (before : Option (Entry Range)) (o : Option Range) → AllByRecursion IsKeyed es → before ≡ last_before k es → o ≡ option_map (λ (e : Entry Range). e.value) before → last_below k (ranges_in es) ≡ o
+last_found k es before o keyed is image = sym (last_value k es keyed) ∙ ap (option_map (λ (e : Entry Range). e.value)) (sym is) ∙ sym image
+
+pub all_values : (es : List (Entry Range)) → AllByRecursion IsKeyed es → values_in es ≡ ranges_in es
+all_values [] keyed = refl
+all_values (e ∷ es) keyed = ap (λ (r : Range). r ∷ values_in es) (value_is e keyed.0) ∙ ap (λ (rs : List Range). range_in e ∷ rs) (all_values es keyed.1)
+
+-- no range begins behind the last address
+pub none_past : (k : ℕ) (es : List (Entry Range)) → 2 ^ 64 ≤ k → AllByRecursion IsKeyed es → range_from k (ranges_in es) ≡ None
+none_past k es past keyed = find-none (λ (r : Range). nat_le k r.section.start) (ranges_in es) (AllByRecursion-map (λ (r : Range). nat_le k r.section.start ≡ false) range_in es (AllByRecursion-weaker IsKeyed (λ (e : Entry Range). nat_le k e.key ≡ false) es (λ e h. let bound = h.bound in grind (arith, nat_tests)) keyed))
 
 -- ---- each entry has its own start and its own block
 
-all_unmapped : (P : Range → Type 0) (es : List (Entry Mapping)) → AllByRecursion P (ranges_in es) → AllByRecursion (λ e. P (range_in e)) es
+all_unmapped : (P : Range → Type 0) (es : List (Entry Range)) → AllByRecursion P (ranges_in es) → AllByRecursion (λ e. P (range_in e)) es
 all_unmapped P [] h = tt
 all_unmapped P (e ∷ es) h = (h.0, all_unmapped P es h.1)
 
-pairs_unmapped : (R : Range → Range → Type 0) (es : List (Entry Mapping)) → EachPair R (ranges_in es) → EachPair (λ (e f : Entry Mapping). R (range_in e) (range_in f)) es
+pairs_unmapped : (R : Range → Range → Type 0) (es : List (Entry Range)) → EachPair R (ranges_in es) → EachPair (λ (e f : Entry Range). R (range_in e) (range_in f)) es
 pairs_unmapped R [] h = tt
 pairs_unmapped R (e ∷ es) h = (all_unmapped (R (range_in e)) es h.0, pairs_unmapped R es h.1)
 
-own_key : (es : List (Entry Mapping)) → AreMapped (ranges_in es) → AllByRecursion (λ e. at_key e.key es ≡ Some e) es
+own_key : (es : List (Entry Range)) → AreMapped (ranges_in es) → AllByRecursion (λ e. at_key e.key es ≡ Some e) es
 own_key es m = at-own key_of es (keyed.rise_distinct key_of es (pairs_unmapped (λ (r : Range) (t : Range). r.section.start < t.section.start) es (starts_rise (ranges_in es) m)))
 
-own_mapped_block : (es : List (Entry Mapping)) → AreMapped (ranges_in es) → AllByRecursion (λ e. at mapped_block e.value.block es ≡ Some e) es
+own_mapped_block : (es : List (Entry Range)) → AreMapped (ranges_in es) → AllByRecursion (λ e. at mapped_block e.value.block es ≡ Some e) es
 own_mapped_block es m = at-own mapped_block es (pairs_unmapped (λ (r : Range) (t : Range). r.block ≡ t.block → ⊥) es m.own_block)
 
 -- the entry of a key is that of a block, by both
-pub record IsEntryBoth (block : ℕ) (es : List (Entry Mapping)) (e : Entry Mapping) : Type 0 where
+pub record IsEntryBoth (block : ℕ) (es : List (Entry Range)) (e : Entry Range) : Type 0 where
   pub key : at_key e.key es ≡ Some e
   pub by_block : at mapped_block block es ≡ Some e
   pub is : e.value.block ≡ block
 
 -- an entry that a key finds is that of its block
-pub by_key : (block : ℕ) (es : List (Entry Mapping)) (e : Entry Mapping) → AreMapped (ranges_in es) → at_key e.key es ≡ Some e → e.value.block ≡ block → IsEntryBoth block es e
-by_key block es e m found is = record { key = found; by_block = subst (λ n. at mapped_block n es ≡ Some e) is (found_has (λ (x : Entry Mapping). at mapped_block x.value.block es ≡ Some x) (λ x. x.key == e.key) es e (own_mapped_block es m) found).0; is = is }
+pub by_key : (block : ℕ) (es : List (Entry Range)) (e : Entry Range) → AreMapped (ranges_in es) → at_key e.key es ≡ Some e → e.value.block ≡ block → IsEntryBoth block es e
+by_key block es e m found is = record { key = found; by_block = subst (λ n. at mapped_block n es ≡ Some e) is (found_has (λ (x : Entry Range). at mapped_block x.value.block es ≡ Some x) (λ x. x.key == e.key) es e (own_mapped_block es m) found).0; is = is }
 
-pub entry_by_key : (block : ℕ) (es : List (Entry Mapping)) (e : Entry Mapping) → AreMapped (ranges_in es) → at_key e.key es ≡ Some e → e.value.block ≡ block → IsEntryOf block es e
-entry_by_key block es e m found is = record { found = found; range = block-ranges block es ∙ ap (option_map range_in) (by_key block es e m found is).by_block }
+-- a range that is found by a block is mapped to it
+pub block_is : (block : ℕ) (rs : List Range) (r : Range) → range_of block rs ≡ Some r → r.block ≡ block
+block_is block rs r found =
+    let passes = subst (λ o. IfSome o (λ x. Contains rs x × ((x.block == block) ≡ true))) found (find_passes (λ x. x.block == block) rs) in
+    equal r.block block passes.1
+
+-- the entry is that of the range that is mapped to the block
+pub record IsEntryOf (block : ℕ) (entries : List (Entry Range)) (e : Entry Range) : Type 0 where
+  pub found : at_key e.key entries ≡ Some e
+  pub range : range_of block (ranges_in entries) ≡ Some (range_in e)
 
 -- and one that is found as the range of a block is found by its key
-pub both_of : (block : ℕ) (es : List (Entry Mapping)) (e : Entry Mapping) → AreMapped (ranges_in es) → IsEntryOf block es e → IsEntryBoth block es e
+pub both_of : (block : ℕ) (es : List (Entry Range)) (e : Entry Range) → AreMapped (ranges_in es) → IsEntryOf block es e → IsEntryBoth block es e
 both_of block es e m h =
-    let has = (found_has (λ (r : Range). ⊤) (λ r. r.block == block) (ranges_in es) (range_in e) (all_true (ranges_in es)) h.range).1 in
-    by_key block es e m h.found (equal e.value.block block has)
+    by_key block es e m h.found (block_is block (ranges_in es) (range_in e) h.range)
+
+-- a mapped range has an entry
+entry_of : (block : ℕ) (es : List (Entry Range)) (r : Range) → AreMapped (ranges_in es) → range_of block (ranges_in es) ≡ Some r → (e : Entry Range) × IsEntryOf block es e × (range_in e ≡ r)
+entry_of block es r m there = go (at mapped_block block es) refl
   where
-    all_true : (rs : List Range) → AllByRecursion (λ (r : Range). ⊤) rs
-    all_true [] = tt
-    all_true (r ∷ rs) = (tt, all_true rs)
+    go : (o : Option (Entry Range)) → at mapped_block block es ≡ o → (e : Entry Range) × IsEntryOf block es e × (range_in e ≡ r)
+    go None is = let none : range_of block (ranges_in es) ≡ None = block-ranges block es ∙ ap (option_map range_in) is in cc
+    go (Some e) is =
+        let range : range_of block (ranges_in es) ≡ Some (range_in e) = block-ranges block es ∙ ap (option_map range_in) is in
+        (e, record { found = (found_has (λ (x : Entry Range). at_key x.key es ≡ Some x) (λ x. x.value.block == block) es e (own_key es m) is).0; range = range }, same_Some (range_in e) r (sym range ∙ there))
 
--- it begins at an address
-pub entry_bound : (block : ℕ) (es : List (Entry Mapping)) (e : Entry Mapping) → AreBounded es → IsEntryOf block es e → e.key < 2 ^ 64
-entry_bound block es e bounded h = (found_has (λ (x : Entry Mapping). x.key < 2 ^ 64) (λ x. x.key == e.key) es e bounded h.found).0
-
-pub entry_bound_if : (block : ℕ) (es : List (Entry Mapping)) (o : Option (Bor (Entry Mapping))) → AreBounded es → IfSome o (λ e. IsEntryOf block es e.now) → IfSome (seen o) (λ e. e.key < 2 ^ 64)
-entry_bound_if block es None bounded h = tt
-entry_bound_if block es (Some e) bounded h = entry_bound block es e.now bounded h
+-- which stands at its start
+pub key_there : (block : ℕ) (es : List (Entry Range)) (r : Range) → AreMapped (ranges_in es) → range_of block (ranges_in es) ≡ Some r → IsSome (at_key r.section.start es)
+key_there block es r m there =
+    let p = entry_of block es r m there in
+    rw (← p.2) (rw p.1.found refl)
 
 -- ---- the start of a block's range
 
--- the entry at the start that is kept for a block
-at_start : (block start : ℕ) (es : List (Entry Mapping)) (starts : List (Entry ℕ)) (e : Entry Mapping) → IsIndexed es starts → start_in block starts ≡ Some start → at_key start es ≡ Some e → IsEntryOf block es e
-at_start block start es starts e kept given found = go (range_of block (ranges_in es)) refl
+-- the range at the start that is kept for a block
+pub range_at : (block start : ℕ) (es : List (Entry Range)) (starts : List (Entry ℕ)) → IsIndexed es starts → start_in block starts ≡ Some start → option_map (λ (e : Entry Range). e.value) (at_key start es) ≡ range_of block (ranges_in es)
+range_at block start es starts kept given = value_if (at_key start es) (keyed_found (λ e. e.key == start) es kept.keyed) ∙ sym (start-ranges start es) ∙ go (range_of block (ranges_in es)) refl
   where
-    key_is : e.key ≡ start
-    key_is = equal e.key start (found_has (λ (x : Entry Mapping). x.key < 2 ^ 64) (λ x. x.key == start) es e kept.bounded found).1
-
-    go : (o : Option Range) → range_of block (ranges_in es) ≡ o → IsEntryOf block es e
+    go : (o : Option Range) → range_of block (ranges_in es) ≡ o → at start_key start (ranges_in es) ≡ o
     go None is = let none : start_in block starts ≡ None = kept.agrees block ∙ ap (option_map start_key) is in cc
     go (Some r) is =
         let same : start ≡ start_key r = same_Some start (start_key r) (sym given ∙ kept.agrees block ∙ ap (option_map start_key) is) in
-        let own : at start_key (start_key r) (ranges_in es) ≡ Some r = keyed.at-found start_key (λ t. t.block == block) (ranges_in es) r (starts_rise (ranges_in es) kept.mapped) is in
-        let here : at start_key start (ranges_in es) ≡ Some (range_in e) = start-ranges start es ∙ ap (option_map range_in) found in
-        let both : Some (range_in e) ≡ Some r = sym here ∙ ap (λ n. at start_key n (ranges_in es)) same ∙ own in
-        record { found = subst (λ n. at_key n es ≡ Some e) (sym key_is) found; range = is ∙ sym both }
-
--- there is one
-start_there : (block start : ℕ) (es : List (Entry Mapping)) (starts : List (Entry ℕ)) → IsIndexed es starts → start_in block starts ≡ Some start → at_key start es ≡ None → ⊥
-start_there block start es starts kept given none = go (range_of block (ranges_in es)) refl
-  where
-    go : (o : Option Range) → range_of block (ranges_in es) ≡ o → ⊥
-    go None is = let absent : start_in block starts ≡ None = kept.agrees block ∙ ap (option_map start_key) is in cc
-    go (Some r) is =
-        let same : start ≡ start_key r = same_Some start (start_key r) (sym given ∙ kept.agrees block ∙ ap (option_map start_key) is) in
-        let own : at start_key (start_key r) (ranges_in es) ≡ Some r = keyed.at-found start_key (λ t. t.block == block) (ranges_in es) r (starts_rise (ranges_in es) kept.mapped) is in
-        let here : at start_key start (ranges_in es) ≡ None = start-ranges start es ∙ ap (option_map range_in) none in
-        let both : None ≡ Some r = sym here ∙ ap (λ n. at start_key n (ranges_in es)) same ∙ own in
-        cc
-
-pub start_found : (block start : ℕ) (es : List (Entry Mapping)) (starts : List (Entry ℕ)) (o : Option (Bor (Entry Mapping))) → IsIndexed es starts → start_in block starts ≡ Some start → seen o ≡ at_key start es → IfSome o (λ e. IsEntryOf block es e.now)
-start_found block start es starts None kept given is = tt
-start_found block start es starts (Some e) kept given is = at_start block start es starts e.now kept given (sym is)
-
-pub start_found_none : (block start : ℕ) (es : List (Entry Mapping)) (starts : List (Entry ℕ)) (o : Option (Bor (Entry Mapping))) → IsIndexed es starts → start_in block starts ≡ Some start → seen o ≡ at_key start es → IfNone o (range_of block (ranges_in es) ≡ None)
-start_found_none block start es starts None kept given is = absurd (start_there block start es starts kept given (sym is))
-start_found_none block start es starts (Some e) kept given is = tt
+        ap (λ n. at start_key n (ranges_in es)) same ∙ keyed.at-found start_key (λ t. t.block == block) (ranges_in es) r (starts_rise (ranges_in es) kept.mapped) is
 
 -- no range has a block for which no start is kept
-pub no_start : (block : ℕ) (es : List (Entry Mapping)) (starts : List (Entry ℕ)) → IsIndexed es starts → at_key block starts ≡ None → range_of block (ranges_in es) ≡ None
+pub no_start : (block : ℕ) (es : List (Entry Range)) (starts : List (Entry ℕ)) → IsIndexed es starts → at_key block starts ≡ None → range_of block (ranges_in es) ≡ None
 no_start block es starts kept none = from_none start_key (range_of block (ranges_in es)) (sym (kept.agrees block) ∙ ap (option_map (λ e. e.value)) none)
 
 -- and no start is kept for a block that no range has
-pub start_new : (block : ℕ) (es : List (Entry Mapping)) (starts : List (Entry ℕ)) → IsIndexed es starts → range_of block (ranges_in es) ≡ None → at_key block starts ≡ None
+pub start_new : (block : ℕ) (es : List (Entry Range)) (starts : List (Entry ℕ)) → IsIndexed es starts → range_of block (ranges_in es) ≡ None → at_key block starts ≡ None
 start_new block es starts kept none = from_none (λ e. e.value) (at_key block starts) (kept.agrees block ∙ ap (option_map start_key) none)
 
-pub start_old : (block : ℕ) (es : List (Entry Mapping)) (starts : List (Entry ℕ)) → IsIndexed es starts → IsSome (range_of block (ranges_in es)) → IsSome (at_key block starts)
+pub start_old : (block : ℕ) (es : List (Entry Range)) (starts : List (Entry ℕ)) → IsIndexed es starts → IsSome (range_of block (ranges_in es)) → IsSome (at_key block starts)
 start_old block es starts kept there = from_some (λ e. e.value) (at_key block starts) (rw (kept.agrees block) (still_some start_key (range_of block (ranges_in es)) there))
 
 -- ---- a range more
 
 -- its entry goes in by its start
-pub with_entry-ranges : (new : Entry Mapping) (es : List (Entry Mapping)) → ranges_in (with_entry new es) ≡ with_range (range_in new) (ranges_in es)
+pub with_entry-ranges : (new : Entry Range) (es : List (Entry Range)) → ranges_in (with_entry new es) ≡ with_range (range_in new) (ranges_in es)
 with_entry-ranges new [] = refl
 with_entry-ranges new (e ∷ es) = go (with_entry-ranges new es) (nat_lt new.key e.key)
   where
@@ -204,9 +196,6 @@ with_entry-ranges new (e ∷ es) = go (with_entry-ranges new es) (nat_lt new.key
 
 put_in_entries : {T : Type 0} (new : Entry T) → IsPut new (λ e. nat_lt new.key e.key) (with_entry new)
 put_in_entries new = record { alone = refl; among = λ e es. refl }
-
-all-with_entry : (new : Entry Mapping) (es : List (Entry Mapping)) → new.key < 2 ^ 64 → AreBounded es → AreBounded (with_entry new es)
-all-with_entry new es bound bounded = all-put (put_in_entries new) (λ (e : Entry Mapping). e.key < 2 ^ 64) es bound bounded
 
 -- the entry of a key once one more is in
 at-with_entry : {T : Type 0} (new : Entry T) (es : List (Entry T)) (key : ℕ) → at_key new.key es ≡ None → at_key key (with_entry new es) ≡ cond (new.key == key) (Some new) (at_key key es)
@@ -228,7 +217,7 @@ of-with_range new rs block none = go (new.block == block) refl
     go false t = find-put_other put (λ r. r.block == block) rs t
 
 -- no range begins where an absent section does
-pub absent_start : (new : Range) (es : List (Entry Mapping)) → AreMapped (ranges_in es) → where_is new.section (ranges_in es) ≡ Absent → at_key new.section.start es ≡ None
+pub absent_start : (new : Range) (es : List (Entry Range)) → AreMapped (ranges_in es) → where_is new.section (ranges_in es) ≡ Absent → at_key new.section.start es ≡ None
 absent_start new es m absent =
     let says = absent_says new.section (ranges_in es) absent in
     let len : 0 < new.section.len = grind (arith, nat_tests, says.1) in
@@ -247,11 +236,11 @@ mapped-with new rs m absent none =
       own_block = apart_with (λ r t. r.block ≡ t.block → ⊥) new rs (AllByRecursion-weaker (λ (r : Range). (r.block == new.block) ≡ false) (λ r. (new.block ≡ r.block → ⊥) × (r.block ≡ new.block → ⊥)) rs (λ r f. (λ same. grind (arith, nat_tests), λ same. grind (arith, nat_tests))) (find_none (λ (r : Range). r.block == new.block) rs none)) m.own_block;
     }
 
-pub mapped_now : (new : Entry Mapping) (start : Entry ℕ) (es : List (Entry Mapping)) (starts : List (Entry ℕ)) → IsIndexed es starts → new.key < 2 ^ 64 → where_is (range_in new).section (ranges_in es) ≡ Absent → range_of new.value.block (ranges_in es) ≡ None
+pub mapped_now : (new : Entry Range) (start : Entry ℕ) (es : List (Entry Range)) (starts : List (Entry ℕ)) → IsIndexed es starts → IsKeyed new → where_is (range_in new).section (ranges_in es) ≡ Absent → range_of new.value.block (ranges_in es) ≡ None
     → start.key ≡ new.value.block → start.value ≡ new.key → IsIndexed (with_entry new es) (with_entry start starts)
-mapped_now new start es starts kept bound absent none key_is value_is = record {
+mapped_now new start es starts kept own absent none key_is value_is = record {
   mapped = rw (with_entry-ranges new es) (mapped-with (range_in new) (ranges_in es) kept.mapped absent none);
-  bounded = all-put_entry;
+  keyed = all-put (put_in_entries new) IsKeyed es own kept.keyed;
   agrees = λ block.
       ap (option_map (λ e. e.value)) (at-with_entry start starts block (subst (λ n. at_key n starts ≡ None) (sym key_is) (start_new new.value.block es starts kept none)))
       ∙ some_mapped (λ e. e.value) (start.key == block) start (at_key block starts)
@@ -261,9 +250,6 @@ mapped_now new start es starts kept bound absent none key_is value_is = record {
       ∙ ap (start_at block) (sym (with_entry-ranges new es));
 }
   where
-    all-put_entry : AreBounded (with_entry new es)
-    all-put_entry = all-with_entry new es bound kept.bounded
-
     same : (block : ℕ) → cond (start.key == block) (Some start.value) (start_in block starts) ≡ cond (new.value.block == block) (Some new.key) (start_at block (ranges_in es))
     same block = rw (key_is, value_is, kept.agrees block) refl
 
@@ -277,20 +263,20 @@ mapped-without block rs m = record {
 }
 
 -- of each entry, its key is that of the block's exactly where its block is the block
-pub record IsOnlyOne (block : ℕ) (e x : Entry Mapping) : Type 0 where
+pub record IsOnlyOne (block : ℕ) (e x : Entry Range) : Type 0 where
   pub tests : (x.key == e.key) ≡ (x.value.block == block)
   pub same : (x.key == e.key) ≡ true → x ≡ e
 
-pub only_one : (block : ℕ) (es : List (Entry Mapping)) (e : Entry Mapping) → AreMapped (ranges_in es) → IsEntryBoth block es e → AllByRecursion (IsOnlyOne block e) es
+pub only_one : (block : ℕ) (es : List (Entry Range)) (e : Entry Range) → AreMapped (ranges_in es) → IsEntryBoth block es e → AllByRecursion (IsOnlyOne block e) es
 only_one block es e m h = AllByRecursion-both (λ x. at_key x.key es ≡ Some x) (λ x. at mapped_block x.value.block es ≡ Some x) (IsOnlyOne block e) es (λ x k b. record { tests = tests x k b; same = λ t. by_its_key x k t }) (own_key es m) (own_mapped_block es m)
   where
-    by_its_key : (x : Entry Mapping) → at_key x.key es ≡ Some x → (x.key == e.key) ≡ true → x ≡ e
+    by_its_key : (x : Entry Range) → at_key x.key es ≡ Some x → (x.key == e.key) ≡ true → x ≡ e
     by_its_key x k t = same_Some x e (sym k ∙ ap (λ n. at_key n es) (equal x.key e.key t) ∙ h.key)
 
-    by_its_block : (x : Entry Mapping) → at mapped_block x.value.block es ≡ Some x → (x.value.block == block) ≡ true → x ≡ e
+    by_its_block : (x : Entry Range) → at mapped_block x.value.block es ≡ Some x → (x.value.block == block) ≡ true → x ≡ e
     by_its_block x b t = same_Some x e (sym b ∙ ap (λ n. at mapped_block n es) (equal x.value.block block t) ∙ h.by_block)
 
-    tests : (x : Entry Mapping) → at_key x.key es ≡ Some x → at mapped_block x.value.block es ≡ Some x → (x.key == e.key) ≡ (x.value.block == block)
+    tests : (x : Entry Range) → at_key x.key es ≡ Some x → at mapped_block x.value.block es ≡ Some x → (x.key == e.key) ≡ (x.value.block == block)
     tests x k b = go (x.key == e.key) refl (x.value.block == block) refl
       where
         go : (s : Bool) → (x.key == e.key) ≡ s → (t : Bool) → (x.value.block == block) ≡ t → s ≡ t
@@ -299,7 +285,7 @@ only_one block es e m h = AllByRecursion-both (λ x. at_key x.key es ≡ Some x)
         go true s false t = let same : x ≡ e = by_its_key x k s in let is : x.value.block ≡ block = ap mapped_block same ∙ h.is in absurd (differ x.value.block block t is)
         go false s true t = let same : x ≡ e = by_its_block x b t in absurd (differ x.key e.key s (ap key_of same))
 
-ranges-without : (block : ℕ) (e : Entry Mapping) (es : List (Entry Mapping)) → AllByRecursion (IsOnlyOne block e) es → ranges_in (without_key e.key es) ≡ without_range block (ranges_in es)
+ranges-without : (block : ℕ) (e : Entry Range) (es : List (Entry Range)) → AllByRecursion (IsOnlyOne block e) es → ranges_in (without_key e.key es) ≡ without_range block (ranges_in es)
 ranges-without block e [] only = refl
 ranges-without block e (x ∷ es) only = rw only.0.tests (go (ranges-without block e es only.1) (x.value.block == block))
   where
@@ -308,18 +294,21 @@ ranges-without block e (x ∷ es) only = rw only.0.tests (go (ranges-without blo
     go rest false = ap (λ rs. range_in x ∷ rs) rest
 
 -- what the entries are once a range is taken out
-pub record IsUnmappedNow (block : ℕ) (es ts : List (Entry Mapping)) (starts : List (Entry ℕ)) : Type 0 where
+pub record IsUnmappedNow (block : ℕ) (es ts : List (Entry Range)) (starts : List (Entry ℕ)) : Type 0 where
   pub ranges : ranges_in ts ≡ without_range block (ranges_in es)
   pub indexed : IsIndexed ts starts
 
-pub unmapped_now : (block : ℕ) (es : List (Entry Mapping)) (starts : List (Entry ℕ)) (e : Entry Mapping) → IsIndexed es starts → IsEntryOf block es e → IsUnmappedNow block es (without_key e.key es) (without_key block starts)
-unmapped_now block es starts e kept h =
-    let ranges = ranges-without block e es (only_one block es e kept.mapped (both_of block es e kept.mapped h)) in
-    record {
+pub unmapped_now : (block : ℕ) (es : List (Entry Range)) (starts : List (Entry ℕ)) (r : Range) → IsIndexed es starts → range_of block (ranges_in es) ≡ Some r → IsUnmappedNow block es (without_key r.section.start es) (without_key block starts)
+unmapped_now block es starts r kept there =
+    let p = entry_of block es r kept.mapped there in
+    let e = p.0 in
+    let ranges = ranges-without block e es (only_one block es e kept.mapped (both_of block es e kept.mapped p.1)) in
+    subst (λ (x : Range). IsUnmappedNow block es (without_key x.section.start es) (without_key block starts)) p.2
+    (record {
       ranges = ranges;
       indexed = record {
         mapped = rw ranges (mapped-without block (ranges_in es) kept.mapped);
-        bounded = AllByRecursion-filter (λ (x : Entry Mapping). x.key < 2 ^ 64) (λ x. not (x.key == e.key)) es kept.bounded;
+        keyed = AllByRecursion-filter IsKeyed (λ x. not (x.key == e.key)) es kept.keyed;
         agrees = λ other.
             ap (option_map (λ x. x.value)) (keyed.at-without (λ (x : Entry ℕ). x.key) starts block other)
             ∙ none_mapped (λ x. x.value) (block == other) (at_key other starts)
@@ -328,43 +317,45 @@ unmapped_now block es starts e kept h =
             ∙ ap (option_map start_key) (sym (keyed.at-without block_key (ranges_in es) block other))
             ∙ ap (start_at other) (sym ranges);
       };
-    }
+    })
 
 -- ---- a range changed
 
-abbrev range_made : Section → Mapping → Range
-range_made s m = record { section = s; block = m.block; structured = m.structured; dynamic = m.dynamic }
+-- a range at its own start is the range of its entry
+whole : (r : Range) (k : ℕ) → r.section.start ≡ k → range_in (record { key = k; value = r }) ≡ r
+whole r k is = sym (ap (λ (n : ℕ). record r { section = record r.section { start = n } }) is)
 
-ranges-changed : (block : ℕ) (f : Range → Range) (e : Entry Mapping) (es : List (Entry Mapping)) → KeepsPlace f → AllByRecursion (IsOnlyOne block e) es → ranges_in (with_value e.key (mapping_of (f (range_in e))) es) ≡ changed_at block f (ranges_in es)
+ranges-changed : (block : ℕ) (f : Range → Range) (e : Entry Range) (es : List (Entry Range)) → KeepsPlace f → AllByRecursion (IsOnlyOne block e) es → ranges_in (with_value e.key (f (range_in e)) es) ≡ changed_at block f (ranges_in es)
 ranges-changed block f e [] keeps only = refl
-ranges-changed block f e (x ∷ es) keeps only = ap (λ r. r ∷ ranges_in (with_value e.key (mapping_of (f (range_in e))) es)) (one only.0) ∙ ap (λ rs. cond (x.value.block == block) (f (range_in x)) (range_in x) ∷ rs) (ranges-changed block f e es keeps only.1)
+ranges-changed block f e (x ∷ es) keeps only = ap (λ r. r ∷ ranges_in (with_value e.key (f (range_in e)) es)) (one only.0) ∙ ap (λ rs. cond (x.value.block == block) (f (range_in x)) (range_in x) ∷ rs) (ranges-changed block f e es keeps only.1)
   where
-    whole : (r : Range) (s : Section) → r.section ≡ s → range_made s (mapping_of r) ≡ r
-    whole r s is = ap (λ t. range_made t (mapping_of r)) (sym is)
-
-    one : IsOnlyOne block e x → range_in (value_written e.key (mapping_of (f (range_in e))) x) ≡ cond (x.value.block == block) (f (range_in x)) (range_in x)
+    one : IsOnlyOne block e x → range_in (value_written e.key (f (range_in e)) x) ≡ cond (x.value.block == block) (f (range_in x)) (range_in x)
     one o = rw (← o.tests) (go (x.key == e.key) refl)
       where
-        go : (b : Bool) → (x.key == e.key) ≡ b → range_in (cond b (record x { value = mapping_of (f (range_in e)) }) x) ≡ cond b (f (range_in x)) (range_in x)
-        go true t = let same : x ≡ e = o.same t in rw same (whole (f (range_in e)) (range_in e).section (keeps.section (range_in e)))
+        go : (b : Bool) → (x.key == e.key) ≡ b → range_in (cond b (record x { value = f (range_in e) }) x) ≡ cond b (f (range_in x)) (range_in x)
+        go true t = let same : x ≡ e = o.same t in rw same (whole (f (range_in e)) e.key (ap (λ (s : Section). s.start) (keeps.section (range_in e))))
         go false t = refl
 
 -- what the entries are once the range of a block is changed
-pub record IsChangedNow (block : ℕ) (f : Range → Range) (es ts : List (Entry Mapping)) (starts : List (Entry ℕ)) : Type 0 where
+pub record IsChangedNow (block : ℕ) (f : Range → Range) (es ts : List (Entry Range)) (starts : List (Entry ℕ)) : Type 0 where
   pub ranges : ranges_in ts ≡ changed_at block f (ranges_in es)
   pub indexed : IsIndexed ts starts
 
-changed_now : (block : ℕ) (f : Range → Range) (es : List (Entry Mapping)) (starts : List (Entry ℕ)) (e : Entry Mapping) → KeepsPlace f → IsIndexed es starts → IsEntryOf block es e → IsChangedNow block f es (with_value e.key (mapping_of (f (range_in e))) es) starts
+changed_now : (block : ℕ) (f : Range → Range) (es : List (Entry Range)) (starts : List (Entry ℕ)) (e : Entry Range) → KeepsPlace f → IsIndexed es starts → IsEntryOf block es e → IsChangedNow block f es (with_value e.key (f (range_in e)) es) starts
 changed_now block f es starts e keeps kept h = record {
   ranges = ranges;
   indexed = record {
     mapped = rw ranges changed_mapped;
-    bounded = AllByRecursion-map (λ (x : Entry Mapping). x.key < 2 ^ 64) (value_written e.key (mapping_of (f (range_in e)))) es (AllByRecursion-weaker (λ (x : Entry Mapping). x.key < 2 ^ 64) (λ x. (value_written e.key (mapping_of (f (range_in e))) x).key < 2 ^ 64) es (λ x l. rw (key-written e.key (mapping_of (f (range_in e))) x) l) kept.bounded);
+    keyed = AllByRecursion-map IsKeyed (value_written e.key (f (range_in e))) es (AllByRecursion-weaker IsKeyed (λ x. IsKeyed (value_written e.key (f (range_in e)) x)) es (λ x k. still_keyed x k (x.key == e.key) refl) kept.keyed);
     agrees = λ other. kept.agrees other ∙ sym (start_same other (ranges_in es)) ∙ ap (start_at other) (sym ranges);
   };
 }
   where
-    ranges : ranges_in (with_value e.key (mapping_of (f (range_in e))) es) ≡ changed_at block f (ranges_in es)
+    still_keyed : (x : Entry Range) → IsKeyed x → (b : Bool) → (x.key == e.key) ≡ b → IsKeyed (cond b (record x { value = f (range_in e) }) x)
+    still_keyed x k true t = record { start = ap (λ (s : Section). s.start) (keeps.section (range_in e)) ∙ sym (equal x.key e.key t); bound = k.bound }
+    still_keyed x k false t = k
+
+    ranges : ranges_in (with_value e.key (f (range_in e)) es) ≡ changed_at block f (ranges_in es)
     ranges = ranges-changed block f e es keeps (only_one block es e kept.mapped (both_of block es e kept.mapped h))
 
     changed_mapped : AreMapped (changed_at block f (ranges_in es))
@@ -385,8 +376,9 @@ changed_now block f es starts e keeps kept h = record {
         pick rest false = rest
 
 -- the same where the changed range was written over it
-pub written_now : (block : ℕ) (f : Range → Range) (es ts : List (Entry Mapping)) (starts : List (Entry ℕ)) (e : Entry Mapping) (r : Range) → KeepsPlace f → IsIndexed es starts → IsEntryOf block es e
-    → r ≡ f (range_in e) → ts ≡ with_value r.section.start (mapping_of r) es → IsChangedNow block f es ts starts
-written_now block f es ts starts e r keeps kept h is now =
-    let same : ts ≡ with_value e.key (mapping_of (f (range_in e))) es = now ∙ ap (λ (x : Range). with_value x.section.start (mapping_of x) es) is ∙ ap (λ (s : Section). with_value s.start (mapping_of (f (range_in e))) es) (keeps.section (range_in e)) in
-    rw same (changed_now block f es starts e keeps kept h)
+pub written_now : (block : ℕ) (f : Range → Range) (es ts : List (Entry Range)) (starts : List (Entry ℕ)) (r new : Range) → KeepsPlace f → IsIndexed es starts → range_of block (ranges_in es) ≡ Some r
+    → new ≡ f r → ts ≡ with_value r.section.start new es → IsChangedNow block f es ts starts
+written_now block f es ts starts r new keeps kept there is now =
+    let p = entry_of block es r kept.mapped there in
+    let same : ts ≡ with_value p.0.key (f (range_in p.0)) es = now ∙ ap (λ (x : Range). with_value r.section.start x es) is ∙ ap (λ (x : Range). with_value x.section.start (f x) es) (sym p.2) in
+    rw same (changed_now block f es starts p.0 keeps kept p.1)

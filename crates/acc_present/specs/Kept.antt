@@ -1,43 +1,33 @@
 -- How the present table keeps its ranges and regions. No public clause cites this module.
-use Rattle.std.specs.Prelude.{ℕ, ◌≡◌, ◌^◌, ◌<◌, List, map, Option, Some, option_map}
+use Rattle.std.specs.Prelude.{ℕ, ◌≡◌, ◌^◌, ◌<◌, List, filter, map, nat_le, Option, Some, None, option_map, ⊤}
 use Rattle.std.specs.List.{AllByRecursion}
+use Rattle.acc_base.specs.declared.items.Section.{Section}
 use Rattle.acc_base.specs.declared.mappings.Range.{Range}
-use Rattle.acc_base.specs.Ranges.{range_of}
+use Rattle.acc_base.specs.declared.mappings.Found.TheVariants.{Absent}
+use Rattle.acc_base.specs.Ranges.{range_of, range_from, where_is_apart, counter_in, risen, fallen, cleared}
 use Rattle.acc_base.specs.Register.{Region}
 use Rattle.acc_base.specs.Accounts.{EachPair}
-use Rattle.acc_tree.specs.declared.entries.Entry.{Entry}
-use Rattle.acc_tree.specs.Listing.{at_key}
-use Rattle.acc_present.specs.declared.entries.Mapping.{Mapping}
+use Rattle.acc_ordered.specs.declared.entries.Entry.{Entry}
+use Rattle.acc_ordered.specs.Listing.{at_key}
+use Rattle.acc_present.specs.declared.ranges.Change.{Change}
+use Rattle.acc_present.specs.declared.ranges.Change.TheVariants.{Raise, Lower, Clear}
 use Rattle.acc_present.specs.declared.register.OpenRegion.{OpenRegion}
 use Rattle.acc_present.specs.Present.{AreMapped}
 
 -- ---- the ranges
 
--- the range of an entry
-abbrev pub range_in : Entry Mapping → Range
-range_in e = record { section = record { start = e.key; len = e.size }; block = e.value.block; structured = e.value.structured; dynamic = e.value.dynamic }
+-- the range of an entry, whose key is its start
+abbrev pub range_in : Entry Range → Range
+range_in e = record { section = record { start = e.key; len = e.value.section.len }; block = e.value.block; structured = e.value.structured; dynamic = e.value.dynamic }
 
 -- the ranges of some entries
-abbrev pub ranges_in : List (Entry Mapping) → List Range
+abbrev pub ranges_in : List (Entry Range) → List Range
 ranges_in entries = map range_in entries
 
--- what is kept of a range beside its section
-abbrev pub mapping_of : Range → Mapping
-mapping_of r = record { block = r.block; structured = r.structured; dynamic = r.dynamic }
-
--- their starts are addresses
-abbrev pub AreBounded : List (Entry Mapping) → Type 0
-AreBounded entries = AllByRecursion (λ (e : Entry Mapping). e.key < 2 ^ 64) entries
-
--- the entry is that of the range that is mapped to the block
-pub record IsEntryOf (block : ℕ) (entries : List (Entry Mapping)) (e : Entry Mapping) : Type 0 where
-  pub found : at_key e.key entries ≡ Some e
-  pub range : range_of block (ranges_in entries) ≡ Some (range_in e)
-
--- the mapped ranges, and how many more can be added without allocating
-pub record MappingsState : Type 0 where
-  pub ranges : List Range
-  pub room : ℕ
+-- the entry has the start of its range for a key, which is an address
+pub record IsKeyed (e : Entry Range) : Type 0 where
+  pub start : e.value.section.start ≡ e.key
+  pub bound : e.key < 2 ^ 64
 
 -- ---- the start of each block's range
 
@@ -49,11 +39,36 @@ start_in block starts = option_map (λ e. e.value) (at_key block starts)
 abbrev pub start_at : ℕ → List Range → Option ℕ
 start_at block ranges = option_map (λ r. r.section.start) (range_of block ranges)
 
--- the ranges are mapped, and the start of each block's range is kept
-pub record IsIndexed (entries : List (Entry Mapping)) (starts : List (Entry ℕ)) : Type 0 where
+-- the ranges are mapped, each by its start, and the start of each block's range is kept
+pub record IsIndexed (entries : List (Entry Range)) (starts : List (Entry ℕ)) : Type 0 where
   pub mapped : AreMapped (ranges_in entries)
-  pub bounded : AreBounded entries
+  pub keyed : AllByRecursion IsKeyed entries
   pub agrees : (block : ℕ) → start_in block starts ≡ start_at block (ranges_in entries)
+
+-- ---- a search
+
+-- the ranges that begin at an address or behind it
+abbrev pub ranges_from : ℕ → List Range → List Range
+ranges_from k rs = filter (λ r. nat_le k r.section.start) rs
+
+-- the first of the ranges that are left, which say what all say
+abbrev pub IsNext : Section → List ℕ → List Range → Option Range → Type 0
+IsNext s blocks rs None = where_is_apart s blocks rs ≡ Absent
+IsNext s blocks rs (Some r) = (range_from r.section.start rs ≡ Some r) × (where_is_apart s blocks rs ≡ where_is_apart s blocks (ranges_from r.section.start rs))
+
+-- ---- a change of a counter
+
+-- what it makes of a range
+abbrev pub changed_by : Change → Range → Range
+changed_by (Raise counter) = risen counter
+changed_by (Lower counter) = fallen counter
+changed_by Clear = cleared
+
+-- a counter that rises is below the limit
+abbrev pub IsChangeable : Change → ℕ → Range → Type 0
+IsChangeable (Raise counter) most r = counter_in counter r < most
+IsChangeable (Lower counter) most r = ⊤
+IsChangeable Clear most r = ⊤
 
 -- ---- the open regions
 

@@ -3,13 +3,9 @@
 #![tactic(auto)]
 
 mod copying;
-mod entries;
-mod hints;
-mod mappings;
 mod presence;
 mod ranges;
 mod register;
 
-pub use hints::{Hint, Located};
 pub use presence::Present;
 pub use register::OpenRegion;

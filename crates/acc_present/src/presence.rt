@@ -1,16 +1,18 @@
 //! The present table as one value.
 
-ghost use Rattle.std.specs.Prelude.{◌≡◌, ℕ, ◌+◌, ◌*◌, ◌^◌, ◌<◌, ◌≤◌, ◌↔◌, length, map, MatchResult, None, Some, Err, IfOk, IfErr, OnOk, OnErr, MatchOption};
+ghost use Rattle.std.specs.Prelude.{◌≡◌, ℕ, ◌+◌, ◌*◌, ◌^◌, ◌<◌, ◌≤◌, ◌↔◌, length, map, option_map, MatchResult, None, Some, Err, IfOk, IfErr, OnOk, OnErr, IfSome, MatchOption};
 ghost use Rattle.acc_base.specs.declared.mappings.Counter.TheVariants.{Structured, Dynamic};
 ghost use Rattle.acc_base.specs.declared.mappings.Found.TheVariants.{Absent};
 ghost use Rattle.acc_base.specs.Ranges.{where_is, where_is_apart, range_of, range_from, structured_of, dynamic_of, counter_of, with_range, without_range, changed_at, bare_range, risen, fallen, cleared};
 ghost use Rattle.acc_base.specs.Register.{region_at, newest_region, holdings_at, with_region, without_region};
+ghost use Rattle.acc_ordered.specs.Listing.{seen};
 ghost use Rattle.acc_present.specs.Present.{new_table, with_ranges, with_regions, HasRange, HasRegion, IsRoomKept, IsRangeRoomTaken, IsRegionRoomTaken, IsRoomMissing, IsLawful, region_of};
+ghost use Rattle.acc_present.specs.Kept.{IsNext, IsChangeable, changed_by};
 
-use crate::hints::{Hint, Located};
-use crate::mappings::Mappings;
+use crate::ranges::{Change, changed, told_by, value_of};
 use crate::register::{OpenRegion, Register};
 use acc_base::{Counter, Counters, Fault, Found, Holding, Range, Section, Steps};
+use acc_ordered::{Entry, Found as InTree, Tree};
 use std::alloc::Global;
 use std::marker::Model;
 
@@ -20,30 +22,39 @@ use std::marker::Model;
 /// Contracts see the table, and the room that was made for more beside it. A refused call leaves the table as it was.
 /// Only `new`, `add`, `enter` and `reserve` allocate for it, and `copy_ranges` and `copy_regions` for their results.
 ///
-/// A section is searched for by halves, and so is a block number, unless the range stands where a [`Hint`] says. The
-/// ranges stand in rows of up to 64. A range that is added or removed moves others of its row. The list of rows moves
-/// too where a full row is split, or a row becomes empty or is joined with the next. That grows with the number of
-/// ranges.
+/// The ranges stand in a [`Tree`] by rising start, and the start of each block's range in one by rising block number.
 #[derive(Drop)]
 pub struct Present {
     counter_max: u64,
-    mappings: Mappings,
+    // By start.
+    ranges: Tree<Range>,
+    // By block.
+    starts: Tree<u64>,
     register: Register,
 }
 
 impl Model for Present {
-    ghost use Rattle.std.specs.Prelude.{◌^◌, ◌<◌};
+    ghost use Rattle.std.specs.Prelude.{◌^◌, ◌<◌, min};
     ghost use Rattle.std.specs.List.{AllByRecursion};
     ghost use Rattle.acc_present.specs.Present.{PresentState, IsWithinLimit};
+    ghost use Rattle.acc_present.specs.Kept.{ranges_in, IsIndexed};
 
     ghost Value = { PresentState };
 
     ghost view = { λ p. record {
-      table = record { counter_max = p.counter_max; ranges = p.mappings.ranges; regions = p.register.regions };
-      room = record { ranges = p.mappings.room; regions = p.register.room; holdings = p.register.holdings };
+      table = record { counter_max = p.counter_max; ranges = ranges_in p.ranges.entries; regions = p.register.regions };
+      room = record { ranges = min p.ranges.room p.starts.room; regions = p.register.room; holdings = p.register.holdings };
     } };
 
-    ghost invariant = { λ p. (p.counter_max < 2 ^ 32) × AllByRecursion (IsWithinLimit p.counter_max) p.mappings.ranges };
+    ghost invariant = { λ p. (p.counter_max < 2 ^ 32) × AllByRecursion (IsWithinLimit p.counter_max) (ranges_in p.ranges.entries) × IsIndexed p.ranges.entries p.starts.entries };
+}
+
+/// The range that was found, if one was.
+#[inline]
+fn range_if(found: Option<InTree<'_, Range>>) -> Option<Range>
+    ensures { result ≡ option_map (λ e. e.value) (seen found.entry) }
+{
+    Some(*found?.value)
 }
 
 impl Present {
@@ -53,9 +64,17 @@ impl Present {
         requires { counter_max < 2 ^ 32 }
         ensures { result.table ≡ new_table counter_max }
     {
+        let section = Section { start: 0, len: 0 };
+        let blank = Range {
+            section,
+            block: 0,
+            structured: 0,
+            dynamic: 0,
+        };
         Present {
             counter_max,
-            mappings: Mappings::new(alloc),
+            ranges: Tree::new(alloc, blank),
+            starts: Tree::new(alloc, 0),
             register: Register::new(alloc),
         }
     }
@@ -65,51 +84,121 @@ impl Present {
     pub fn laws(&self)
         ensures { IsLawful self.now.table }
     {
-        self.mappings.laws();
         self.register.laws();
     }
 
     // ---- mapped ranges
 
     /// Where a section lies among the mapped ranges: it is empty, inside one of them, absent, or partly present. Any
-    /// section may be asked for, one that reaches past the last `u64` too. The hint is where the range stands that it
-    /// is inside of.
-    pub fn find(&self, section: Section) -> Located
-        ensures { result.found ≡ where_is section self.now.table.ranges }
+    /// section may be asked for, one that reaches past the last `u64` too.
+    pub fn find(&self, section: Section) -> Found
+        ensures { result ≡ where_is section self.now.table.ranges }
     {
-        self.mappings.find_counted(section, &mut Steps::new())
+        self.find_counted(section, &mut Steps::new())
     }
 
     /// Where a section lies, as [`Present::find`] says, by at most two steps for each binary digit of the number of
-    /// mapped ranges. At most 2^32 were counted before.
+    /// mapped ranges. There is one at least where ranges are mapped and the section is not empty. At most 2^32 were
+    /// counted before.
     pub fn find_counted(&self, section: Section, steps: &mut Steps) -> Found
         requires limit { steps.old ≤ 2 ^ 32 }
         ensures found { result ≡ where_is section self.now.table.ranges }
         ensures not_fewer { steps.old ≤ steps.new }
+        ensures least { 0 < section.len → 0 < length self.now.table.ranges → steps.old < steps.new }
         ensures steps { (d : ℕ) → length self.now.table.ranges < 2 ^ d → steps.new ≤ steps.old + 2 * d }
     {
-        self.mappings.find_counted(section, steps).found
+        self.laws();
+        match self.locate(section, &[], steps) {
+            Ok(found) => found,
+            Err(None) => Found::Absent,
+            Err(Some(range)) => told_by(range, section, &[]).unwrap_or(Found::Absent),
+        }
     }
 
-    /// Where a section would lie if the mappings to the listed blocks had ended, and where its range stands.
-    pub fn find_apart(&self, section: Section, blocks: &[u64]) -> Located
-        ensures { result.found ≡ where_is_apart section blocks.now self.now.table.ranges }
+    /// Where a section would lie if the mappings to the listed blocks had ended. The search goes on from range to range
+    /// as long as their blocks are listed.
+    pub fn find_apart(&self, section: Section, blocks: &[u64]) -> Found
+        ensures { result ≡ where_is_apart section blocks.now self.now.table.ranges }
     {
-        self.mappings.find(section, blocks)
+        self.laws();
+        let mut next = match self.locate(section, blocks, &mut Steps::new()) {
+            Ok(found) => return found,
+            Err(next) => next,
+        };
+        while let Some(range) = next {
+            if let Some(found) = told_by(range, section, blocks) {
+                return found;
+            }
+            next = self.behind(range);
+        }
+        Found::Absent
+    }
+
+    /// Where a section lies among the ranges without those of the listed blocks, as far as the last range says that does
+    /// not begin behind the section's start. Else the first range that does.
+    #[inline]
+    fn locate(
+        &self,
+        section: Section,
+        blocks: &[u64],
+        steps: &mut Steps,
+    ) -> Result<Found, Option<Range>>
+        requires limit { steps.old ≤ 2 ^ 32 }
+        ensures found { IfOk result (λ found. found ≡ where_is_apart section blocks.now self.now.table.ranges) }
+        ensures next { IfErr result (λ next. IsNext section blocks.now self.now.table.ranges next) }
+        ensures some { OnErr result (0 < section.len) }
+        ensures behind { IfErr result (λ next. IfSome next (λ range. section.start ≤ range.section.start)) }
+        ensures not_fewer { steps.old ≤ steps.new }
+        ensures least { 0 < section.len → 0 < length self.now.table.ranges → steps.old < steps.new }
+        ensures steps { (d : ℕ) → length self.now.table.ranges < 2 ^ d → steps.new ≤ steps.old + 2 * d }
+    {
+        if section.len == 0 {
+            return Ok(Found::Empty);
+        }
+        let around = self
+            .ranges
+            .around_counted(section.start.saturating_add(1), steps);
+        if let Some(range) = range_if(around.before) {
+            if let Some(found) = told_by(range, section, blocks) {
+                return Ok(found);
+            }
+        }
+        Err(range_if(around.from))
+    }
+
+    /// The mapped range behind another.
+    fn behind(&self, range: Range) -> Option<Range>
+        ensures { result ≡ range_from (range.section.start + 1) self.now.table.ranges }
+    {
+        let ranges = &self.ranges;
+        range_if(ranges.next(range.section.start.checked_add(1)?))
     }
 
     /// The range that is mapped to a block, if one is.
-    pub fn range(&self, block: u64, hint: Hint) -> Option<Range>
+    pub fn range(&self, block: u64) -> Option<Range>
         ensures { result ≡ range_of block self.now.table.ranges }
     {
-        self.mappings.range(block, hint)
+        let start = self.starts.get(block)?.value;
+        range_if(self.ranges.get(*start))
+    }
+
+    /// The range that is mapped to a block. One is.
+    fn mapped(&self, block: u64) -> Range
+        requires { HasRange self.now.table block }
+        ensures range { range_of block self.now.table.ranges ≡ Some result }
+        ensures block { result.block ≡ block }
+    {
+        let Some(range) = self.range(block) else {
+            unreachable!()
+        };
+        range
     }
 
     /// The mapped range of least start at or above an address.
     pub fn next_range(&self, from: u64) -> Option<Range>
         ensures { result ≡ range_from from self.now.table.ranges }
     {
-        self.mappings.next_range(from)
+        range_if(self.ranges.next(from))
     }
 
     /// Maps a section to a block. The section is absent, and no range is mapped to the block. Both counters of the new
@@ -129,14 +218,14 @@ impl Present {
         ensures taken { OnOk result (IsRangeRoomTaken self.old.room self.new.room) }
         ensures kept { OnErr result (IsRoomKept self.old.room self.new.room) }
     {
-        self.mappings.reserve(1)?;
-        self.mappings.map(section, block);
+        self.reserve(1, 0, 0)?;
+        self.add_reserved(section, block);
         Ok(())
     }
 
     /// As [`Present::add`], where there is room for one more range: it allocates nothing and is not refused. It takes
-    /// one from the room of ranges. It returns where the new range stands.
-    pub fn add_reserved(&mut self, section: Section, block: u64) -> Hint
+    /// one from the room of ranges.
+    pub fn add_reserved(&mut self, section: Section, block: u64)
         requires room { 1 ≤ self.old.room.ranges }
         requires absent { where_is section self.old.table.ranges ≡ Absent }
         requires new { range_of block self.old.table.ranges ≡ None }
@@ -145,31 +234,44 @@ impl Present {
         ensures room_regions { self.old.room.regions ≤ self.new.room.regions }
         ensures room_holdings { self.old.room.holdings ≤ self.new.room.holdings }
     {
-        self.mappings.map(section, block)
+        let range = Range {
+            section,
+            block,
+            structured: 0,
+            dynamic: 0,
+        };
+        self.ranges.insert(Entry {
+            key: section.start,
+            value: range,
+        });
+        self.starts.insert(Entry {
+            key: block,
+            value: section.start,
+        });
     }
 
     /// Ends the mapping to a block. A range is mapped to it, and both counters of the range are 0.
-    pub fn remove(&mut self, block: u64, hint: Hint)
+    pub fn remove(&mut self, block: u64)
         requires there { HasRange self.old.table block }
         requires structured { structured_of block self.old.table.ranges ≡ 0 }
         requires dynamic { dynamic_of block self.old.table.ranges ≡ 0 }
         ensures table { self.new.table ≡ with_ranges self.old.table (without_range block self.old.table.ranges) }
         ensures room { IsRoomKept self.old.room self.new.room }
     {
-        self.mappings.unmap(block, hint);
+        let range = self.mapped(block);
+        self.ranges.remove(range.section.start);
+        self.starts.remove(block);
     }
 
     // ---- reference counters
 
     /// The two reference counters of the range that is mapped to a block. One is.
-    pub fn counters(&self, block: u64, hint: Hint) -> Counters
+    pub fn counters(&self, block: u64) -> Counters
         requires { HasRange self.now.table block }
         ensures structured { result.structured ≡ structured_of block self.now.table.ranges }
         ensures dynamic { result.dynamic ≡ dynamic_of block self.now.table.ranges }
     {
-        let Some(range) = self.mappings.range(block, hint) else {
-            unreachable!()
-        };
+        let range = self.mapped(block);
         Counters {
             structured: range.structured,
             dynamic: range.dynamic,
@@ -182,7 +284,7 @@ impl Present {
     ///
     /// [`Fault::CounterFull`] with item 0, exactly where the counter has its greatest value. The table is then as
     /// before.
-    pub fn count_structured(&mut self, block: u64, hint: Hint) -> Result<(), Fault>
+    pub fn count_structured(&mut self, block: u64) -> Result<(), Fault>
         requires { HasRange self.old.table block }
         ensures ok { OnOk result (self.new.table ≡ with_ranges self.old.table (changed_at block (risen Structured) self.old.table.ranges)) }
         ensures full { (result ≡ Err (Fault.CounterFull 0)) ↔ (structured_of block self.old.table.ranges ≡ self.old.table.counter_max) }
@@ -190,7 +292,7 @@ impl Present {
         ensures unchanged { OnErr result (self.new.table ≡ self.old.table) }
         ensures room { IsRoomKept self.old.room self.new.room }
     {
-        self.count(Counter::Structured, block, hint)
+        self.count(Counter::Structured, block)
     }
 
     /// Raises the dynamic counter of the range that is mapped to a block. One is.
@@ -199,7 +301,7 @@ impl Present {
     ///
     /// [`Fault::CounterFull`] with item 0, exactly where the counter has its greatest value. The table is then as
     /// before.
-    pub fn count_dynamic(&mut self, block: u64, hint: Hint) -> Result<(), Fault>
+    pub fn count_dynamic(&mut self, block: u64) -> Result<(), Fault>
         requires { HasRange self.old.table block }
         ensures ok { OnOk result (self.new.table ≡ with_ranges self.old.table (changed_at block (risen Dynamic) self.old.table.ranges)) }
         ensures full { (result ≡ Err (Fault.CounterFull 0)) ↔ (dynamic_of block self.old.table.ranges ≡ self.old.table.counter_max) }
@@ -207,11 +309,11 @@ impl Present {
         ensures unchanged { OnErr result (self.new.table ≡ self.old.table) }
         ensures room { IsRoomKept self.old.room self.new.room }
     {
-        self.count(Counter::Dynamic, block, hint)
+        self.count(Counter::Dynamic, block)
     }
 
     /// Raises one of the counters of the range that is mapped to a block.
-    fn count(&mut self, counter: Counter, block: u64, hint: Hint) -> Result<(), Fault>
+    fn count(&mut self, counter: Counter, block: u64) -> Result<(), Fault>
         requires { HasRange self.old.table block }
         ensures ok { OnOk result (self.new.table ≡ with_ranges self.old.table (changed_at block (risen counter) self.old.table.ranges)) }
         ensures below { OnOk result (counter_of counter block self.old.table.ranges < self.old.table.counter_max) }
@@ -220,38 +322,49 @@ impl Present {
         ensures unchanged { OnErr result (self.new.table ≡ self.old.table) }
         ensures room { IsRoomKept self.old.room self.new.room }
     {
-        if self.mappings.raise(counter, block, hint, self.counter_max) {
-            Ok(())
-        } else {
-            Err(Fault::CounterFull { item: 0 })
+        let range = self.mapped(block);
+        if self.counter_max <= value_of(counter, range) {
+            return Err(Fault::CounterFull { item: 0 });
         }
+        self.change(Change::Raise(counter), range);
+        Ok(())
+    }
+
+    /// Changes a counter of a mapped range. One that rises is below the limit.
+    fn change(&mut self, change: Change, range: Range)
+        requires there { range_of range.block self.old.table.ranges ≡ Some range }
+        requires below { IsChangeable change self.old.table.counter_max range }
+        ensures table { self.new.table ≡ with_ranges self.old.table (changed_at range.block (changed_by change) self.old.table.ranges) }
+        ensures room { IsRoomKept self.old.room self.new.room }
+    {
+        self.ranges.set(range.section.start, changed(change, range));
     }
 
     /// Lowers the structured counter of the range that is mapped to a block. One is. Zero stays zero.
-    pub fn drop_structured(&mut self, block: u64, hint: Hint)
+    pub fn drop_structured(&mut self, block: u64)
         requires { HasRange self.old.table block }
         ensures table { self.new.table ≡ with_ranges self.old.table (changed_at block (fallen Structured) self.old.table.ranges) }
         ensures room { IsRoomKept self.old.room self.new.room }
     {
-        self.mappings.lower(Counter::Structured, block, hint);
+        self.change(Change::Lower(Counter::Structured), self.mapped(block));
     }
 
     /// Lowers the dynamic counter of the range that is mapped to a block. One is. Zero stays zero.
-    pub fn drop_dynamic(&mut self, block: u64, hint: Hint)
+    pub fn drop_dynamic(&mut self, block: u64)
         requires { HasRange self.old.table block }
         ensures table { self.new.table ≡ with_ranges self.old.table (changed_at block (fallen Dynamic) self.old.table.ranges) }
         ensures room { IsRoomKept self.old.room self.new.room }
     {
-        self.mappings.lower(Counter::Dynamic, block, hint);
+        self.change(Change::Lower(Counter::Dynamic), self.mapped(block));
     }
 
     /// Sets the dynamic counter of the range that is mapped to a block to 0 (OpenACC 3.3, the finalize clause). One is.
-    pub fn clear_dynamic(&mut self, block: u64, hint: Hint)
+    pub fn clear_dynamic(&mut self, block: u64)
         requires { HasRange self.old.table block }
         ensures table { self.new.table ≡ with_ranges self.old.table (changed_at block cleared self.old.table.ranges) }
         ensures room { IsRoomKept self.old.room self.new.room }
     {
-        self.mappings.clear(block, hint);
+        self.change(Change::Clear, self.mapped(block));
     }
 
     // ---- open data regions
@@ -331,7 +444,7 @@ impl Present {
         ensures ok { IfOk result (λ ranges. ranges.items ≡ self.now.table.ranges) }
         ensures only { IfErr result (λ fault. fault ≡ Fault.Memory) }
     {
-        self.mappings.copy_ranges(alloc)
+        self.ranges.copy_values(alloc)
     }
 
     /// The open regions in a vector of their own, by rising number. Each has its number, and what each item of its
@@ -366,7 +479,8 @@ impl Present {
         ensures needed { OnErr result (IsRoomMissing ranges regions holdings self.old.room) }
         ensures room { IsRoomKept self.old.room self.new.room }
     {
-        self.mappings.reserve(ranges)?;
+        self.ranges.reserve(ranges)?;
+        self.starts.reserve(ranges)?;
         self.register.reserve(regions as usize, holdings as usize)?;
         Ok(())
     }

@@ -4,8 +4,9 @@ ghost use Rattle.std.specs.Prelude.{◌≡◌, List, ◌∷◌, IfSome, IfNone, 
 ghost use Rattle.std.specs.Bool.{OnTrue};
 ghost use Rattle.std.specs.List.{list_any};
 ghost use Rattle.acc_base.specs.Section.{is_within, end_of};
-ghost use Rattle.acc_base.specs.Ranges.{where_is_apart, counter_in, risen, fallen};
+ghost use Rattle.acc_base.specs.Ranges.{where_is_apart, counter_in};
 ghost use Rattle.acc_present.specs.Present.{AreMapped};
+ghost use Rattle.acc_present.specs.Kept.{changed_by, IsChangeable};
 
 use acc_base::{Counter, Found, Range, Section};
 
@@ -74,37 +75,29 @@ pub fn value_of(counter: Counter, range: Range) -> u64
     }
 }
 
-/// The range with one of its counters one higher.
-#[inline]
-pub fn raised(counter: Counter, range: Range) -> Range
-    requires { counter_in counter range + 1 < 2 ^ 64 }
-    ensures { result ≡ risen counter range }
-{
-    match counter {
-        Counter::Structured => Range {
-            structured: range.structured + 1,
-            ..range
-        },
-        Counter::Dynamic => Range {
-            dynamic: range.dynamic + 1,
-            ..range
-        },
-    }
+/// What a call makes of a counter of a range.
+#[derive(Clone, Copy)]
+pub enum Change {
+    /// It is one higher.
+    Raise(Counter),
+    /// It is one lower. Zero stays zero.
+    Lower(Counter),
+    /// The dynamic counter is zero.
+    Clear,
 }
 
-/// The range with one of its counters one lower. Zero stays zero.
+/// The range with a counter changed.
 #[inline]
-pub fn lowered(counter: Counter, range: Range) -> Range
-    ensures { result ≡ fallen counter range }
+pub fn changed(change: Change, mut range: Range) -> Range
+    requires { IsChangeable change (2 ^ 32) range }
+    ensures { result ≡ changed_by change range }
 {
-    match counter {
-        Counter::Structured => Range {
-            structured: range.structured.saturating_sub(1),
-            ..range
-        },
-        Counter::Dynamic => Range {
-            dynamic: range.dynamic.saturating_sub(1),
-            ..range
-        },
+    match change {
+        Change::Raise(Counter::Structured) => range.structured += 1,
+        Change::Raise(Counter::Dynamic) => range.dynamic += 1,
+        Change::Lower(Counter::Structured) => range.structured = range.structured.saturating_sub(1),
+        Change::Lower(Counter::Dynamic) => range.dynamic = range.dynamic.saturating_sub(1),
+        Change::Clear => range.dynamic = 0,
     }
+    range
 }

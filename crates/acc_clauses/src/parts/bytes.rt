@@ -11,7 +11,6 @@ ghost use Rattle.acc_host.specs.Host.{bytes_in, IsRead, IsOutOfHost};
 use crate::parts::Parts;
 use crate::sections::pointer_at;
 use acc_base::{Attachment, Found, Section};
-use acc_present::Hint;
 
 impl Parts {
     /// The bytes of a section of host memory. `None` exactly where some address of it is outside of host memory.
@@ -46,14 +45,14 @@ impl Parts {
 
     /// The address that a pointer in a block holds on the device, where the block, which is not lent, has its eight
     /// bytes.
-    pub(crate) fn device_pointer(&self, block: u64, pointer: u64, hint: Hint) -> u64
+    pub(crate) fn device_pointer(&self, block: u64, pointer: u64) -> u64
         ensures { block_with pointer self.now.state.records.ranges ≡ Some block → is_lent block self.now.state.records.loans ≡ false → result ≡ device_pointer block pointer self.now.state }
     {
         self.laws();
         let Some(bytes) = self.view().bytes(block) else {
             return 0;
         };
-        let from = pointer.saturating_sub(self.start(block, hint)) as usize;
+        let from = pointer.saturating_sub(self.start(block)) as usize;
         if bytes.len().saturating_sub(from) < 8 {
             return 0;
         }

@@ -24,12 +24,10 @@ use crate::parts::Parts;
 use crate::transfers::step;
 use acc_base::{Did, Fault, Holding, Loan, Task};
 use acc_lend::Lease;
-use acc_present::Hint;
 
 impl Parts {
-    /// Does what a task is judged to do, where there is room for it. It allocates nothing and is never refused. The
-    /// hint is of the range of the task.
-    pub(crate) fn act(&mut self, task: Task, did: Did, hint: Hint)
+    /// Does what a task is judged to do, where there is room for it. It allocates nothing and is never refused.
+    pub(crate) fn act(&mut self, task: Task, did: Did)
         requires judged { IsJudged self.old.limits task did self.old.state.records }
         requires known { IsKnown self.old.state.records task }
         requires births { self.old.state.records.births < 2 ^ 48 }
@@ -40,7 +38,7 @@ impl Parts {
         ensures state { self.new.state ≡ act_state task did self.old.state }
         ensures room { IsRoomLeft (birth_of task did.step) (pointers_of did.aim) (λ q. puts_by q task did.step) self.old.room self.new.room }
     {
-        act_on(&mut self.environment, &mut self.host, task, did, hint);
+        act_on(&mut self.environment, &mut self.host, task, did);
     }
 
     /// Makes the first transfer of a queue, if it has one; its block is not lent. It allocates nothing and is never

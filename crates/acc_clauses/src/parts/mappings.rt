@@ -4,33 +4,32 @@ ghost use Rattle.std.specs.Prelude.{◌≡◌, ◌^◌, ◌<◌, ◌≤◌};
 ghost use Rattle.acc_base.specs.Ranges.{where_is, where_is_apart, range_of, structured_of, dynamic_of, start_of};
 
 use crate::parts::Parts;
-use acc_base::{Counters, Range, Section};
-use acc_present::{Hint, Located};
+use acc_base::{Counters, Found, Range, Section};
 
 impl Parts {
-    /// Where a section lies among the mapped ranges, and where its range stands.
-    pub(crate) fn find(&self, section: Section) -> Located
-        ensures { result.found ≡ where_is section self.now.state.records.ranges }
+    /// Where a section lies among the mapped ranges.
+    pub(crate) fn find(&self, section: Section) -> Found
+        ensures { result ≡ where_is section self.now.state.records.ranges }
     {
         self.environment.present.find(section)
     }
 
-    /// Where a section lies once the mappings to these blocks have ended, and where its range stands.
-    pub(crate) fn find_apart(&self, section: Section, blocks: &[u64]) -> Located
-        ensures { result.found ≡ where_is_apart section blocks.now self.now.state.records.ranges }
+    /// Where a section lies once the mappings to these blocks have ended.
+    pub(crate) fn find_apart(&self, section: Section, blocks: &[u64]) -> Found
+        ensures { result ≡ where_is_apart section blocks.now self.now.state.records.ranges }
     {
         self.environment.present.find_apart(section, blocks)
     }
 
     /// The range that is mapped to a block, if one is.
-    pub(crate) fn range(&self, block: u64, hint: Hint) -> Option<Range>
+    pub(crate) fn range(&self, block: u64) -> Option<Range>
         ensures { result ≡ range_of block self.now.state.records.ranges }
     {
-        self.environment.present.range(block, hint)
+        self.environment.present.range(block)
     }
 
     /// The reference counters of the range that is mapped to a block; both are 0 where none is.
-    pub(crate) fn counters(&self, block: u64, hint: Hint) -> Counters
+    pub(crate) fn counters(&self, block: u64) -> Counters
         ensures structured { result.structured ≡ structured_of block self.now.state.records.ranges }
         ensures dynamic { result.dynamic ≡ dynamic_of block self.now.state.records.ranges }
         ensures structured_limit { result.structured ≤ self.now.limits.counter_max }
@@ -38,7 +37,7 @@ impl Parts {
         ensures bound { self.now.limits.counter_max < 2 ^ 32 }
     {
         self.laws();
-        match self.range(block, hint) {
+        match self.range(block) {
             Some(range) => Counters {
                 structured: range.structured,
                 dynamic: range.dynamic,
@@ -51,10 +50,10 @@ impl Parts {
     }
 
     /// The host address at which the range that is mapped to a block begins; 0 where none is.
-    pub(crate) fn start(&self, block: u64, hint: Hint) -> u64
+    pub(crate) fn start(&self, block: u64) -> u64
         ensures { result ≡ start_of block self.now.state.records.ranges }
     {
-        match self.range(block, hint) {
+        match self.range(block) {
             Some(range) => range.section.start,
             None => 0,
         }

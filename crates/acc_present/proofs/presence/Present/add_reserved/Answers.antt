@@ -1,13 +1,36 @@
-use Rattle.std.proofs.Common.{List, sym, subst}
+use Rattle.std.proofs.Common.{◌≡◌, List, None, refl, sym, ap, subst, ◌∙◌, arith}
 use Rattle.std.specs.List.{AllByRecursion}
 use Rattle.acc_base.specs.declared.mappings.Range.{Range}
-use Rattle.acc_base.specs.Ranges.{bare_range}
+use Rattle.acc_base.specs.declared.mappings.Found.TheVariants.{Absent}
+use Rattle.acc_base.specs.Ranges.{where_is, range_of, bare_range, with_range}
 use Rattle.acc_base.proofs.RangeChanges.{all_with}
-use Rattle.acc_present.specs.Present.{IsWithinLimit}
+use Rattle.acc_ordered.specs.declared.entries.Entry.{Entry}
+use Rattle.acc_present.specs.Present.{PresentState, IsWithinLimit, with_ranges}
+use Rattle.acc_present.specs.Kept.{ranges_in}
 use Rattle.acc_present.proofs.Limits.{limit_bare}
+use Rattle.acc_present.proofs.Mapping.{absent_start, with_entry-ranges, mapped_now}
 use Rattle.acc_present.proofs.presence.Present.add_reserved.Goals as goal
+
+pub insert-requires-clause-new : goal.insert-requires-clause-new
+insert-requires-clause-new c = absent_start (bare_range c.args.section c.args.block) c.self.inside.ranges.entries c.self.invariant.2.mapped (subst (λ (rs : List Range). where_is c.args.section rs ≡ Absent) (sym (ap (λ (p : PresentState). p.table.ranges) c.self.view_is)) c.requires.absent)
+
+ranges : (c : goal.After-insert-2) → ranges_in c.insert.new.self.entries ≡ with_range (bare_range c.args.section c.args.block) (ranges_in c.self.inside.ranges.entries)
+ranges c = ap ranges_in c.insert.ensures.entries ∙ with_entry-ranges (record { key = c.args.section.start; value = bare_range c.args.section c.args.block }) c.self.inside.ranges.entries
 
 pub invariant_of-self : goal.invariant_of-self
 invariant_of-self c =
-    let P : List Range → Type 0 = λ rs. AllByRecursion (IsWithinLimit c.self.inside.counter_max) rs in
-    (c.self.invariant.0, subst P (sym c.map.ensures.ranges) (all_with (IsWithinLimit c.self.inside.counter_max) (bare_range c.args.section c.args.block) c.self.inside.mappings.ranges (limit_bare c.self.inside.counter_max c.args.section c.args.block) c.self.invariant.1))
+    let es = c.self.inside.ranges.entries in
+    let most = c.self.inside.counter_max in
+    let whole = sym (ap (λ (p : PresentState). p.table.ranges) c.self.view_is) in
+    let new : Entry Range = record { key = c.args.section.start; value = bare_range c.args.section c.args.block } in (
+      c.self.invariant.0,
+      subst (λ (rs : List Range). AllByRecursion (IsWithinLimit most) rs) (sym (ranges c)) (all_with (IsWithinLimit most) (bare_range c.args.section c.args.block) (ranges_in es) (limit_bare most c.args.section c.args.block) c.self.invariant.1),
+      rw (c.insert.ensures.entries, c.insert-2.ensures.entries) (mapped_now new (record { key = c.args.block; value = c.args.section.start }) es c.self.inside.starts.entries c.self.invariant.2 (record { start = refl; bound = omega arith })
+          (subst (λ (rs : List Range). where_is c.args.section rs ≡ Absent) whole c.requires.absent)
+          (subst (λ (rs : List Range). range_of c.args.block rs ≡ None) whole c.requires.new) refl refl),
+    )
+
+pub returns-clause-table : goal.returns-clause-table
+returns-clause-table c =
+    ap (λ (rs : List Range). record { counter_max = c.self.inside.counter_max; ranges = rs; regions = c.self.inside.register.regions }) (ranges c)
+    ∙ ap (λ (p : PresentState). with_ranges p.table (with_range (bare_range c.args.section c.args.block) p.table.ranges)) c.self.view_is

@@ -1,15 +1,15 @@
-use Rattle.std.proofs.Common.{◌≡◌, subst}
-use Rattle.std.proofs.lemmas.Bool.{OnFalse_at}
-use Rattle.acc_base.specs.Ranges.{counter_of}
+use Rattle.std.proofs.Common.{◌≡◌, ◌≤◌, Option, sym, ap, subst, ◌∙◌, arith}
+use Rattle.std.specs.Prelude.{option_map, unwrap_or}
+use Rattle.acc_base.specs.declared.mappings.Range.{Range}
+use Rattle.acc_base.specs.Ranges.{counter_in, counter_of}
 use Rattle.acc_present.specs.Present.{PresentState}
+use Rattle.acc_present.specs.Kept.{ranges_in}
 use Rattle.acc_present.proofs.Limits.{counter_full}
 use Rattle.acc_present.proofs.presence.Present.count.Goals as goal
-use Rattle.acc_present.proofs.presence.Present.count.Goals.{then-raise, else-raise}
 
-pub returns-clause-full : goal.returns-clause-full
-returns-clause-full c =
-    let P : PresentState → Type 0 = λ p. counter_of c.args.counter c.args.block p.table.ranges ≡ p.table.counter_max in
-    elim c.if-raise.branch [
-      | then-raise w ↦ rw w.result-is tt
-      | else-raise w ↦ rw w.result-is (subst P c.self.view_is (counter_full c.self.inside.counter_max c.args.counter c.args.block c.self.inside.mappings.ranges c.self.invariant.1 (OnFalse_at w.if-raise.false c.raise.ensures.full)))
-    ]
+pub returns-then-self-value_of-clause-full : goal.returns-then-self-value_of-clause-full
+returns-then-self-value_of-clause-full c =
+    let rs = ranges_in c.self.inside.ranges.entries in
+    let value : counter_of c.args.counter c.args.block rs ≡ c.value_of.result = ap (λ (p : PresentState). counter_of c.args.counter c.args.block p.table.ranges) c.self.view_is ∙ ap (λ (o : Option Range). unwrap_or (option_map (counter_in c.args.counter) o) 0) c.mapped-range.ensures.range ∙ sym c.value_of.ensures in
+    let full : c.self.inside.counter_max ≤ counter_of c.args.counter c.args.block rs = omega (arith, value, c.if-self-value_of.true) in
+    subst (λ (p : PresentState). counter_of c.args.counter c.args.block p.table.ranges ≡ p.table.counter_max) c.self.view_is (counter_full c.self.inside.counter_max c.args.counter c.args.block rs c.self.invariant.1 full)

@@ -1,0 +1,11 @@
+pub mod Halving
+pub mod Tall
+pub mod Steps
+pub mod Ends
+pub mod Whole
+pub mod Paired
+pub mod Within
+pub mod Beside
+pub mod Avl
+pub mod Kept
+pub mod Located

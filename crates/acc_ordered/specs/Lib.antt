@@ -1,0 +1,9 @@
+pub mod Row
+pub mod Paired
+pub mod Shape
+pub mod Nodes
+pub mod NodeFalls
+pub mod Seen
+pub mod Changes
+pub mod Trees
+pub mod Listing

@@ -1,0 +1,14 @@
+//! A balanced tree of entries by key, whose nodes hold rows of them and come from and go to a chain of spare nodes.
+#![tactic(auto)]
+
+mod balances;
+mod changes;
+mod entries;
+mod nodes;
+mod rows;
+mod search;
+mod sides;
+mod tree;
+
+pub use entries::{Around, Entry, Found};
+pub use tree::Tree;

@@ -181,23 +181,27 @@ question_at word layout text =
 
 -- ---- a statement
 
+-- the statement that begins with this word, which takes no memory
+unfoldable pub short_at : List ℕ → ArrayLayout → ℕ → Option ℕ → List ℕ → Result Meaning ScriptFault
+short_at word layout device innermost text = if bytes_eq word (codes "array") then array_at layout text
+    else if bytes_eq word (codes "end") then end_at innermost text
+    else if bytes_eq word (codes "wait") then wait_at device text
+    else if bytes_eq word (codes "step") then step_at device text
+    else if bytes_eq word (codes "set") then select_at text
+    else if bytes_eq word (codes "kernel") then kernel_at layout innermost text
+    else question_at word layout text
+
 -- a statement, by its first word, of the current device
 unfoldable pub statement_at : ArrayLayout → ℕ → Option ℕ → List ℕ → Result Meaning ScriptFault
 statement_at layout device innermost text = do
   word ← word_at text
-  if bytes_eq word.0 (codes "array") then array_at layout word.1
-      else if bytes_eq word.0 (codes "data") then data_at layout device word.1
-      else if bytes_eq word.0 (codes "end") then end_at innermost word.1
+  if bytes_eq word.0 (codes "data") then data_at layout device word.1
       else if bytes_eq word.0 (codes "enter") then enter_at layout device word.1
       else if bytes_eq word.0 (codes "exit") then exit_at layout device word.1
       else if bytes_eq word.0 (codes "update") then update_at layout device word.1
-      else if bytes_eq word.0 (codes "wait") then wait_at device word.1
-      else if bytes_eq word.0 (codes "step") then step_at device word.1
-      else if bytes_eq word.0 (codes "set") then select_at word.1
-      else if bytes_eq word.0 (codes "kernel") then kernel_at layout innermost word.1
       else if bytes_eq word.0 (codes "write") then write_at layout word.1
       else if bytes_eq word.0 (codes "point") then point_at layout word.1
-      else question_at word.0 layout word.1
+      else short_at word.0 layout device innermost word.1
 
 -- ---- a line
 

@@ -3,7 +3,7 @@
 ghost use Rattle.std.specs.Prelude.{◌≡◌, ◌≤◌, ◌==◌, not, length};
 ghost use Rattle.std.specs.List.{list_all, prefix_len};
 ghost use Rattle.acc_read.specs.Reading.{Reads, Gives};
-ghost use Rattle.acc_read.specs.Statements.{length_at, array_at, question_at, statement_at, takes_memory, is_text_byte, hash, before_comment, line_at};
+ghost use Rattle.acc_read.specs.Statements.{length_at, array_at, question_at, short_at, statement_at, takes_memory, is_text_byte, hash, before_comment, line_at};
 ghost use Rattle.acc_read.specs.Meanings.{meaning_of};
 
 use crate::arrays::{Array, Arrays};
@@ -133,32 +133,48 @@ fn statement_at<'a>(
     ensures { Gives takes_memory meaning_of result (statement_at arrays.now device innermost text.now) }
 {
     let (word, rest) = word_at(text)?;
-    if is_text(word, "array") {
-        Ok(array_at(arrays, rest)?)
-    } else if is_text(word, "data") {
+    if is_text(word, "data") {
         data_at(alloc, arrays, device, rest)
-    } else if is_text(word, "end") {
-        Ok(end_at(innermost, rest)?)
     } else if is_text(word, "enter") {
         enter_at(alloc, arrays, device, rest)
     } else if is_text(word, "exit") {
         exit_at(alloc, arrays, device, rest)
     } else if is_text(word, "update") {
         update_at(alloc, arrays, device, rest)
-    } else if is_text(word, "wait") {
-        Ok(wait_at(device, rest)?)
-    } else if is_text(word, "step") {
-        Ok(step_at(device, rest)?)
-    } else if is_text(word, "set") {
-        Ok(select_at(rest)?)
-    } else if is_text(word, "kernel") {
-        Ok(kernel_at(arrays, innermost, rest)?)
     } else if is_text(word, "write") {
         write_at(alloc, arrays, rest)
     } else if is_text(word, "point") {
         point_at(alloc, arrays, rest)
     } else {
-        Ok(question_at(word, arrays, rest)?)
+        Ok(short_at(word, arrays, device, innermost, rest)?)
+    }
+}
+
+/// The statement that begins with this word, which takes no memory.
+#[tactic(auto, unfolding(crate::specs::Statements::short_at))]
+fn short_at<'a>(
+    word: &[u8],
+    arrays: &Arrays,
+    device: u64,
+    innermost: Option<u64>,
+    text: &'a [u8],
+) -> Result<Statement<'a>, ScriptFault>
+    ensures { Reads meaning_of result (short_at word.now arrays.now device innermost text.now) }
+{
+    if is_text(word, "array") {
+        array_at(arrays, text)
+    } else if is_text(word, "end") {
+        end_at(innermost, text)
+    } else if is_text(word, "wait") {
+        wait_at(device, text)
+    } else if is_text(word, "step") {
+        step_at(device, text)
+    } else if is_text(word, "set") {
+        select_at(text)
+    } else if is_text(word, "kernel") {
+        kernel_at(arrays, innermost, text)
+    } else {
+        question_at(word, arrays, text)
     }
 }
 

@@ -110,6 +110,11 @@ lwa_block *lwa_inside(uintptr_t at, size_t len)
     return met != NULL && lwa_has(met, at, len) ? met : NULL;
 }
 
+bool lwa_is_of_program(const lwa_block *block)
+{
+    return block != NULL && block->at != block->device;
+}
+
 /* ---- Table addresses ---- */
 
 uint64_t lwa_outside(void)
@@ -211,13 +216,30 @@ uint64_t lwa_place_of(const lwa_block *block, uint64_t told)
     return block->root->place + (told - block->root->told);
 }
 
+/* The program's address for one of the runtime's device, whose places are its own; or that itself. */
+static uintptr_t sought, found;
+
+static void meet_device(lwa_block *block)
+{
+    if (block->device != 0 && sought - block->device < block->len) {
+        found = block->at + (sought - block->device);
+    }
+}
+
+static uintptr_t address_on_runtime(uintptr_t device)
+{
+    sought = found = device;
+    lwa_each_block(meet_device);
+    return found;
+}
+
 /* A device address in a window is that of the program's address as far behind the first; another is of acc_malloc, and
    its own. */
 lwa_block *lwa_on_device(uintptr_t device, uintptr_t *at)
 {
     lwa_block *block;
 
-    *at = device;
+    *at = lwa_shadow ? address_on_runtime(device) : device;
     for (size_t i = 0; i < OWN.window_count; i++) {
         const window *w = &OWN.windows[i];
 
@@ -271,8 +293,9 @@ lwa_block *lwa_born(const lwa_item *item, uintptr_t device)
 
     *block = (lwa_block){.at = item->at, .len = item->len, .told = item->told.start, .mapped = true};
     block->place = item->did.place;
-    block->device = device != 0 ? device : device_for(item->at, item->len);
-    block->bytes = (uint8_t *)block->device;
+    block->device = device != 0 || lwa_shadow ? device : device_for(item->at, item->len);
+    block->bytes = lwa_shadow ? lwa_memory(NULL, block->len) : (uint8_t *)block->device;
+    block->owns = lwa_shadow;
     block->root = block;
     insert(block);
     return block;
@@ -283,14 +306,15 @@ void lwa_map_part(lwa_block *root, uintptr_t at, size_t len, uintptr_t device)
     lwa_block *part = lwa_piece(sizeof *part);
 
     *part = (lwa_block){.at = at, .len = len, .told = root->told + (device - root->device), .device = device,
-                        .bytes = (uint8_t *)device, .mapped = true, .part = true, .root = root, .next = root->parts};
+                        .bytes = root->bytes + (device - root->device), .mapped = true, .part = true, .root = root,
+                        .next = root->parts};
     root->parts = part;
     insert(part);
 }
 
 static void drop(lwa_block *block)
 {
-    if (block->bytes != (uint8_t *)block->device) {
+    if (block->owns) {
         free(block->bytes);
     }
     free(block->pointers);
@@ -324,15 +348,19 @@ void lwa_ended(lwa_block *block)
     }
     take_out(block);
     block->mapped = false;
-    if (block->waiting != 0) {
+    if (block->waiting != 0 && !block->owns) {
         block->bytes = memcpy(lwa_memory(NULL, block->len), block->bytes, block->len);
+        block->owns = true;
     }
     drop_unused(block);
 }
 
 void lwa_made(lwa_block *block)
 {
-    block->waiting--;
+    if (--block->waiting == 0 && block->meets) {
+        block->meets = false;
+        block->root->open = true;
+    }
     drop_unused(block);
 }
 

@@ -5,26 +5,21 @@
 
 #include "inner.h"
 
-/* A block of acc_malloc has no byte of the program: in place of the program's address it has the device's. */
-static bool is_of_program(const lwa_block *block)
-{
-    return block != NULL && block->at != block->device;
-}
-
 LWA_EXPORT void *acc_deviceptr(void *at)
 {
     void *found = at;
     lwa_block *block;
 
+    LWA_PASS(lwa_in_runtime, acc_deviceptr, at)
     lwa_take("acc_deviceptr", LWA_FROM);
     if (lwa_is_for_table()) {
         block = lwa_meets((uintptr_t)at, 1);
         found = NULL;
-        if (is_of_program(block)) {
+        if (lwa_is_of_program(block)) {
             found = (void *)lwa_device_of(block, (uintptr_t)at);
         }
     }
-    lwa_leave();
+    LWA_LEAVE(found = (void *)lwa_answer((uintptr_t)found, (uintptr_t)LWA_NEXT(acc_deviceptr)(at)));
     return found;
 }
 
@@ -33,11 +28,12 @@ LWA_EXPORT void *acc_hostptr(void *address)
     void *found = address;
     uintptr_t at;
 
+    LWA_PASS(lwa_in_runtime, acc_hostptr, address)
     lwa_take("acc_hostptr", LWA_FROM);
     if (lwa_is_for_table()) {
-        found = is_of_program(lwa_on_device((uintptr_t)address, &at)) ? (void *)at : NULL;
+        found = lwa_is_of_program(lwa_on_device((uintptr_t)address, &at)) ? (void *)at : NULL;
     }
-    lwa_leave();
+    LWA_LEAVE(found = (void *)lwa_answer((uintptr_t)found, (uintptr_t)LWA_NEXT(acc_hostptr)(address)));
     return found;
 }
 
@@ -57,16 +53,21 @@ LWA_EXPORT void *acc_malloc(size_t len)
 {
     void *memory;
 
+    LWA_PASS(lwa_in_runtime || (lwa_shadow && !lwa_is_for_table()), acc_malloc, len)
     if (!lwa_is_for_table()) {
         return malloc(len);
     }
     lwa_take("acc_malloc", LWA_FROM);
-    memory = len != 0 && len <= lwa_limits.device ? aligned_alloc(64, (len + 63) / 64 * 64) : NULL;
+    memory = lwa_shadow ? LWA_NEXT(acc_malloc)(len)
+           : len != 0 && len <= lwa_limits.device ? aligned_alloc(64, (len + 63) / 64 * 64) : NULL;
     if (memory != NULL && !direct(LWA_ENTER_DATA, LW_CREATE, memory, len)) {
+        if (lwa_shadow) {
+            lwa_unserved("there is no room for %zu bytes more: LAMWIEST_DEVICE is %zu", len, (size_t)lwa_limits.device);
+        }
         free(memory);
         memory = NULL;
     }
-    lwa_leave();
+    LWA_LEAVE((void)0);
     return memory;
 }
 
@@ -87,7 +88,7 @@ static void free_block(void *address)
     uintptr_t at;
     const lwa_block *block = lwa_on_device((uintptr_t)address, &at);
 
-    if (block == NULL || is_of_program(block) || block->device != (uintptr_t)address
+    if (block == NULL || lwa_is_of_program(block) || block->device != (uintptr_t)address
         || has_part(block, block->device, block->len)) {
         lwa_unserved("%p is not an address that acc_malloc gave, or some of it is mapped", address);
     }
@@ -96,24 +97,27 @@ static void free_block(void *address)
         lwa_unserved("a data region holds the memory at %p", address);
     }
     direct(LWA_EXIT_DATA, LW_DELETE, address, block->len);
-    free(address);
+    if (!lwa_shadow) {
+        free(address);
+    }
 }
 
 LWA_EXPORT void acc_free(void *address)
 {
     uintptr_t at;
 
+    LWA_PASS(lwa_in_runtime || (lwa_shadow && !lwa_is_for_table()), acc_free, address)
     lwa_take("acc_free", LWA_FROM);
     if (!lwa_is_for_table() && lwa_on_device((uintptr_t)address, &at) == NULL) {
         free(address);
     } else if (address != NULL) {
         free_block(address);
     }
-    lwa_leave();
+    LWA_LEAVE(LWA_NEXT(acc_free)(address));
 }
 
-/* The bytes that a block of the device has, and no kernel. */
-static void *bytes_at(uintptr_t address, size_t len)
+/* The bytes that a block of the device has, and no kernel; and whether the table does not know them. */
+static void *bytes_at(uintptr_t address, size_t len, bool *open)
 {
     lwa_block *block;
     uintptr_t at;
@@ -124,45 +128,48 @@ static void *bytes_at(uintptr_t address, size_t len)
             lwa_unserved("the %zu bytes at %#zx are in no one block of the device", len, (size_t)address);
         }
     } while (lwa_is_lent(block->root->kernels != 0 ? LW_LENT : LW_DONE));
+    *open = block->root->open || block->waiting != 0;
+    lwa_watch_block(block);
     return block->bytes + (at - block->at);
 }
 
 /* Copies bytes to the device, or from it. What waits in the queue is made before. */
 static void copy(const char *name, void *from, void *to, void *at, size_t len, int async, bool out)
 {
+    bool open = false;
+
     lwa_take(name, from);
     if (lwa_is_for_table() && lwa_queue(async) != LW_NO_QUEUE_GIVEN) {
         lwa_wait(lwa_queue(async));
     }
     if (len != 0) {
         if (lwa_is_for_table()) {
-            *(out ? &at : &to) = bytes_at((uintptr_t)(out ? at : to), len);
+            *(out ? &at : &to) = bytes_at((uintptr_t)(out ? at : to), len, &open);
             lwa_want_memory((uintptr_t)(out ? to : at), len);
         }
-        memmove(to, at, len);
+        if (lwa_shadow && out && lwa_is_for_table()) {
+            lwa_expect((uintptr_t)to, len, open ? NULL : at);
+        } else if (!lwa_shadow || lwa_is_for_table()) {
+            memmove(to, at, len);
+        }
     }
-    lwa_leave();
 }
 
-LWA_EXPORT void acc_memcpy_to_device(void *to, void *bytes, size_t len)
-{
-    copy("acc_memcpy_to_device", LWA_FROM, to, bytes, len, acc_async_sync, false);
-}
+/* behind: what makes the runtime copy at once, too. */
+#define COPY(name, parameters, arguments, async, out, behind) \
+    LWA_EXPORT void name parameters \
+    { \
+        LWA_PASS(lwa_in_runtime, name, LWA_LIST arguments) \
+        copy(#name, LWA_FROM, to, at, len, async, out); \
+        LWA_LEAVE((LWA_NEXT(name) arguments, behind)); \
+    }
+#define COPIES(name, out) \
+    COPY(name, (void *to, void *at, size_t len), (to, at, len), acc_async_sync, out, (void)0) \
+    COPY(name##_async, (void *to, void *at, size_t len, int async), (to, at, len, async), async, out, \
+         LWA_NEXT(acc_wait)(async))
 
-LWA_EXPORT void acc_memcpy_to_device_async(void *to, void *bytes, size_t len, int async)
-{
-    copy("acc_memcpy_to_device_async", LWA_FROM, to, bytes, len, async, false);
-}
-
-LWA_EXPORT void acc_memcpy_from_device(void *to, void *address, size_t len)
-{
-    copy("acc_memcpy_from_device", LWA_FROM, to, address, len, acc_async_sync, true);
-}
-
-LWA_EXPORT void acc_memcpy_from_device_async(void *to, void *address, size_t len, int async)
-{
-    copy("acc_memcpy_from_device_async", LWA_FROM, to, address, len, async, true);
-}
+COPIES(acc_memcpy_to_device, false)
+COPIES(acc_memcpy_from_device, true)
 
 /* Some of a block of acc_malloc is mapped to the program's bytes, or is so no more. The counters stay. */
 LWA_EXPORT void acc_map_data(void *at, void *address, size_t len)
@@ -170,10 +177,11 @@ LWA_EXPORT void acc_map_data(void *at, void *address, size_t len)
     lwa_block *block;
     uintptr_t start;
 
+    LWA_PASS(lwa_in_runtime, acc_map_data, at, address, len)
     lwa_take("acc_map_data", LWA_FROM);
     if (lwa_is_for_table()) {
         block = lwa_on_device((uintptr_t)address, &start);
-        if (len == 0 || block == NULL || is_of_program(block) || !lwa_has(block, start, len)
+        if (len == 0 || block == NULL || lwa_is_of_program(block) || !lwa_has(block, start, len)
             || has_part(block, start, len)) {
             lwa_unserved("the %zu bytes at %p are not what acc_malloc gave, or are mapped already", len, address);
         }
@@ -181,21 +189,24 @@ LWA_EXPORT void acc_map_data(void *at, void *address, size_t len)
             lwa_unserved("some of the %zu bytes at %p are mapped already, or it is a null pointer", len, at);
         }
         lwa_map_part(block, (uintptr_t)at, len, start);
+        lwa_watch_block(lwa_meets((uintptr_t)at, len));
     }
-    lwa_leave();
+    LWA_LEAVE(LWA_NEXT(acc_map_data)(at, address, len));
 }
 
 LWA_EXPORT void acc_unmap_data(void *at)
 {
     lwa_block *block;
 
+    LWA_PASS(lwa_in_runtime, acc_unmap_data, at)
     lwa_take("acc_unmap_data", LWA_FROM);
     if (lwa_is_for_table()) {
         block = lwa_meets((uintptr_t)at, 1);
         if (block == NULL || !block->part || block->at != (uintptr_t)at) {
             lwa_unserved("%p is not an address that acc_map_data has mapped", at);
         }
+        lwa_watch_block(block);
         lwa_ended(block);
     }
-    lwa_leave();
+    LWA_LEAVE(LWA_NEXT(acc_unmap_data)(at));
 }

@@ -21,14 +21,21 @@ static void choose_by_environment(void)
     }
 }
 
+/* In shadow mode the runtime has chosen; what shares the host's memory is not compared. */
 bool lwa_is_for_table(void)
 {
+    if (lwa_shadow) {
+        return lwa_has_device(LWA_NEXT(acc_get_device_type)() != acc_device_host);
+    }
     choose_by_environment();
     return chosen.kind == TABLE;
 }
 
 unsigned lwa_chosen_device(void)
 {
+    if (lwa_shadow) {
+        return (unsigned)LWA_NEXT(acc_get_device_num)(LWA_NEXT(acc_get_device_type)());
+    }
     choose_by_environment();
     return chosen.device;
 }
@@ -37,7 +44,7 @@ unsigned lwa_chosen_device(void)
 
 static bool is_table_type(acc_device_t type)
 {
-    return type == acc_device_default || type == acc_device_not_host
+    return (lwa_shadow && type != acc_device_host) || type == acc_device_default || type == acc_device_not_host
         || (type == acc_device_current && lwa_is_for_table());
 }
 
@@ -74,6 +81,7 @@ static void choose(const char *name, void *from, int event, int number, acc_devi
 
 LWA_EXPORT void acc_init(acc_device_t type)
 {
+    LWA_PASS(lwa_shadow, acc_init, type)
     chosen.begins = true;
     choose("acc_init", LWA_FROM, acc_ev_device_init_start, 0, type);
     chosen.begins = false;
@@ -97,32 +105,37 @@ LWA_EXPORT void acc_shutdown(acc_device_t type)
         lwa_each_device(want_no_region);
         lwa_each_device(lwa_end_table);
     }
-    lwa_leave();
+    LWA_LEAVE(LWA_NEXT(acc_shutdown)(type));
 }
 
 LWA_EXPORT int acc_get_num_devices(acc_device_t type)
 {
+    LWA_PASS(lwa_shadow, acc_get_num_devices, type)
     return is_table_type(type) ? LWA_DEVICES : is_host_type(type);
 }
 
 LWA_EXPORT void acc_set_device_type(acc_device_t type)
 {
+    LWA_PASS(lwa_shadow, acc_set_device_type, type)
     choose("acc_set_device_type", LWA_FROM, acc_ev_none, 0, type);
 }
 
 LWA_EXPORT acc_device_t acc_get_device_type(void)
 {
+    LWA_PASS(lwa_shadow, acc_get_device_type)
     return chosen.begins ? acc_device_none : lwa_is_for_table() ? acc_device_not_host : acc_device_host;
 }
 
 /* A type of 0 stands for all. */
 LWA_EXPORT void acc_set_device_num(int number, acc_device_t type)
 {
+    LWA_PASS(lwa_shadow, acc_set_device_num, number, type)
     choose("acc_set_device_num", LWA_FROM, acc_ev_none, number, type != acc_device_none ? type : acc_device_current);
 }
 
 LWA_EXPORT int acc_get_device_num(acc_device_t type)
 {
+    LWA_PASS(lwa_shadow, acc_get_device_num, type)
     lwa_take("acc_get_device_num", LWA_FROM);
     want(0, type);
     lwa_leave();
@@ -134,6 +147,7 @@ LWA_EXPORT size_t acc_get_property(int number, acc_device_t type, acc_device_pro
     uint64_t used = 0;
     size_t answer = 0;
 
+    LWA_PASS(lwa_shadow, acc_get_property, number, type, property)
     lwa_take("acc_get_property", LWA_FROM);
     if (is_device(number, type) && is_table_type(type)) {
         lwa_go_to((unsigned)number);
@@ -147,6 +161,7 @@ LWA_EXPORT size_t acc_get_property(int number, acc_device_t type, acc_device_pro
 
 LWA_EXPORT const char *acc_get_property_string(int number, acc_device_t type, acc_device_property_t property)
 {
+    LWA_PASS(lwa_shadow, acc_get_property_string, number, type, property)
     if (!is_device(number, type)) {
         return NULL;
     }
@@ -161,6 +176,7 @@ LWA_EXPORT const char *acc_get_property_string(int number, acc_device_t type, ac
 /* Where gcc has not answered it itself: code of the host asks, since a kernel runs there. */
 LWA_EXPORT int acc_on_device(acc_device_t type)
 {
+    LWA_PASS(lwa_shadow, acc_on_device, type)
     return type == acc_device_host || type == acc_device_none;
 }
 
@@ -169,12 +185,15 @@ LWA_EXPORT int acc_on_device(acc_device_t type)
 /* The number of async that each queue of a device was first named by, and one more; 0 for none. */
 static unsigned named[LWA_DEVICES][LWA_QUEUES];
 
+/* In shadow mode async alone is a queue of its own, as a runtime may have it. */
+#define NO_NUMBER 0x7fffffffu
+
 static unsigned number_of(int async)
 {
     if (async < acc_async_sync) {
         lwa_unserved("async has the number %d, which names no queue", async);
     }
-    return async == acc_async_noval ? 0 : (unsigned)async;
+    return async == acc_async_noval ? (lwa_shadow ? NO_NUMBER : 0) : (unsigned)async;
 }
 
 uint64_t lwa_queue_of(int async)
@@ -206,10 +225,16 @@ uint64_t lwa_queue(int async)
     return queue;
 }
 
-static int test_queue(uint64_t queue)
+/* In shadow mode the runtime has said whether all of them are made. */
+static int test_queue(uint64_t queue, int done)
 {
     uint64_t len = 0;
 
+    if (lwa_shadow) {
+        while (done != 0 && lwa_step(queue)) {
+        }
+        return done;
+    }
     return !lwa_step(queue) || (lw_queue_len(lwa_table(), queue, &len) == LW_DONE && len == 0);
 }
 
@@ -219,12 +244,16 @@ LWA_EXPORT int acc_async_test(int async)
     uint64_t queue;
     int done = 1;
 
+    LWA_PASS(lwa_in_runtime, acc_async_test, async)
     lwa_take("acc_async_test", LWA_FROM);
     queue = lwa_queue_of(async);
-    if (lwa_is_for_table() && queue != LW_NO_QUEUE_GIVEN) {
-        done = test_queue(queue);
+    if (lwa_shadow) {
+        done = LWA_NEXT(acc_async_test)(async);
     }
-    lwa_leave();
+    if (lwa_is_for_table() && queue != LW_NO_QUEUE_GIVEN) {
+        done = test_queue(queue, done);
+    }
+    LWA_LEAVE((void)0);
     return done;
 }
 
@@ -232,11 +261,15 @@ LWA_EXPORT int acc_async_test_all(void)
 {
     int done = 1;
 
+    LWA_PASS(lwa_in_runtime, acc_async_test_all)
     lwa_take("acc_async_test_all", LWA_FROM);
-    for (uint64_t queue = 0; lwa_is_for_table() && queue < LWA_QUEUES; queue++) {
-        done &= test_queue(queue);
+    if (lwa_shadow) {
+        done = LWA_NEXT(acc_async_test_all)();
     }
-    lwa_leave();
+    for (uint64_t queue = 0; lwa_is_for_table() && queue < LWA_QUEUES; queue++) {
+        done &= test_queue(queue, done);
+    }
+    LWA_LEAVE((void)0);
     return done;
 }
 
@@ -246,23 +279,20 @@ static void wait_for(const char *name, void *from, int async, bool every)
     if (lwa_is_for_table() && (every || lwa_queue_of(async) != LW_NO_QUEUE_GIVEN)) {
         lwa_wait(every ? LW_NO_QUEUE_GIVEN : lwa_queue_of(async));
     }
-    lwa_leave();
 }
 
-LWA_EXPORT void acc_wait(int async) { wait_for("acc_wait", LWA_FROM, async, false); }
-LWA_EXPORT void acc_async_wait(int async) { wait_for("acc_async_wait", LWA_FROM, async, false); }
-LWA_EXPORT void acc_wait_all(void) { wait_for("acc_wait_all", LWA_FROM, 0, true); }
-LWA_EXPORT void acc_async_wait_all(void) { wait_for("acc_async_wait_all", LWA_FROM, 0, true); }
+/* behind: what makes the runtime wait, too, where another queue would go on behind the first. */
+#define WAIT(name, parameters, arguments, async, every, behind) \
+    LWA_EXPORT void name parameters \
+    { \
+        LWA_PASS(lwa_in_runtime, name, LWA_LIST arguments) \
+        wait_for(#name, LWA_FROM, async, every); \
+        LWA_LEAVE((LWA_NEXT(name) arguments, behind)); \
+    }
 
-/* The other queue would go on behind the first; here the first is made at once. */
-LWA_EXPORT void acc_wait_async(int async, int other)
-{
-    (void)other;
-    wait_for("acc_wait_async", LWA_FROM, async, false);
-}
-
-LWA_EXPORT void acc_wait_all_async(int other)
-{
-    (void)other;
-    wait_for("acc_wait_all_async", LWA_FROM, 0, true);
-}
+WAIT(acc_wait, (int async), (async), async, false, (void)0)
+WAIT(acc_async_wait, (int async), (async), async, false, (void)0)
+WAIT(acc_wait_all, (void), (), 0, true, (void)0)
+WAIT(acc_async_wait_all, (void), (), 0, true, (void)0)
+WAIT(acc_wait_async, (int async, int other), (async, other), async, false, LWA_NEXT(acc_wait)(async))
+WAIT(acc_wait_all_async, (int other), (other), 0, true, LWA_NEXT(acc_wait_all)())

@@ -100,6 +100,7 @@ static void after(const lwa_directive *d, lwa_item *item)
         if (item->did.way == 0 || d->queue != LW_NO_QUEUE_GIVEN) {
             memset(item->block->bytes, NEW_BYTE, item->len);
         }
+        item->block->open = item->did.way == 0 && lwa_is_open(LWA_OPEN_FILL);
         note(item, acc_ev_alloc, acc_ev_create);
     }
     if (item->did.way != 0) {
@@ -108,6 +109,7 @@ static void after(const lwa_directive *d, lwa_item *item)
         if (d->queue != LW_NO_QUEUE_GIVEN) {
             lwa_put_waiting(d->queue, item->block, item->at, item->len, out);
         } else {
+            item->block->meets |= item->block->waiting != 0 && lwa_is_open(LWA_OPEN_QUEUES);
             lwa_copy(item->block, item->at, item->len, out);
         }
     }
@@ -207,6 +209,7 @@ static void finish(lwa_directive *d, size_t i)
 {
     lwa_item *item = &d->items.at[i];
 
+    lwa_watch_item(d, i);
     after(d, item);
     lwa_log_item(d, i);
     if (item->did.step == LW_ENDED_RANGE) {
@@ -216,7 +219,7 @@ static void finish(lwa_directive *d, size_t i)
 }
 
 /* Some items of a directive from one on; those of a region's end are told already. Answers the end of them, or 0 where
-   there was no room on the device. */
+   there was no room on the device, or in shadow mode where they were refused. */
 static size_t act(lwa_directive *d, size_t first, size_t end)
 {
     static lw_item_did dids[MOST_ITEMS];
@@ -242,6 +245,9 @@ static size_t act(lwa_directive *d, size_t first, size_t end)
         return 0;
     }
     lwa_script_items(d, first, end, status == LW_DONE);
+    if (status != LW_DONE && lwa_may_refuse(&fault)) {
+        return 0;
+    }
     lwa_must(status, &fault);
     lwa_must(lw_dids(lwa_table(), dids, end - first), &fault);
     for (size_t i = first; i < end; i++) {
@@ -268,10 +274,11 @@ static bool act_on_all(lwa_directive *d)
             act(d, first, end);
         }
     } else {
-        for (; first < d->items.count && done; first = end) {
+        for (; first < d->items.count && done; first = done ? end : first) {
             end = act(d, first, 0);
             done = end != 0;
         }
+        d->items.count = first;
     }
     lwa_log_region(d);
     return done;

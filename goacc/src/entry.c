@@ -15,6 +15,28 @@ enum { TAG_END = 0, TAG_DIMENSIONS = 1, TAG_ASYNC = 2, TAG_WAITS = 3 };
 
 typedef void kernel_function(void *);
 
+/* The arguments behind the last one that has a name, which the runtime gets too. */
+enum { MOST_WORDS = 24 };
+typedef struct words {
+    va_list list;
+    int count, at[MOST_WORDS];
+} words;
+#define FOUR_WORDS(w, i) (w).at[i], (w).at[i + 1], (w).at[i + 2], (w).at[i + 3]
+#define WORDS(w) \
+    FOUR_WORDS(w, 0), FOUR_WORDS(w, 4), FOUR_WORDS(w, 8), FOUR_WORDS(w, 12), FOUR_WORDS(w, 16), FOUR_WORDS(w, 20)
+
+static int next_word(words *w)
+{
+    const int word = va_arg(w->list, int);
+
+    if (w->count < MOST_WORDS) {
+        w->at[w->count++] = word;
+    } else if (lwa_shadow) {
+        lwa_unserved("more than %d queues and numbers of gangs are not served in shadow mode", MOST_WORDS);
+    }
+    return word;
+}
+
 /* In a list of queues -1 stands for all, and acc_async_sync for none. */
 static void wait_for(int async)
 {
@@ -63,9 +85,14 @@ static bool use_device(const lwa_maps *maps)
         if (block == NULL && kind == KIND_USE_DEVICE && maps->at[i] != NULL) {
             const lw_fault absent = {LW_NOT_PRESENT, i, 0};
 
-            lwa_refuse(&absent);
+            if (!lwa_may_refuse(&absent)) {
+                lwa_refuse(&absent);
+            }
         }
-        if (block != NULL) {
+        if (block != NULL && lwa_shadow) {
+            block->root->given = true;
+            lwa_watch_block(block);
+        } else if (block != NULL) {
             maps->at[i] = (void *)lwa_device_of(block, (uintptr_t)maps->at[i]);
         }
     }
@@ -84,7 +111,7 @@ LWA_EXPORT void GOACC_data_start(int flags, size_t count, void **at, size_t *siz
         lwa_read_maps(&maps, LWA_DATA, &directive);
         push(lwa_enter(&directive));
     }
-    lwa_leave();
+    LWA_LEAVE(LWA_NEXT(GOACC_data_start)(flags, count, at, sizes, kinds));
 }
 
 LWA_EXPORT void GOACC_data_end(void)
@@ -103,28 +130,40 @@ LWA_EXPORT void GOACC_data_end(void)
     } else {
         free(region);
     }
-    lwa_leave();
+    LWA_LEAVE(LWA_NEXT(GOACC_data_end)());
 }
 
-static void wait_for_list(int waits, va_list *words)
+static void wait_for_list(int waits, words *w, bool is_shared)
 {
     for (int i = 0; i < waits; i++) {
-        wait_for(va_arg(*words, int));
+        const int async = next_word(w);
+
+        if (!is_shared) {
+            wait_for(async);
+        }
+    }
+}
+
+/* What a queue of the runtime goes on behind the table has made. */
+static void wait_on_runtime(int async, int waits)
+{
+    if (async != acc_async_sync && waits != 0) {
+        LWA_NEXT(acc_wait_all)();
     }
 }
 
 /* A directive of no region, behind its wait clause. */
-static void direct(int flags, const lwa_maps *maps, lwa_way way, int async, int waits, va_list *words)
+static void direct(int flags, const lwa_maps *maps, lwa_way way, int async, int waits, words *w)
 {
+    const bool shared = is_shared(flags);
     lwa_directive directive;
 
-    if (!is_shared(flags)) {
-        wait_for_list(waits, words);
+    wait_for_list(waits, w, shared);
+    if (!shared) {
         lwa_read_maps(maps, way, &directive);
         directive.queue = lwa_queue(async);
         lwa_direct(&directive);
     }
-    lwa_leave();
 }
 
 #define DIRECTIVE(entry, name, way, event, construct) \
@@ -132,12 +171,14 @@ static void direct(int flags, const lwa_maps *maps, lwa_way way, int async, int 
                           int waits, ...) \
     { \
         const lwa_maps maps = {count, at, sizes, kinds}; \
-        va_list words; \
+        words w = {.count = 0}; \
 \
         lwa_take_for(name, LWA_FROM, event, construct); \
-        va_start(words, waits); \
-        direct(flags, &maps, way, async, waits, &words); \
-        va_end(words); \
+        va_start(w.list, waits); \
+        direct(flags, &maps, way, async, waits, &w); \
+        va_end(w.list); \
+        LWA_LEAVE((LWA_NEXT(entry)(flags, count, at, sizes, kinds, async, waits, WORDS(w)), \
+                   wait_on_runtime(async, waits))); \
     }
 
 DIRECTIVE(GOACC_enter_data, "enter data", LWA_ENTER_DATA, acc_ev_enter_data_start, acc_construct_enter_data)
@@ -173,97 +214,123 @@ LWA_EXPORT void GOACC_declare(int flags, size_t count, void **at, size_t *sizes,
 
         declare(&one);
     }
-    lwa_leave();
+    LWA_LEAVE(LWA_NEXT(GOACC_declare)(flags, count, at, sizes, kinds));
 }
 
 LWA_EXPORT void GOACC_wait(int async, int waits, ...)
 {
-    va_list words;
+    words w = {.count = 0};
 
-    (void)async; /* another queue would go on behind those; here they are made at once, so that it may */
+    /* With async another queue would go on behind those; here they are made at once, so that it may. */
     lwa_take_for("wait", LWA_FROM, acc_ev_wait_start, acc_construct_wait);
-    if (lwa_is_for_table()) {
-        va_start(words, waits);
-        wait_for_list(waits, &words);
-        va_end(words);
-        if (waits == 0) {
-            lwa_wait(LW_NO_QUEUE_GIVEN);
-        }
+    va_start(w.list, waits);
+    wait_for_list(waits, &w, !lwa_is_for_table());
+    va_end(w.list);
+    if (waits == 0 && lwa_is_for_table()) {
+        lwa_wait(LW_NO_QUEUE_GIVEN);
     }
-    lwa_leave();
+    LWA_LEAVE((LWA_NEXT(GOACC_wait)(async, waits, WORDS(w)), wait_on_runtime(async, 1)));
 }
 
 /* The numbers of gangs, workers and vectors, which a kernel of one gang does not need. */
-static void pass_dimensions(unsigned which, va_list *words)
+static void pass_dimensions(unsigned which, words *w)
 {
     for (unsigned dimension = 0; dimension < 3; dimension++) {
         if ((which & (1u << dimension)) != 0) {
-            (void)va_arg(*words, int);
+            next_word(w);
         }
     }
 }
 
-/* Waits for what a kernel waits for: its wait clause, and the queue that it is put into, since it runs at once. */
-static void wait_before_kernel(va_list *words)
+/* Waits for what a kernel waits for: its wait clause, and the queue that it is put into, since it runs at once. Answers
+   the number of async. */
+static int wait_before_kernel(words *w, bool is_shared)
 {
-    for (unsigned tag = va_arg(*words, unsigned); tag != TAG_END; tag = va_arg(*words, unsigned)) {
+    int async = acc_async_sync;
+
+    for (unsigned tag = (unsigned)next_word(w); tag != TAG_END; tag = (unsigned)next_word(w)) {
         unsigned number = tag & TAG_NUMBER;
-        uint64_t queue;
 
         switch (tag >> 28) {
         case TAG_DIMENSIONS:
-            pass_dimensions(number, words);
+            pass_dimensions(number, w);
             break;
         case TAG_ASYNC:
-            queue = lwa_queue(number == TAG_NUMBER ? va_arg(*words, int) : (int)number);
-            if (queue != LW_NO_QUEUE_GIVEN) {
-                lwa_wait(queue);
+            async = number == TAG_NUMBER ? next_word(w) : (int)number;
+            if (!is_shared && lwa_queue(async) != LW_NO_QUEUE_GIVEN) {
+                lwa_wait(lwa_queue(async));
             }
             break;
         case TAG_WAITS:
-            wait_for_list((int)number, words);
+            wait_for_list((int)number, w, is_shared);
             break;
         default:
             lwa_unserved("a kernel has the argument %#x, which is not served", tag);
         }
     }
+    return async;
 }
+
+/* A kernel for the runtime, which is waited for. */
+typedef struct runtime_kernel {
+    int flags, async;
+    kernel_function *run;
+    const lwa_maps *maps;
+    words words;
+} runtime_kernel;
+
+static void run_on_runtime(void *given);
 
 LWA_EXPORT void GOACC_parallel_keyed(int flags, kernel_function *run, size_t count, void **at, size_t *sizes,
                                      unsigned short *kinds, ...)
 {
     const lwa_maps maps = {count, at, sizes, kinds};
+    runtime_kernel kernel = {.flags = flags, .run = run, .maps = &maps};
     lwa_directive directive;
     lwa_region *region;
-    va_list words;
+    bool shared;
 
     lwa_take_for("compute construct", LWA_FROM, acc_ev_compute_construct_start, acc_construct_parallel);
-    if (is_shared(flags)) {
-        lwa_run_free(run, at, false);
+    shared = is_shared(flags);
+    va_start(kernel.words.list, kinds);
+    kernel.async = wait_before_kernel(&kernel.words, shared);
+    va_end(kernel.words.list);
+    if (shared) {
+        lwa_run_free(lwa_shadow ? run_on_runtime : run, lwa_shadow ? (void *)&kernel : at, false);
     } else {
-        va_start(words, kinds);
-        wait_before_kernel(&words);
-        va_end(words);
         lwa_read_maps(&maps, LWA_DATA, &directive);
         lwa_note(acc_ev_enter_data_start, NULL, 0, 0);
         region = lwa_enter(&directive);
         lwa_note(acc_ev_enter_data_end, NULL, 0, 0);
-        lwa_kernel(run, &maps, region);
+        lwa_kernel(lwa_shadow ? run_on_runtime : run, lwa_shadow ? &kernel : NULL, &maps, region);
         lwa_note(acc_ev_exit_data_start, NULL, 0, 0);
         lwa_exit(region);
         lwa_note(acc_ev_exit_data_end, NULL, 0, 0);
     }
-    lwa_leave();
+    LWA_LEAVE((void)0);
+}
+
+static void run_on_runtime(void *given)
+{
+    const runtime_kernel *k = given;
+    const lwa_maps *maps = k->maps;
+
+    LWA_NEXT(GOACC_parallel_keyed)(k->flags, k->run, maps->count, maps->at, maps->sizes, maps->kinds, WORDS(k->words));
+    if (k->async != acc_async_sync) {
+        LWA_NEXT(acc_wait)(k->async);
+    }
 }
 
 /* A kernel has one gang of one worker. */
 LWA_EXPORT int GOACC_get_num_threads(void)
 {
+    LWA_PASS(lwa_shadow, GOACC_get_num_threads);
     return 1;
 }
 
 LWA_EXPORT int GOACC_get_thread_num(void)
 {
+    LWA_PASS(lwa_shadow, GOACC_get_thread_num);
     return 0;
 }
 

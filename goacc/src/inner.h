@@ -43,6 +43,7 @@ typedef struct lwa_pointer {
     uint64_t place;
     uintptr_t device;
     bool other; /* the table was told that a kernel has left another value */
+    bool open;  /* in shadow mode: a copy went over it, of which OpenACC leaves open what it leaves there */
 } lwa_pointer;
 
 /* A mapped range; or one that has ended, while copies of it wait. */
@@ -52,7 +53,8 @@ typedef struct lwa_block {
     uint64_t told;    /* the table's address */
     uint64_t place;   /* the device address that the table has for it */
     uintptr_t device; /* the device address */
-    uint8_t *bytes;   /* that the device has; at the device address while it is mapped */
+    uint8_t *bytes;   /* that the device has; at the device address while it is mapped, but for shadow mode */
+    bool owns;        /* whether they are memory of its own */
     bool mapped;
     struct lwa_block *root, *parts, *next; /* a part that acc_map_data maps has another root, until that ends */
     struct lwa_block *child[2];            /* in the tree of all */
@@ -62,6 +64,11 @@ typedef struct lwa_block {
     uint64_t lease;
     lwa_pointer *pointers; /* by rising address */
     size_t pointer_count, pointer_room;
+    uint64_t queue; /* that a copy was put into last */
+    bool meets;     /* another copy waits in another queue, or was made meanwhile */
+    bool open;      /* of a root in shadow mode: the table does not know its bytes */
+    bool given;     /* and the program has its device address by host_data, and may write there */
+    bool apart;     /* the runtime differed in whether it is there */
 } lwa_block;
 
 /* One item of a directive, in the program's addresses and as the table is told. */
@@ -156,6 +163,10 @@ _Noreturn void lwa_unserved(const char *format, ...) __attribute__((format(print
 #define LWA_REFUSAL 96
 void lwa_refusal_text(const lw_fault *told, char text[LWA_REFUSAL]);
 
+/* A line on standard error about the call of the program; and the end of the program with status 1 behind it. */
+void lwa_say(const char *text);
+_Noreturn void lwa_end_program(const char *text);
+
 /* Goes on where the status is LW_DONE, and else refuses. */
 void lwa_must(uint32_t status, const lw_fault *fault);
 
@@ -192,6 +203,9 @@ bool lwa_has(const lwa_block *block, uintptr_t at, size_t len);
 
 /* The block that has all of a section, or NULL. */
 lwa_block *lwa_inside(uintptr_t at, size_t len);
+
+/* A block of acc_malloc has no byte of the program: in place of the program's address it has the device's. */
+bool lwa_is_of_program(const lwa_block *block);
 
 /* Table addresses for a section that is to be mapped, with an address behind it that is never mapped. */
 uint64_t lwa_take_addresses(uintptr_t at, size_t len);
@@ -252,6 +266,9 @@ uint64_t lwa_told_pointer(const lwa_item *item);
 void lwa_aim(const lwa_item *item);
 void lwa_aimed(const lwa_item *item);
 
+/* In shadow mode the device's address of the target is known behind the runtime's call alone. */
+void lwa_aimed_late(const lwa_item *item);
+
 /* The place of the first pointer of a block that ends behind an address. */
 size_t lwa_first_pointer(const lwa_block *block, uintptr_t at);
 
@@ -280,8 +297,8 @@ bool lwa_is_entry(const lwa_maps *maps);
 
 /* ---- kernels.c ---- */
 
-/* Runs the compiled function in a region. */
-void lwa_kernel(void (*run)(void *), const lwa_maps *maps, const lwa_region *region);
+/* Runs a function in a region: one that was compiled, which gets the device addresses; or with what is given. */
+void lwa_kernel(void (*run)(void *), void *given, const lwa_maps *maps, const lwa_region *region);
 
 /* Writes to the table what its device has of a pointer. */
 void lwa_write_on_device(const lwa_block *block, uintptr_t at, uint64_t value);
@@ -336,5 +353,71 @@ void lwa_log_made(uint64_t queue);
 void lwa_log_loan(const char *what, const lwa_block *block);
 void lwa_log_refused(const lw_fault *fault);
 void lwa_finish_log(void);
+
+/* ---- shadow.c: the same calls on the runtime that the program is linked with (LAMWIEST_SHADOW) ---- */
+
+extern bool lwa_shadow;
+void lwa_start_shadow(void);
+void lwa_finish_shadow(void);
+
+/* Whether this thread is in a function of the runtime, which calls some of its own by their names. */
+extern _Thread_local bool lwa_in_runtime;
+
+/* The runtime's function of a name; and the end of one here which the runtime alone has to answer. */
+void *lwa_next(const char *name);
+#define LWA_NEXT(name) \
+    ({ \
+        static void *_Atomic next; \
+\
+        if (next == NULL) { \
+            next = lwa_next(#name); \
+        } \
+        (__typeof__(&name))next; \
+    })
+#define LWA_LIST(...) __VA_ARGS__
+#define LWA_PASS(when, name, ...) \
+    if (when) { \
+        return LWA_NEXT(name)(__VA_ARGS__); \
+    }
+
+/* The end of each call of the program: behind the table the runtime makes it, and both are compared. */
+#define LWA_LEAVE(call) \
+    do { \
+        if (lwa_shadow) { \
+            lwa_in_runtime = true; \
+            call; \
+            lwa_compare(); \
+        } \
+        lwa_leave(); \
+    } while (0)
+void lwa_compare(void);
+
+/* The runtime's answer, which the program gets; it is compared with the table's. */
+uintptr_t lwa_answer(uintptr_t own, uintptr_t came);
+
+/* Whether a refusal is one that the runtime has to tell, too, and may be passed over here. */
+bool lwa_may_refuse(const lw_fault *fault);
+bool lwa_has_refused(void);
+
+/* Whether the runtime has another device than the host, as was asked just now. */
+bool lwa_has_device(bool has);
+
+/* What OpenACC leaves open; yes where shadow mode passes it over. */
+typedef enum lwa_open { LWA_OPEN_FILL, LWA_OPEN_PLACES, LWA_OPEN_QUEUES, LWA_OPEN_POINTERS, LWA_OPEN } lwa_open;
+bool lwa_is_open(lwa_open what);
+
+/* Before an item acts, or a copy that waited: what is to be compared. */
+void lwa_watch_item(const lwa_directive *directive, size_t i);
+void lwa_watch_copy(uint64_t queue, const lwa_block *block, uintptr_t at, size_t len, bool out);
+void lwa_watch_block(lwa_block *block);
+
+/* Host bytes that the runtime is about to write: those that the table has, or none where they are open. And what a
+   section of a block has in from the host, behind those. */
+void lwa_expect(uintptr_t at, size_t len, const uint8_t *bytes);
+void lwa_read_expected(const lwa_block *block, uintptr_t at, size_t len, uint8_t *to);
+
+/* Around a kernel, which may write wherever it has a pointer to. */
+void lwa_kernel_starts(void);
+void lwa_kernel_ended(void);
 
 #endif

@@ -16,6 +16,7 @@ static void lend(lwa_block *block, uint64_t region)
 {
     lw_fault fault;
 
+    block->open |= lwa_shadow;
     if (block->kernels++ == 0) {
         lwa_script_kernel(block);
         lwa_room();
@@ -117,20 +118,20 @@ static void *device_address(const lwa_maps *maps, size_t i, const lwa_block *blo
 
 /* Each map has an address that the kernel gets, a pointer of the kernel's own, and the block that is lent. One block may
    stand there several times, and is brought back as often. Items stand in the order of their maps. */
-void lwa_kernel(void (*run)(void *), const lwa_maps *maps, const lwa_region *region)
+void lwa_kernel(void (*run)(void *), void *given, const lwa_maps *maps, const lwa_region *region)
 {
     const lwa_items *items = &region->directive.items;
     void **device = lwa_piece(3 * maps->count * sizeof *device), **slots = device + maps->count;
     lwa_block **blocks = (lwa_block **)(slots + maps->count);
     size_t count = 0;
 
-    for (size_t i = 0, next = 0; i < maps->count; i++) {
+    for (size_t i = 0, next = 0; i < maps->count && !lwa_has_refused(); i++) {
         const lwa_item *item = &items->at[next];
         const bool is_item = next < items->count && item->at == (uintptr_t)maps->at[i];
         lwa_block *block = is_item && item->block != NULL ? item->block : block_of(maps->at[i], 1);
 
         next += is_item;
-        device[i] = device_address(maps, i, block, slots);
+        device[i] = given != NULL ? NULL : device_address(maps, i, block, slots);
         if (block != NULL) {
             blocks[count++] = block->root;
         }
@@ -138,7 +139,9 @@ void lwa_kernel(void (*run)(void *), const lwa_maps *maps, const lwa_region *reg
     for (size_t i = 0; i < count; i++) {
         lend(blocks[i], items->at[0].region);
     }
-    lwa_run_free(run, device, true);
+    lwa_kernel_starts();
+    lwa_run_free(run, given != NULL ? given : device, true);
+    lwa_kernel_ended();
     for (size_t i = 0; i < count; i++) {
         bring_back(blocks[i]);
     }

@@ -14,6 +14,7 @@ typedef struct waiting {
     uintptr_t at;
     size_t len;
     bool out;
+    uint8_t *put; /* of a copy in, in shadow mode: the bytes when it was put */
 } waiting;
 
 /* The copies of each device's queues that wait, in the order in which they were put. */
@@ -63,7 +64,25 @@ static void move(const lwa_block *block, uintptr_t at, size_t len, bool out)
 {
     uint8_t *there = block->bytes + (at - block->at);
 
+    if (lwa_shadow && out) {
+        lwa_expect(at, len, block->root->open || block->root->given || block->meets ? NULL : there);
+        return;
+    }
+    if (lwa_shadow) {
+        lwa_read_expected(block, at, len, there);
+        return;
+    }
     memcpy(out ? (void *)at : there, out ? there : (void *)at, len);
+}
+
+/* The runtime may copy an attached pointer too. */
+static void pass_over(lwa_pointer *pointer, bool out)
+{
+    if (out) {
+        lwa_expect(pointer->at, LWA_POINTER, NULL);
+    } else {
+        pointer->open = true;
+    }
 }
 
 void lwa_copy(const lwa_block *block, uintptr_t at, size_t len, bool out)
@@ -78,6 +97,9 @@ void lwa_copy(const lwa_block *block, uintptr_t at, size_t len, bool out)
         if (pointer > at) {
             move(block, at, pointer - at, out);
         }
+        if (lwa_is_open(LWA_OPEN_POINTERS)) {
+            pass_over(&block->pointers[i], out);
+        }
         at = pointer + LWA_POINTER;
     }
     if (at < end) {
@@ -87,11 +109,26 @@ void lwa_copy(const lwa_block *block, uintptr_t at, size_t len, bool out)
 
 /* ---- Queues ---- */
 
+/* Whether a queue copies early or late is open: it shows where the program writes there meanwhile. */
+static uint8_t *put_bytes(uintptr_t at, size_t len, bool out)
+{
+    return lwa_shadow && !out ? memcpy(lwa_memory(NULL, len), (const void *)at, len) : NULL;
+}
+
+static void compare_put(const waiting *w)
+{
+    if (w->put != NULL && memcmp(w->put, (const void *)w->at, w->len) != 0 && lwa_is_open(LWA_OPEN_QUEUES)) {
+        w->block->root->open = true;
+    }
+    free(w->put);
+}
+
 void lwa_put_waiting(uint64_t queue, lwa_block *block, uintptr_t at, size_t len, bool out)
 {
     OWN[queue].list = lwa_grown(OWN[queue].list, OWN[queue].end, &OWN[queue].room, sizeof(waiting));
-    OWN[queue].list[OWN[queue].end++] = (waiting){block, at, len, out};
-    block->waiting++;
+    OWN[queue].list[OWN[queue].end++] = (waiting){block, at, len, out, put_bytes(at, len, out)};
+    block->meets |= block->waiting++ != 0 && block->queue != queue && lwa_is_open(LWA_OPEN_QUEUES);
+    block->queue = queue;
 }
 
 /* The first copy of a queue waits no more. */
@@ -125,6 +162,8 @@ bool lwa_step(uint64_t queue)
     }
     lwa_script_copies("step", queue);
     w = take_first(queue);
+    lwa_watch_copy(queue, w.block, w.at, w.len, w.out);
+    compare_put(&w);
     lwa_copy(w.block, w.at, w.len, w.out);
     lwa_log_made(queue);
     lwa_made(w.block);

@@ -150,3 +150,13 @@ void lwa_aimed(const lwa_item *item)
         lwa_copy(block, at, LWA_POINTER, false);
     }
 }
+
+void lwa_aimed_late(const lwa_item *item)
+{
+    const uintptr_t at = pointer_of(item);
+    const lwa_block *block = item->did.aim != 0 ? lwa_inside(at, LWA_POINTER) : NULL;
+
+    if (block != NULL && find_pointer(block, at) != NULL) {
+        lwa_aimed(item);
+    }
+}

@@ -88,18 +88,20 @@ static void set(int event, acc_prof_callback call, acc_register_t how, bool on)
 
 LWA_EXPORT void acc_prof_register(acc_event_t event, acc_prof_callback call, acc_register_t how)
 {
+    LWA_PASS(lwa_shadow, acc_prof_register, event, call, how)
     set((int)event, call, how, true);
 }
 
 LWA_EXPORT void acc_prof_unregister(acc_event_t event, acc_prof_callback call, acc_register_t how)
 {
+    LWA_PASS(lwa_shadow, acc_prof_unregister, event, call, how)
     set((int)event, call, how, false);
 }
 
 /* There is no further routine for tools. */
 LWA_EXPORT acc_query_fn acc_prof_lookup(const char *name)
 {
-    (void)name;
+    LWA_PASS(lwa_shadow, acc_prof_lookup, name)
     return NULL;
 }
 
@@ -120,7 +122,9 @@ void lwa_find_tools(void)
 {
     static pthread_once_t once = PTHREAD_ONCE_INIT;
 
-    pthread_once(&once, find_tools);
+    if (!lwa_shadow) {
+        pthread_once(&once, find_tools);
+    }
 }
 
 /* ---- Events ---- */

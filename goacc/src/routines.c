@@ -1,7 +1,7 @@
 /* The routines that are directives of one item (OpenACC 3.3, section 3.2), as GCC 12's openacc.h declares them. */
 #include "inner.h"
 
-/* One directive of one item. Answers the device address of its section, where that is mapped then. */
+/* One directive of one item, under the lock. Answers the device address of its section, where that is mapped then. */
 static void *one_item(const char *name, void *from, lwa_way way, bool finalize, uint32_t clause, void *at, size_t len,
                       int async)
 {
@@ -23,38 +23,36 @@ static void *one_item(const char *name, void *from, lwa_way way, bool finalize, 
             found = (void *)lwa_device_of(block, (uintptr_t)at);
         }
     }
-    lwa_leave();
     return found;
 }
+
+/* A routine of no answer, with its parameters and its arguments. */
+#define ONE_ITEM(name, parameters, arguments, way, finalize, clause, at, len, async) \
+    LWA_EXPORT void name parameters \
+    { \
+        LWA_PASS(lwa_in_runtime, name, LWA_LIST arguments) \
+        one_item(#name, LWA_FROM, way, finalize, clause, at, len, async); \
+        LWA_LEAVE(LWA_NEXT(name) arguments); \
+    }
 
 #define ENTRY(name, clause) \
     LWA_EXPORT void *name(void *at, size_t len) \
     { \
-        return one_item(#name, LWA_FROM, LWA_ENTER_DATA, false, clause, at, len, acc_async_sync); \
+        void *found; \
+\
+        LWA_PASS(lwa_in_runtime, name, at, len) \
+        found = one_item(#name, LWA_FROM, LWA_ENTER_DATA, false, clause, at, len, acc_async_sync); \
+        LWA_LEAVE(found = LWA_NEXT(name)(at, len)); \
+        return found; \
     }
 #define ENTRY_ASYNC(name, clause) \
-    LWA_EXPORT void name(void *at, size_t len, int async) \
-    { \
-        one_item(#name, LWA_FROM, LWA_ENTER_DATA, false, clause, at, len, async); \
-    }
+    ONE_ITEM(name, (void *at, size_t len, int async), (at, len, async), LWA_ENTER_DATA, false, clause, at, len, async)
 #define ROUTINE(name, way, finalize, clause) \
-    LWA_EXPORT void name(void *at, size_t len) \
-    { \
-        one_item(#name, LWA_FROM, way, finalize, clause, at, len, acc_async_sync); \
-    } \
-    LWA_EXPORT void name##_async(void *at, size_t len, int async) \
-    { \
-        one_item(#name "_async", LWA_FROM, way, finalize, clause, at, len, async); \
-    }
+    ONE_ITEM(name, (void *at, size_t len), (at, len), way, finalize, clause, at, len, acc_async_sync) \
+    ONE_ITEM(name##_async, (void *at, size_t len, int async), (at, len, async), way, finalize, clause, at, len, async)
 #define POINTER_ROUTINE(name, way, finalize, clause) \
-    LWA_EXPORT void name(void **at) \
-    { \
-        one_item(#name, LWA_FROM, way, finalize, clause, at, 0, acc_async_sync); \
-    } \
-    LWA_EXPORT void name##_async(void **at, int async) \
-    { \
-        one_item(#name "_async", LWA_FROM, way, finalize, clause, at, 0, async); \
-    }
+    ONE_ITEM(name, (void **at), (at), way, finalize, clause, at, 0, acc_async_sync) \
+    ONE_ITEM(name##_async, (void **at, int async), (at, async), way, finalize, clause, at, 0, async)
 
 ENTRY(acc_copyin, LW_COPYIN)
 ENTRY(acc_present_or_copyin, LW_COPYIN)
@@ -77,17 +75,18 @@ POINTER_ROUTINE(acc_detach_finalize, LWA_EXIT_DATA, true, LW_DETACH)
 LWA_EXPORT int acc_is_present(void *at, size_t len)
 {
     const lwa_block *block;
+    const size_t asked = len + (len == 0);
     uint64_t present = 1;
 
+    LWA_PASS(lwa_in_runtime, acc_is_present, at, len)
     lwa_take("acc_is_present", LWA_FROM);
     if (lwa_is_for_table()) {
-        len += len == 0;
-        block = lwa_inside((uintptr_t)at, len);
+        block = lwa_inside((uintptr_t)at, asked);
         present = 0;
-        if (block != NULL && block->at != block->device) {
-            lw_is_present(lwa_table(), block->told + ((uintptr_t)at - block->at), len, &present);
+        if (lwa_is_of_program(block)) {
+            lw_is_present(lwa_table(), block->told + ((uintptr_t)at - block->at), asked, &present);
         }
     }
-    lwa_leave();
+    LWA_LEAVE(present = lwa_answer(present, LWA_NEXT(acc_is_present)(at, len) != 0));
     return present != 0;
 }

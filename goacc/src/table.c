@@ -178,8 +178,9 @@ void lwa_run_free(void (*run)(void *), void *addresses, bool on_device)
     lwa_tell_notes(outer.construct);
     lwa_tell(event, outer.construct);
     in_kernel = on_device;
+    lwa_in_runtime = on_device && lwa_shadow;
     run(addresses);
-    in_kernel = false;
+    in_kernel = lwa_in_runtime = false;
     lwa_tell(on_device ? event + 1 : event, outer.construct);
     caller = outer;
     take_lock();
@@ -238,6 +239,7 @@ static void in_child(void)
 
 __attribute__((constructor)) static void at_start(void)
 {
+    lwa_start_shadow();
     pthread_key_create(&regions_key, end_thread);
     pthread_atfork(take_lock, free_lock, in_child);
 }
@@ -279,12 +281,17 @@ static void print_source(void)
     }
 }
 
-/* Handlers of the end of the program run, but not a second time, and not in a kernel, which may have what they want. */
-_Noreturn static void end_program(const char *text)
+void lwa_say(const char *text)
 {
     fflush(stdout);
     fprintf(stderr, "lamwiest: %s: %s", caller.name, text);
     print_source();
+}
+
+/* Handlers of the end of the program run, but not a second time, and not in a kernel, which may have what they want. */
+_Noreturn void lwa_end_program(const char *text)
+{
+    lwa_say(text);
     if (ending || in_kernel) {
         lwa_each_device(lwa_end_table);
         fflush(NULL);
@@ -314,7 +321,7 @@ _Noreturn void lwa_refuse(const lw_fault *fault)
 
     lwa_refusal_text(fault, text);
     lwa_log_refused(fault);
-    end_program(text);
+    lwa_end_program(text);
 }
 
 _Noreturn void lwa_unserved(const char *format, ...)
@@ -325,7 +332,7 @@ _Noreturn void lwa_unserved(const char *format, ...)
     va_start(words, format);
     vsnprintf(text, sizeof text, format, words);
     va_end(words);
-    end_program(text);
+    lwa_end_program(text);
 }
 
 void lwa_must(uint32_t status, const lw_fault *fault)
@@ -354,15 +361,18 @@ void *lwa_grown(void *list, size_t count, size_t *room, size_t size)
     return lwa_memory(list, *room * size);
 }
 
-/* At the end of the program the script, the log and the report are ended. */
+/* At the end of the program the script, the log and the report are ended. The runtime may have ended it in a call. */
 __attribute__((destructor)) static void at_end(void)
 {
-    if (has_lock) {
+    if (has_lock && !lwa_in_runtime) {
         return;
     }
-    take_lock();
+    if (!has_lock) {
+        take_lock();
+    }
     ending = true;
     ender = pthread_self();
+    lwa_finish_shadow();
     lwa_each_device(lwa_end_table);
     free_lock();
 }

@@ -71,6 +71,31 @@ static inline void peek(int line, unsigned char *at, size_t length, const char *
     check(line, expected);
 }
 
+/* Ends the program where the eight bytes of a pointer are not those of an address. */
+static inline void check_pointer(int line, const unsigned char *at, const void *address)
+{
+    const void *found;
+    memcpy(&found, at, sizeof found);
+    if (found == address)
+        return;
+    printf("line %d of the script: expected the pointer %p, but came %p\n", line, address, found);
+    exit(1);
+}
+
+/* A pointer in host memory. */
+static inline void show_pointer(int line, const unsigned char *at, const void *address)
+{
+    check_pointer(line, at, address);
+}
+
+/* A pointer on the device. */
+static inline void peek_pointer(int line, unsigned char *at, const void *address)
+{
+    unsigned char found[sizeof address];
+    acc_memcpy_from_device(found, acc_deviceptr(at), sizeof found);
+    check_pointer(line, found, address);
+}
+
 static inline void present(int line, unsigned char *at, size_t length, const char *expected)
 {
     strcpy(came, acc_is_present(at, length) ? "yes" : "no");
@@ -153,9 +178,11 @@ int main(void)
     /* 9: show s[8:8] */
     show(9, s_ + 8, 8,
         "????????????????");
+    show_pointer(9, s_ + 8, (void *)(t_));
     /* 10: peek s[8:8] */
     peek(10, s_ + 8, 8,
         "????????????????");
+    peek_pointer(10, s_ + 8, acc_deviceptr(t_));
     /* 11: enter data attach(s[8]) */
     acc_attach((void **)(s_ + 8));
     /* 12: report */
@@ -166,5 +193,17 @@ int main(void)
          map 0x1010 8 at 0x100000000 structured 0 dynamic 1
          regions 0 events 5
     */
+    present(12, s_, 16, "yes");
+    show(12, s_, 16,
+        "0000000000000000????????????????");
+    show_pointer(12, s_ + 8, (void *)(t_));
+    present(12, t_, 8, "yes");
+    show(12, t_, 8,
+        "0102030405060708");
+    peek(12, s_, 16,
+        "0000000000000000????????????????");
+    peek_pointer(12, s_ + 8, acc_deviceptr(t_));
+    peek(12, t_, 8,
+        "0102030405060708");
     return 0;
 }

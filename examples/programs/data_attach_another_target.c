@@ -72,6 +72,31 @@ static inline void peek(int line, unsigned char *at, size_t length, const char *
     check(line, expected);
 }
 
+/* Ends the program where the eight bytes of a pointer are not those of an address. */
+static inline void check_pointer(int line, const unsigned char *at, const void *address)
+{
+    const void *found;
+    memcpy(&found, at, sizeof found);
+    if (found == address)
+        return;
+    printf("line %d of the script: expected the pointer %p, but came %p\n", line, address, found);
+    exit(1);
+}
+
+/* A pointer in host memory. */
+static inline void show_pointer(int line, const unsigned char *at, const void *address)
+{
+    check_pointer(line, at, address);
+}
+
+/* A pointer on the device. */
+static inline void peek_pointer(int line, unsigned char *at, const void *address)
+{
+    unsigned char found[sizeof address];
+    acc_memcpy_from_device(found, acc_deviceptr(at), sizeof found);
+    check_pointer(line, found, address);
+}
+
 static inline void present(int line, unsigned char *at, size_t length, const char *expected)
 {
     strcpy(came, acc_is_present(at, length) ? "yes" : "no");
@@ -159,6 +184,7 @@ int main(void)
             /* 10: peek s */
             peek(10, s_, 8,
                 "????????????????");
+            peek_pointer(10, s_, acc_deviceptr(u_));
             /* 11: report */
             /* no program can see this; the table says:
                  host 65536 device 65536 used 48
@@ -168,17 +194,36 @@ int main(void)
                  map 0x1020 8 at 0x100000020 structured 0 dynamic 1
                  regions 2 events 5
             */
+            present(11, s_, 8, "yes");
+            show(11, s_, 8,
+                "????????????????");
+            show_pointer(11, s_, (void *)(u_));
+            present(11, t_, 8, "yes");
+            show(11, t_, 8,
+                "0000000000000000");
+            present(11, u_, 8, "yes");
+            show(11, u_, 8,
+                "0000000000000000");
+            peek(11, s_, 8,
+                "????????????????");
+            peek_pointer(11, s_, acc_deviceptr(u_));
+            peek(11, t_, 8,
+                "0000000000000000");
+            peek(11, u_, 8,
+                "0000000000000000");
             /* 12: end data */
             acc_detach((void **)(s_));
         }
         /* 13: peek s */
         peek(13, s_, 8,
             "????????????????");
+        peek_pointer(13, s_, (void *)(u_));
         /* 14: end data */
     }
     /* 15: peek s */
     peek(15, s_, 8,
         "????????????????");
+    peek_pointer(15, s_, (void *)(u_));
     /* 16: exit data delete(s, t, u) */
     #pragma acc exit data delete(s_) delete(t_) delete(u_)
     return 0;

@@ -70,6 +70,31 @@ static inline void peek(int line, unsigned char *at, size_t length, const char *
     check(line, expected);
 }
 
+/* Ends the program where the eight bytes of a pointer are not those of an address. */
+static inline void check_pointer(int line, const unsigned char *at, const void *address)
+{
+    const void *found;
+    memcpy(&found, at, sizeof found);
+    if (found == address)
+        return;
+    printf("line %d of the script: expected the pointer %p, but came %p\n", line, address, found);
+    exit(1);
+}
+
+/* A pointer in host memory. */
+static inline void show_pointer(int line, const unsigned char *at, const void *address)
+{
+    check_pointer(line, at, address);
+}
+
+/* A pointer on the device. */
+static inline void peek_pointer(int line, unsigned char *at, const void *address)
+{
+    unsigned char found[sizeof address];
+    acc_memcpy_from_device(found, acc_deviceptr(at), sizeof found);
+    check_pointer(line, found, address);
+}
+
 static inline void present(int line, unsigned char *at, size_t length, const char *expected)
 {
     strcpy(came, acc_is_present(at, length) ? "yes" : "no");

@@ -72,6 +72,31 @@ static inline void peek(int line, unsigned char *at, size_t length, const char *
     check(line, expected);
 }
 
+/* Ends the program where the eight bytes of a pointer are not those of an address. */
+static inline void check_pointer(int line, const unsigned char *at, const void *address)
+{
+    const void *found;
+    memcpy(&found, at, sizeof found);
+    if (found == address)
+        return;
+    printf("line %d of the script: expected the pointer %p, but came %p\n", line, address, found);
+    exit(1);
+}
+
+/* A pointer in host memory. */
+static inline void show_pointer(int line, const unsigned char *at, const void *address)
+{
+    check_pointer(line, at, address);
+}
+
+/* A pointer on the device. */
+static inline void peek_pointer(int line, unsigned char *at, const void *address)
+{
+    unsigned char found[sizeof address];
+    acc_memcpy_from_device(found, acc_deviceptr(at), sizeof found);
+    check_pointer(line, found, address);
+}
+
 static inline void present(int line, unsigned char *at, size_t length, const char *expected)
 {
     strcpy(came, acc_is_present(at, length) ? "yes" : "no");
@@ -160,6 +185,7 @@ int main(void)
     /* 11: peek s */
     peek(11, s_, 8,
         "????????????????");
+    peek_pointer(11, s_, acc_deviceptr(u_));
     /* 12: report */
     /* no program can see this; the table says:
          host 65536 device 65536 used 48
@@ -169,11 +195,29 @@ int main(void)
          map 0x1020 8 at 0x100000010 structured 0 dynamic 1
          regions 0 events 6
     */
+    present(12, s_, 8, "yes");
+    show(12, s_, 8,
+        "????????????????");
+    show_pointer(12, s_, (void *)(u_));
+    present(12, t_, 8, "yes");
+    show(12, t_, 8,
+        "0000000000000000");
+    present(12, u_, 8, "yes");
+    show(12, u_, 8,
+        "0000000000000000");
+    peek(12, s_, 8,
+        "????????????????");
+    peek_pointer(12, s_, acc_deviceptr(u_));
+    peek(12, t_, 8,
+        "0000000000000000");
+    peek(12, u_, 8,
+        "0000000000000000");
     /* 13: exit data detach(s[0]) */
     acc_detach((void **)(s_));
     /* 14: peek s */
     peek(14, s_, 8,
         "????????????????");
+    peek_pointer(14, s_, (void *)(u_));
     /* 15: exit data delete(s, t, u) */
     #pragma acc exit data delete(s_) delete(t_) delete(u_)
     return 0;

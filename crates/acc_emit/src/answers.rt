@@ -1,56 +1,48 @@
 //! Questions of a script, and the answers that have to come.
 
 use crate::emitters::Emitter;
-use crate::faults::{EmitFault, Reason};
+use crate::faults::EmitFault;
 use crate::marks::Marks;
+use crate::pointers::{POINTER_LEN, bytes_at, is_attached, pointer_section};
 use crate::sheets::Sheet;
 use crate::twins::DEVICE;
-use acc_base::{Fault, Section};
+use acc_base::{Fault, HOST_BASE, Section};
 use acc_read::next_line;
 use acc_script::{Effect, MemorySink, write_effect};
+use acc_table::Table;
 use std::alloc::Global;
+use std::fmt::Write;
 
 /// How many expected bytes stand on one line of the program.
 const BYTES_ON_LINE: u64 = 32;
 
-/// Emits a question for the bytes of a section of host memory.
+/// Emits a question for the bytes of a section, in host memory or on the device, and for its pointers.
 ///
 /// # Errors
 ///
 /// `OutsideArray` where no one array has the section.
-pub fn emit_show(emitter: &mut Emitter, section: Section) -> Result<(), EmitFault> {
+pub fn emit_bytes(
+    emitter: &mut Emitter,
+    section: Section,
+    on_device: bool,
+) -> Result<(), EmitFault> {
     let Emitter {
-        twins,
+        own,
+        twin,
         marks,
         sheet,
         ..
     } = emitter;
-    let own = twins.own.table.host_read(section);
-    let twin = twins.twin.table.host_read(section);
-    let (Some(own), Some(twin)) = (own, twin) else {
-        return Err(sheet.unfit(Reason::OutsideArray));
+    start_question(sheet, if on_device { "peek" } else { "show" }, section)?;
+    put_length(sheet, section.len);
+    let bytes = bytes_at(&own.table, section, on_device);
+    let others = bytes_at(&twin.table, section, on_device);
+    let (Some(bytes), Some(others)) = (bytes, others) else {
+        sheet.body.text(", \"none\");\n");
+        return Ok(());
     };
-    put_bytes(sheet, marks, "show", section, own, twin)
-}
-
-/// Emits a question for the bytes that the device has of a section.
-///
-/// # Errors
-///
-/// `OutsideArray` where no one array has the section.
-pub fn emit_peek(emitter: &mut Emitter, section: Section) -> Result<(), EmitFault> {
-    let Emitter {
-        twins,
-        marks,
-        sheet,
-        ..
-    } = emitter;
-    let own = twins.own.table.device_read(DEVICE, section);
-    let twin = twins.twin.table.device_read(DEVICE, section);
-    let (Some(own), Some(twin)) = (own, twin) else {
-        return put_word(sheet, "peek", section, "none");
-    };
-    put_bytes(sheet, marks, "peek", section, own, twin)
+    put_bytes(sheet, marks, section, bytes, others);
+    put_pointers(sheet, marks, &own.table, section, on_device)
 }
 
 /// Emits a question for the presence of a section.
@@ -59,28 +51,19 @@ pub fn emit_peek(emitter: &mut Emitter, section: Section) -> Result<(), EmitFaul
 ///
 /// `OutsideArray` where no one array has the section.
 pub fn emit_present(emitter: &mut Emitter, section: Section) -> Result<(), EmitFault> {
-    let is_present = emitter.twins.own.table.is_present(DEVICE, section);
+    let is_present = emitter.own.table.is_present(DEVICE, section);
+    let sheet = &mut emitter.sheet;
+    start_question(sheet, "present", section)?;
+    put_length(sheet, section.len);
     let word = if is_present { "yes" } else { "no" };
-    put_word(&mut emitter.sheet, "present", section, word)
+    let _ = writeln!(sheet.body, ", \"{word}\");");
+    Ok(())
 }
 
-/// Puts the bytes that have to come. `own` are those of the script's table, and `twin` those of its twin. A byte that
-/// is not compared is `??`.
-fn put_bytes(
-    sheet: &mut Sheet,
-    marks: &Marks,
-    call: &str,
-    section: Section,
-    own: &[u8],
-    twin: &[u8],
-) -> Result<(), EmitFault> {
-    if section.len == 0 {
-        put_passed_over(sheet);
-        return Ok(());
-    }
+/// Puts the bytes that have to come, and that the twin has too. A byte that is not compared is `??`.
+fn put_bytes(sheet: &mut Sheet, marks: &Marks, section: Section, bytes: &[u8], others: &[u8]) {
     sheet.need(section.len);
-    put_question(sheet, call, section)?;
-    for (at, (byte, other)) in own.iter().zip(twin).enumerate() {
+    for (at, (byte, other)) in bytes.iter().zip(others).enumerate() {
         let at = at as u64;
         if at % BYTES_ON_LINE == 0 {
             put_break(sheet, at == 0);
@@ -92,7 +75,6 @@ fn put_bytes(
         }
     }
     sheet.body.text("\");\n");
-    Ok(())
 }
 
 fn put_break(sheet: &mut Sheet, is_first: bool) {
@@ -100,32 +82,98 @@ fn put_break(sheet: &mut Sheet, is_first: bool) {
     sheet.start("    \"");
 }
 
-fn put_word(sheet: &mut Sheet, call: &str, section: Section, word: &str) -> Result<(), EmitFault> {
-    if section.len == 0 {
-        put_passed_over(sheet);
-        return Ok(());
+fn start_question(sheet: &mut Sheet, call: &str, section: Section) -> Result<(), EmitFault> {
+    sheet.start_call(call);
+    sheet.body.text(", ");
+    sheet.put_address(section)
+}
+
+fn put_length(sheet: &mut Sheet, length: u64) {
+    sheet.body.text(", ");
+    sheet.put_number(length);
+}
+
+/// Puts a question for each pointer of a section whose target is known.
+fn put_pointers(
+    sheet: &mut Sheet,
+    marks: &Marks,
+    table: &Table,
+    section: Section,
+    on_device: bool,
+) -> Result<(), EmitFault> {
+    let end = section.start.saturating_add(section.len) / POINTER_LEN;
+    for nth in section.start.div_ceil(POINTER_LEN)..end {
+        let place = nth.saturating_mul(POINTER_LEN);
+        if let Some(target) = marks.target(table, place, on_device) {
+            if marks.is_pointer(place) {
+                let is_attached = on_device && is_attached(table, place);
+                put_pointer(sheet, place, on_device, target, is_attached)?;
+            }
+        }
     }
-    put_question(sheet, call, section)?;
-    sheet.body.text(", \"");
-    sheet.body.text(word);
-    sheet.body.text("\");\n");
     Ok(())
 }
 
-/// Puts a comment for a question about an empty section, which OpenACC leaves open.
-fn put_passed_over(sheet: &mut Sheet) {
-    sheet.start("/* an empty section: nothing to compare */\n");
+/// Puts a question for a pointer. Attached it holds the device address of its target, and else the host address.
+fn put_pointer(
+    sheet: &mut Sheet,
+    place: u64,
+    on_device: bool,
+    target: u64,
+    is_attached: bool,
+) -> Result<(), EmitFault> {
+    let (show, peek) = ("show_pointer", "peek_pointer");
+    start_question(
+        sheet,
+        if on_device { peek } else { show },
+        pointer_section(place),
+    )?;
+    let address = if is_attached {
+        "acc_deviceptr"
+    } else {
+        "(void *)"
+    };
+    let _ = write!(sheet.body, ", {address}(");
+    sheet.put_byte_address(target)?;
+    sheet.body.text("));\n");
+    Ok(())
 }
 
-fn put_question(sheet: &mut Sheet, call: &str, section: Section) -> Result<(), EmitFault> {
-    let number = sheet.line;
-    sheet.start(call);
-    sheet.body.text("(");
-    sheet.put_number(number);
-    sheet.body.text(", ");
-    sheet.put_address(section)?;
-    sheet.body.text(", ");
-    sheet.put_number(section.len);
+/// Emits a report: a comment with what the table says, and questions for each array and each mapped range.
+///
+/// # Errors
+///
+/// [`EmitFault::Run`] for lack of memory. (Each range lies in one array.)
+pub fn emit_report(alloc: Global, emitter: &mut Emitter, effect: Effect) -> Result<(), EmitFault> {
+    emit_comment(alloc, emitter, effect)?;
+    for nth in 0..emitter.own.table.config().host() / 16 {
+        let address = HOST_BASE.saturating_add(nth.saturating_mul(16));
+        let Some(spot) = emitter.sheet.names.spot(address) else {
+            break;
+        };
+        let whole = spot.array.whole();
+        if whole.start == address {
+            emit_present(emitter, whole)?;
+            emit_bytes(emitter, whole, false)?;
+        }
+    }
+    emit_ranges(emitter)
+}
+
+/// Emits a question for the bytes of each mapped range on the device.
+fn emit_ranges(emitter: &mut Emitter) -> Result<(), EmitFault> {
+    let mut from = HOST_BASE;
+    for _ in 0..emitter.own.table.config().host() {
+        let Some(range) = emitter.own.table.mapped(DEVICE, from) else {
+            break;
+        };
+        let section = Section {
+            start: range.start,
+            len: range.len,
+        };
+        emit_bytes(emitter, section, true)?;
+        from = section.start.saturating_add(section.len);
+    }
     Ok(())
 }
 
@@ -137,7 +185,7 @@ fn put_question(sheet: &mut Sheet, call: &str, section: Section) -> Result<(), E
 pub fn emit_comment(alloc: Global, emitter: &mut Emitter, effect: Effect) -> Result<(), EmitFault> {
     let mut text = MemorySink::new(alloc);
     let line = emitter.sheet.line;
-    if !write_effect(&mut text, line, &emitter.twins.own.table, effect) {
+    if !write_effect(&mut text, line, &emitter.own.table, effect) {
         return Err(EmitFault::Run(Fault::Memory));
     }
     put_comment(&mut emitter.sheet, text.as_slice());

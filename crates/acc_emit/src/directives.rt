@@ -1,9 +1,11 @@
 //! Directives with data clauses.
 
 use crate::faults::EmitFault;
-use crate::items::{Words, Written, fit_one_directive};
+use crate::items::{Words, Written, fit_one_directive, written_items};
 use crate::pointers::pointer_section;
 use crate::sheets::Sheet;
+use acc_base::{Did, Directive, Fault};
+use std::alloc::Global;
 
 /// A directive without its items: what stands before them, and behind them.
 #[derive(Clone, Copy)]
@@ -22,8 +24,7 @@ pub struct Frame {
     pub opens: bool,
 }
 
-/// The frame of the start of a region (OpenACC 3.3, section 2.6.5).
-pub const REGION: Frame = Frame {
+const REGION: Frame = Frame {
     head: "data",
     queue: None,
     option: "",
@@ -32,40 +33,74 @@ pub const REGION: Frame = Frame {
     opens: true,
 };
 
-/// The frame of an `enter data` (OpenACC 3.3, section 2.6.6).
-pub fn enter_frame(queue: Option<u64>) -> Frame {
+/// A directive with data clauses.
+#[derive(Drop)]
+pub struct WrittenDirective {
+    /// What stands before its items, and behind them.
+    pub frame: Frame,
+    /// Its items.
+    pub items: Vec<Written>,
+}
+
+/// Returns a directive with what each of its items did, as far as that is known; `None` where it has no data clause.
+///
+/// # Errors
+///
+/// [`Fault::Memory`] alone.
+pub fn written_directive(
+    alloc: Global,
+    directive: &Directive,
+    did: &[Did],
+) -> Result<Option<WrittenDirective>, Fault> {
+    let frame = match directive {
+        Directive::Enter { .. } => REGION,
+        Directive::EnterData { queue, .. } => without_block("enter data", *queue, ""),
+        Directive::ExitData {
+            finalize,
+            queue,
+            ..
+        } => exit_frame(*queue, *finalize),
+        Directive::Update {
+            if_present,
+            queue,
+            ..
+        } => without_block(
+            "update",
+            *queue,
+            if *if_present { " if_present" } else { "" },
+        ),
+        _ => return Ok(None),
+    };
+    let items = match directive {
+        Directive::Enter { items, .. } => written_items(alloc, items.as_slice(), did)?,
+        Directive::EnterData { items, .. } => written_items(alloc, items.as_slice(), did)?,
+        Directive::ExitData { items, .. } => written_items(alloc, items.as_slice(), did)?,
+        Directive::Update { items, .. } => written_items(alloc, items.as_slice(), did)?,
+        _ => return Ok(None),
+    };
+    Ok(Some(WrittenDirective { frame, items }))
+}
+
+fn without_block(head: &'static str, queue: Option<u64>, option: &'static str) -> Frame {
     Frame {
-        head: "enter data",
+        head,
         queue,
+        option,
         opens: false,
         ..REGION
     }
 }
 
-/// The frame of an `exit data` (OpenACC 3.3, section 2.6.6).
-pub fn exit_frame(queue: Option<u64>, finalize: bool) -> Frame {
+fn exit_frame(queue: Option<u64>, finalize: bool) -> Frame {
+    let option = if finalize { " finalize" } else { "" };
     Frame {
-        head: "exit data",
-        queue,
-        option: if finalize { " finalize" } else { "" },
         call: if finalize {
             "acc_detach_finalize"
         } else {
             "acc_detach"
         },
         call_first: true,
-        opens: false,
-    }
-}
-
-/// The frame of an `update` (OpenACC 3.3, the update directive).
-pub fn update_frame(queue: Option<u64>, if_present: bool) -> Frame {
-    Frame {
-        head: "update",
-        queue,
-        option: if if_present { " if_present" } else { "" },
-        opens: false,
-        ..REGION
+        ..without_block("exit data", queue, option)
     }
 }
 

@@ -1,80 +1,99 @@
 //! Directives that are done.
 
-use crate::directives::{Frame, put_directive, put_wait};
+use crate::directives::{WrittenDirective, put_directive, put_wait, written_directive};
 use crate::emitters::Emitter;
-use crate::events::{Told, told_event};
 use crate::faults::{EmitFault, Reason};
 use crate::items::Written;
-use crate::pointers::{address_of, pointer_section};
-use crate::regions::{OpenRegion, put_end};
-use acc_base::Did;
-use acc_table::Table;
+use crate::pointers::{pointer_section, word_at};
+use crate::regions::OpenRegion;
+use crate::twins::DEVICE;
+use crate::waits::common;
+use acc_base::{Did, Directive, Section};
 use std::alloc::Global;
 
-/// Emits the directive that made the table's last event.
+/// Emits a directive that was done.
 ///
 /// # Errors
 ///
 /// [`EmitFault::Line`] where C cannot have the directive; [`EmitFault::Run`] for lack of memory.
-pub fn emit_last_event(alloc: Global, emitter: &mut Emitter) -> Result<(), EmitFault> {
-    let told = match emitter.twins.own.table.trace().last() {
-        Some(event) => told_event(alloc, event)?,
-        None => Told::Nothing,
+pub fn emit_directive(
+    alloc: Global,
+    emitter: &mut Emitter,
+    directive: &Directive,
+) -> Result<(), EmitFault> {
+    let did = match emitter.own.table.trace().last() {
+        Some(event) => Vec::from_slice(alloc, event.did())?,
+        None => Vec::new(alloc),
     };
-    match told {
-        Told::Start(items) => emit_start(emitter, items),
-        Told::End(did) => emit_end(emitter, &did),
-        Told::Standalone(frame, items) => emit_standalone(emitter, frame, &items),
-        Told::Wait(queue) => {
-            emitter.marks.waits.wait(queue);
-            put_wait(&mut emitter.sheet, queue);
-            Ok(())
-        }
-        Told::Step => {
-            emitter
-                .sheet
-                .start("/* a copy of the queue may be made now, or later */\n");
-            Ok(())
-        }
-        Told::Nothing => Ok(()),
+    if let Some(written) = written_directive(alloc, directive, &did)? {
+        note_all(emitter, written.frame.queue, &written.items)?;
+        return put_all(emitter, written);
     }
+    match directive {
+        Directive::Exit { .. } => return emit_end(emitter, &did),
+        Directive::Wait { queue, .. } => {
+            emitter.marks.waits.wait(*queue);
+            put_wait(&mut emitter.sheet, *queue);
+        }
+        _ => emitter
+            .sheet
+            .start("/* a copy of the queue may be made now, or later */\n"),
+    }
+    Ok(())
 }
 
-fn emit_start(emitter: &mut Emitter, items: Vec<Written>) -> Result<(), EmitFault> {
-    note_all(emitter, None, &items)?;
-    put_directive(&mut emitter.sheet, crate::directives::REGION, &items)?;
-    let region = OpenRegion::new(&emitter.sheet, items);
-    emitter.regions.push(region)?;
+/// Puts a directive with data clauses, and opens its region if it starts one.
+///
+/// # Errors
+///
+/// Those of [`emit_directive`].
+pub fn put_all(emitter: &mut Emitter, written: WrittenDirective) -> Result<(), EmitFault> {
+    put_directive(&mut emitter.sheet, written.frame, &written.items)?;
+    if written.frame.opens {
+        let region = OpenRegion::new(&emitter.sheet, written.items);
+        emitter.regions.push(region)?;
+    }
     Ok(())
 }
 
 fn emit_end(emitter: &mut Emitter, did: &[Did]) -> Result<(), EmitFault> {
-    let Some(region) = emitter.regions.pop() else {
+    let Some(mut region) = emitter.regions.pop() else {
         return Ok(());
     };
-    let is_one = region.is_one();
-    let items = region.undone(did);
-    note_all(emitter, None, &items)?;
-    put_end(&mut emitter.sheet, &items, is_one)
-}
-
-fn emit_standalone(
-    emitter: &mut Emitter,
-    frame: Frame,
-    items: &[Written],
-) -> Result<(), EmitFault> {
-    note_all(emitter, frame.queue, items)?;
-    put_directive(&mut emitter.sheet, frame, items)
+    region.undo(did);
+    note_all(emitter, None, &region.items)?;
+    region.put_end(&mut emitter.sheet)
 }
 
 /// Notes what the items of a directive did, in a queue or at once; fails where C cannot have it.
 fn note_all(emitter: &mut Emitter, queue: Option<u64>, items: &[Written]) -> Result<(), EmitFault> {
-    for item in items {
+    for (nth, item) in items.iter().enumerate() {
+        if item.copied_block().is_some() && has_attached(emitter, items, nth, item.section) {
+            return Err(emitter.unfit(Reason::AttachedCopied));
+        }
         check_attached(emitter, *item)?;
         check_ended(emitter, queue, *item)?;
         note(emitter, queue, *item)?;
     }
+    if items.iter().any(|item| item.ended_block().is_some()) {
+        emitter.marks.give_up_lost(&emitter.own.table);
+    }
     Ok(())
+}
+
+/// Whether a pointer in a section was attached before the directive, which the twin has not done yet, and not detached by
+/// the items before the nth.
+fn has_attached(emitter: &Emitter, items: &[Written], nth: usize, section: Section) -> bool {
+    emitter.marks.pointers.iter().any(|pointer| {
+        let place = pointer.place;
+        let detached = items
+            .iter()
+            .take(nth)
+            .filter(|item| item.pointer() == Some(place))
+            .count();
+        common(pointer_section(place), section).len > 0
+            && (detached as u64) < emitter.twin.table.attachment(DEVICE, place)
+    })
 }
 
 /// Checks the pointer that an item attached. Some `point` has to have written it, since only then has it an address in
@@ -86,17 +105,12 @@ fn check_attached(emitter: &Emitter, item: Written) -> Result<(), EmitFault> {
     if emitter.marks.is_racing(pointer_section(place)) {
         return Err(emitter.unfit(Reason::Unsettled));
     }
-    let own = pointer_at(&emitter.twins.own.table, place);
-    let twin = pointer_at(&emitter.twins.twin.table, place);
-    if own != twin || !emitter.marks.pointers.has(place, own) {
+    let target = word_at(&emitter.own.table, place, false);
+    let twin = word_at(&emitter.twin.table, place, false);
+    if target != twin || !emitter.marks.has_pointer(place, target) {
         return Err(emitter.unfit(Reason::Unpointed));
     }
     Ok(())
-}
-
-/// The address in the bytes of host memory at a place.
-fn pointer_at(table: &Table, place: u64) -> u64 {
-    address_of(table.host_read(pointer_section(place)).unwrap_or(&[]))
 }
 
 /// Checks that no copy of a block waits in another queue when its mapping ends. OpenACC does not say whether the block
@@ -115,10 +129,13 @@ fn note(emitter: &mut Emitter, queue: Option<u64>, item: Written) -> Result<(), 
     if let Some(place) = item.pointer() {
         emitter.marks.touch(pointer_section(place), None);
     }
+    if item.is_left_open() {
+        emitter.births.push(item.section)?;
+    }
     let Some(block) = item.copied_block() else {
         return Ok(());
     };
-    emitter.marks.touch(item.section, queue);
+    emitter.marks.copy(item.section, queue);
     if let Some(queue) = queue {
         emitter.marks.waits.put(queue, block, item.section)?;
     }

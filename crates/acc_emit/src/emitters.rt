@@ -4,19 +4,25 @@ use crate::faults::{EmitFault, Reason};
 use crate::marks::Marks;
 use crate::regions::OpenRegion;
 use crate::sheets::Sheet;
-use crate::twins::Twins;
-use acc_base::Config;
-use std::alloc::Global;
+use crate::twins::{boxed_session, twin_of};
+use acc_base::{Config, Section};
+use acc_script::Session;
+use std::sync::Wait;
+use std::thread::Threads;
 
 /// A script that is being emitted.
 #[derive(Drop)]
 pub struct Emitter {
-    /// The script's table, and its twin.
-    pub twins: Twins,
+    /// The script's own table.
+    pub own: Box<Session>,
+    /// Its twin, whose bytes are others where nothing has filled them.
+    pub twin: Box<Session>,
     /// The bytes that are not compared.
     pub marks: Marks,
     /// The text of the program so far.
     pub sheet: Sheet,
+    /// The sections of the blocks that the last directive left without bytes.
+    pub births: Vec<Section>,
     /// The open regions, the innermost last.
     pub regions: Vec<OpenRegion>,
 }
@@ -27,11 +33,17 @@ impl Emitter {
     /// # Errors
     ///
     /// [`EmitFault::Run`] alone, for lack of memory.
-    pub fn new(alloc: Global, config: Config) -> Result<Emitter, EmitFault> {
+    pub fn new<R: Threads + Wait + Sync + AllocGlobal>(
+        rt: &R,
+        config: Config,
+    ) -> Result<Emitter, EmitFault> {
+        let alloc = rt.alloc();
         Ok(Emitter {
             marks: Marks::new(alloc, config.host())?,
-            twins: Twins::new(alloc, config)?,
+            own: boxed_session(alloc, config)?,
+            twin: twin_of(rt, config)?,
             sheet: Sheet::new(alloc),
+            births: Vec::new(alloc),
             regions: Vec::new(alloc),
         })
     }

@@ -1,17 +1,16 @@
 //! Emits a script, line by line.
 
-use crate::answers::{emit_comment, emit_peek, emit_present, emit_show};
-use crate::doing::emit_last_event;
+use crate::answers::{emit_bytes, emit_comment, emit_present, emit_report};
+use crate::doing::emit_directive;
 use crate::emitters::Emitter;
 use crate::faults::{EmitFault, Reason};
-use crate::plans::{Plan, plan_of};
 use crate::refusals::emit_refused;
 use crate::sheets::Sheet;
 use crate::twins::{DEVICE, follow_on_twin, read_on};
-use crate::writes::{declare, emit_kernel, emit_point, emit_write};
-use acc_base::{Config, Fault, ScriptFault};
+use crate::writes::{declare, emit_kernel, emit_write};
+use acc_base::{Config, Fault, ScriptFault, Section};
 use acc_page::{Page, statement_text};
-use acc_read::next_line;
+use acc_read::{Statement, next_line};
 use acc_script::Effect;
 use std::alloc::Global;
 use std::sync::Wait;
@@ -32,7 +31,7 @@ pub fn emit<R: Threads + Wait + Sync + AllocGlobal>(
     script: &[u8],
     until_refusal: bool,
 ) -> Result<Page, EmitFault> {
-    let mut emitter = Emitter::new(rt.alloc(), config)?;
+    let mut emitter = Emitter::new(rt, config)?;
     emit_lines(rt, &mut emitter, script, until_refusal)?;
     Ok(emitter.sheet.whole(rt.alloc())?)
 }
@@ -60,7 +59,7 @@ fn emit_lines<R: Threads + Wait + Sync + AllocGlobal>(
 
 fn end_at(emitter: &mut Emitter, until_refusal: bool) -> Result<(), EmitFault> {
     emitter.sheet.line = emitter.sheet.line.saturating_add(1);
-    if emitter.twins.own.table.regions() > 0 {
+    if emitter.own.table.regions() > 0 {
         let line = emitter.sheet.line;
         let kind = ScriptFault::Unclosed;
         return Err(EmitFault::Run(Fault::Script { line, kind }));
@@ -79,18 +78,16 @@ fn emit_line<R: Threads + Wait + Sync + AllocGlobal>(
     until_refusal: bool,
 ) -> Result<bool, EmitFault> {
     let number = emitter.sheet.line;
-    let statement = read_on(rt.alloc(), &emitter.twins.own, number, line)?;
-    let plan = plan_of(&statement, line);
-    let effect = emitter.twins.own.perform(rt, statement)?;
+    let statement = read_on(rt.alloc(), &emitter.own, number, line)?;
+    let again = read_on(rt.alloc(), &emitter.twin, number, line)?;
+    let effect = emitter.own.perform(rt, statement)?;
     put_statement(&mut emitter.sheet, line);
     if let Effect::Refused(fault) = effect {
-        emit_refused(rt.alloc(), emitter, line, fault, until_refusal)?;
+        emit_refused(rt.alloc(), emitter, &again, fault, until_refusal)?;
         return Ok(true);
     }
-    if follow_on_twin(rt, &mut emitter.twins.twin, number, line)?.is_refused() {
-        return Err(emitter.unfit(Reason::Unsettled));
-    }
-    emit_plan(rt.alloc(), emitter, plan, effect)?;
+    emit_statement(rt.alloc(), emitter, line, &again, effect)?;
+    follow_on_twin(rt, emitter, again)?;
     Ok(false)
 }
 
@@ -107,40 +104,42 @@ fn put_statement(sheet: &mut Sheet, line: &[u8]) {
     }
 }
 
-fn emit_plan(
+/// Emits a statement that was done in a script's own table, and not yet in its twin.
+fn emit_statement(
     alloc: Global,
     emitter: &mut Emitter,
-    plan: Plan<'_>,
+    line: &[u8],
+    statement: &Statement<'_>,
     effect: Effect,
 ) -> Result<(), EmitFault> {
-    match plan {
-        Plan::Nothing => Ok(()),
-        Plan::Declaration { name, array } => declare(alloc, &mut emitter.sheet, name, array),
-        Plan::Directive => emit_directive(alloc, emitter, effect),
-        Plan::Device(device) => check_device(emitter, device),
-        Plan::Kernel { kernel, section } => emit_kernel(emitter, kernel, section),
-        Plan::Write(section) => emit_write(emitter, section),
-        Plan::Point(section) => emit_point(emitter, section),
-        Plan::Show(section) => emit_show(emitter, section),
-        Plan::Peek(section) => emit_peek(emitter, section),
-        Plan::Present(section) => emit_present(emitter, section),
-        Plan::Comment => emit_comment(alloc, emitter, effect),
+    match statement {
+        Statement::Blank => Ok(()),
+        Statement::Declare { name, array } => declare(alloc, &mut emitter.sheet, name, *array),
+        Statement::Direct(directive) => emit_directive(alloc, emitter, directive),
+        Statement::Select(device) if *device == DEVICE => Ok(()),
+        Statement::Select(_) => Err(emitter.unfit(Reason::OtherDevice)),
+        Statement::Kernel {
+            kernel,
+            section,
+            ..
+        } => emit_kernel(emitter, *kernel, *section),
+        Statement::Write { addr, bytes } => {
+            let start = *addr;
+            let len = bytes.as_slice().len() as u64;
+            let is_point = statement_text(line).starts_with(b"point");
+            emit_write(emitter, Section { start, len }, is_point)
+        }
+        Statement::Show(section) | Statement::Peek(section) | Statement::Present(section)
+            if section.len == 0 => {
+            emitter
+                .sheet
+                .start("/* an empty section: nothing to compare */\n");
+            Ok(())
+        }
+        Statement::Show(section) => emit_bytes(emitter, *section, false),
+        Statement::Peek(section) => emit_bytes(emitter, *section, true),
+        Statement::Present(section) => emit_present(emitter, *section),
+        Statement::Address(_) => emit_comment(alloc, emitter, effect),
+        Statement::Report => emit_report(alloc, emitter, effect),
     }
-}
-
-/// Checks the device that a line chooses. A program is for one device: its own needs no statement, and it has no other.
-fn check_device(emitter: &Emitter, device: u64) -> Result<(), EmitFault> {
-    if device == DEVICE {
-        Ok(())
-    } else {
-        Err(emitter.unfit(Reason::OtherDevice))
-    }
-}
-
-/// Emits a directive that was done. The step of an empty queue did nothing, and gets a comment.
-fn emit_directive(alloc: Global, emitter: &mut Emitter, effect: Effect) -> Result<(), EmitFault> {
-    if matches!(effect, Effect::EmptyQueue) {
-        return emit_comment(alloc, emitter, effect);
-    }
-    emit_last_event(alloc, emitter)
 }

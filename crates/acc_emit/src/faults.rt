@@ -16,6 +16,8 @@ pub enum Reason {
     Unpointed,
     /// A mapping ends, or a pointer is attached, while a copy of its bytes waits in another queue.
     Unsettled,
+    /// A copy has a pointer that is attached.
+    AttachedCopied,
     /// Another device than the first is chosen.
     OtherDevice,
     /// A program up to the first refusal is asked for, and no statement is refused.
@@ -31,6 +33,7 @@ impl Reason {
             Reason::OutsideArray => "a section does not lie in one array",
             Reason::Unpointed => "a pointer is attached that no 'point' wrote",
             Reason::Unsettled => "the outcome depends on when a queued copy is made",
+            Reason::AttachedCopied => "a copy has an attached pointer, which OpenACC leaves open",
             Reason::OtherDevice => "a program has device 0 alone",
             Reason::NothingRefused => "no statement was refused",
         }

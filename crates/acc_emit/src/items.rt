@@ -84,7 +84,7 @@ pub struct Written {
     pub words: Words,
     /// Its section.
     pub section: Section,
-    /// What it did; nothing where the directive is refused.
+    /// What it did, or what its end did; nothing where the directive is refused.
     pub did: Did,
 }
 
@@ -119,6 +119,11 @@ impl Written {
     /// Whether it was mapped to a new block.
     pub fn is_born(self) -> bool {
         matches!(self.did.step, Step::Born { .. })
+    }
+
+    /// Whether it was mapped to a new block, whose bytes nothing fills.
+    pub fn is_left_open(self) -> bool {
+        self.is_born() && !self.words.zero && self.copied_block().is_none()
     }
 
     /// Returns the host address of the pointer that it attached or detached.

@@ -48,8 +48,7 @@ fn put_loop(
 fn put_plus(sheet: &mut Sheet, source: Section, section: Section) -> Result<(), EmitFault> {
     let count = source.len.min(section.len);
     if count == 0 {
-        sheet.start("/* an empty source: no byte changes */\n");
-        return Ok(());
+        return put_loop(sheet, section, Some(" ^ "), 0);
     }
     put_source(sheet, source, count)?;
     put_start(sheet, section)?;

@@ -1,9 +1,24 @@
 //! The bytes that two programs need not have alike.
 
-use crate::pointers::{Pointers, pointer_section};
-use crate::waits::Waits;
+use crate::pointers::{POINTER_LEN, Pointer, is_attached, pointer_section, word_at};
+use crate::twins::DEVICE;
+use crate::waits::{Waits, common};
 use acc_base::{HOST_BASE, Section};
+use acc_table::Table;
 use std::alloc::{AllocError, Global};
+
+/// How the bytes of a host address are compared: that in host memory, and those on the device that are mapped from it.
+#[derive(Clone, Copy, PartialEq, Eq)]
+enum Mark {
+    /// Each by itself. Nothing was written.
+    Plain,
+    /// Each by itself.
+    Written,
+    /// As a part of a pointer alone: nothing but addresses was written.
+    Address,
+    /// Not at all.
+    Open,
+}
 
 /// The bytes that two programs need not have alike: those of addresses, and those that a queued copy races for.
 ///
@@ -11,9 +26,9 @@ use std::alloc::{AllocError, Global};
 /// and for those on the device that are mapped from it. A mark stays, since some copy of the byte may.
 #[derive(Drop)]
 pub struct Marks {
-    marked: Vec<bool>,
-    /// The pointers that `point` wrote.
-    pub pointers: Pointers,
+    marked: Vec<Mark>,
+    /// The addresses that `point` has written, each pointer with each of its targets once.
+    pub pointers: Vec<Pointer>,
     /// The copies that wait.
     pub waits: Waits,
 }
@@ -26,35 +41,63 @@ impl Marks {
     /// [`AllocError`] where there is no memory for the marks, one for each byte.
     pub fn new(alloc: Global, host: u64) -> Result<Marks, AllocError> {
         Ok(Marks {
-            marked: vec![in alloc; false; host as usize]?,
-            pointers: Pointers::new(alloc),
+            marked: vec![in alloc; Mark::Plain; host as usize]?,
+            pointers: Vec::new(alloc),
             waits: Waits::new(alloc),
         })
     }
 
-    /// Marks the bytes of a section of host memory.
-    pub fn mark_all(&mut self, section: Section) {
+    fn get(&self, address: u64) -> Mark {
+        let at = address.saturating_sub(HOST_BASE) as usize;
+        self.marked.get(at).copied().unwrap_or(Mark::Plain)
+    }
+
+    fn put(&mut self, address: u64, mark: Mark) {
+        let at = address.saturating_sub(HOST_BASE) as usize;
+        if let Some(old) = self.marked.get_mut(at) {
+            *old = mark;
+        }
+    }
+
+    /// Opens the bytes of a section of host memory.
+    pub fn open_all(&mut self, section: Section) {
         for offset in 0..section.len {
-            self.mark(section.start.saturating_add(offset));
+            self.open(section.start.saturating_add(offset));
         }
     }
 
-    /// Marks the byte at a host address.
-    pub fn mark(&mut self, address: u64) {
-        let at = address.saturating_sub(HOST_BASE) as usize;
-        if let Some(mark) = self.marked.get_mut(at) {
-            *mark = true;
+    /// Opens the byte at a host address: it is never compared again.
+    pub fn open(&mut self, address: u64) {
+        self.put(address, Mark::Open);
+    }
+
+    /// Notes that other bytes than those of an address were written into a section.
+    pub fn write_over(&mut self, section: Section) {
+        for offset in 0..section.len {
+            let address = section.start.saturating_add(offset);
+            match self.get(address) {
+                Mark::Plain => self.put(address, Mark::Written),
+                Mark::Address => self.open(address),
+                Mark::Written | Mark::Open => {}
+            }
         }
     }
 
-    /// Whether the byte at a host address is not to be compared: it is marked, or a copy of it waits.
+    /// Whether the byte at a host address is not to be compared by itself: it is marked, or a copy of it waits.
     pub fn is_open(&self, address: u64) -> bool {
-        let at = address.saturating_sub(HOST_BASE) as usize;
         let byte = Section {
             start: address,
             len: 1,
         };
-        self.marked.get(at).copied().unwrap_or(false) || self.is_racing(byte)
+        matches!(self.get(address), Mark::Address | Mark::Open) || self.is_racing(byte)
+    }
+
+    /// Whether the word at a host address is to be compared as a pointer.
+    pub fn is_pointer(&self, place: u64) -> bool {
+        let section = pointer_section(place);
+        !self.is_racing(section)
+            && (0..POINTER_LEN).all(|offset| self.get(place.saturating_add(offset))
+                == Mark::Address)
     }
 
     /// Whether a copy of one of a section's bytes waits.
@@ -62,13 +105,24 @@ impl Marks {
         (0..self.waits.len()).any(|nth| self.waits.shared(nth, section, None).len > 0)
     }
 
-    /// Notes that the bytes of a section are read or written in a queue, or at once. It marks those of which a copy
+    /// Notes that the bytes of a section are read or written in a queue, or at once. It opens those of which a copy
     /// waits in another queue: which of the two comes first is open.
     pub fn touch(&mut self, section: Section, queue: Option<u64>) {
         for nth in 0..self.waits.len() {
             let shared = self.waits.shared(nth, section, queue);
-            self.mark_all(shared);
-            self.pointers.spoil(shared);
+            self.open_all(shared);
+            self.spoil(shared);
+        }
+    }
+
+    /// Notes that the bytes of a section are copied in a queue, or at once. A word of which it copies a part alone is no
+    /// pointer any more.
+    pub fn copy(&mut self, section: Section, queue: Option<u64>) {
+        self.touch(section, queue);
+        for end in [section.start, section.start.saturating_add(section.len)] {
+            if end % POINTER_LEN > 0 {
+                self.write_over(pointer_section(end / POINTER_LEN * POINTER_LEN));
+            }
         }
     }
 
@@ -76,18 +130,83 @@ impl Marks {
     /// left there.
     pub fn write(&mut self, section: Section) {
         self.touch(section, None);
-        self.pointers.spoil(section);
+        self.spoil(section);
+        self.write_over(section);
     }
 
     /// Notes that `point` wrote the address of a target at a place.
     ///
     /// # Errors
     ///
-    /// [`AllocError`] where there is no memory. The bytes are marked then.
+    /// [`AllocError`] where there is no memory.
     pub fn point(&mut self, place: u64, target: u64) -> Result<(), AllocError> {
         let section = pointer_section(place);
-        self.write(section);
-        self.mark_all(section);
-        self.pointers.insert(place, target)
+        self.touch(section, None);
+        self.spoil(section);
+        for offset in 0..POINTER_LEN {
+            let address = place.saturating_add(offset);
+            let is_sure = matches!(self.get(address), Mark::Plain | Mark::Address);
+            let is_word = place % POINTER_LEN == 0;
+            self.put(
+                address,
+                if is_sure && is_word {
+                    Mark::Address
+                } else {
+                    Mark::Open
+                },
+            );
+        }
+        let pointer = Pointer {
+            place,
+            target,
+            stands: true,
+        };
+        self.pointers
+            .retain(|other| other.place != place || other.target != target);
+        self.pointers.push(pointer)?;
+        Ok(())
+    }
+
+    fn spoil(&mut self, section: Section) {
+        for pointer in &mut self.pointers {
+            if common(pointer_section(pointer.place), section).len > 0 {
+                pointer.stands = false;
+            }
+        }
+    }
+
+    /// Whether `point` wrote the address of a target at a place, and it still stands there.
+    pub fn has_pointer(&self, place: u64, target: u64) -> bool {
+        self.pointers.iter().any(|pointer| pointer.stands
+            && pointer.place == place
+            && pointer.target == target)
+    }
+
+    /// Returns the target of the pointer at a place, in host memory or on the device: the pointer holds its host address,
+    /// or its device address where it is attached. `None` where it holds another word.
+    pub fn target(&self, table: &Table, place: u64, on_device: bool) -> Option<u64> {
+        let word = word_at(table, place, on_device);
+        let is_attached = on_device && is_attached(table, place);
+        for pointer in &self.pointers {
+            let address = if is_attached {
+                table.device_address(DEVICE, pointer.target)
+            } else {
+                Some(pointer.target)
+            };
+            if pointer.place == place && address == Some(word) {
+                return Some(pointer.target);
+            }
+        }
+        None
+    }
+
+    /// Gives up the attached pointers whose target's mapping has ended: a later one may lie elsewhere.
+    pub fn give_up_lost(&mut self, table: &Table) {
+        for nth in 0..self.pointers.len() {
+            let place = self.pointers.get(nth).map_or(0, |pointer| pointer.place);
+            if is_attached(table, place) && self.target(table, place, true).is_none() {
+                self.write_over(pointer_section(place));
+            }
+        }
     }
 }

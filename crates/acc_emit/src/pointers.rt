@@ -1,51 +1,21 @@
 //! The pointers that a script wrote.
 
+use crate::twins::DEVICE;
 use acc_base::Section;
-use std::alloc::{AllocError, Global};
+use acc_table::Table;
 
 /// How many bytes a pointer has.
 pub const POINTER_LEN: u64 = 8;
 
-/// A pointer that `point` wrote.
+/// A host address that `point` wrote.
 #[derive(Clone, Copy)]
-struct Pointer {
-    place: u64,
-    target: u64,
-}
-
-/// The pointers that `point` wrote, where nothing else has written since.
-#[derive(Drop)]
-pub struct Pointers {
-    all: Vec<Pointer>,
-}
-
-impl Pointers {
-    /// Returns no pointer.
-    pub fn new(alloc: Global) -> Pointers {
-        Pointers {
-            all: Vec::new(alloc),
-        }
-    }
-
-    /// Notes that `point` wrote the address of a target at a place.
-    ///
-    /// # Errors
-    ///
-    /// [`AllocError`] where there is no memory. Nothing is noted then.
-    pub fn insert(&mut self, place: u64, target: u64) -> Result<(), AllocError> {
-        self.all.push(Pointer { place, target })?;
-        Ok(())
-    }
-
-    /// Notes that bytes were written that are no address. No pointer that `point` wrote is left there.
-    pub fn spoil(&mut self, section: Section) {
-        self.all.retain(|pointer| is_apart(pointer_section(pointer.place), section));
-    }
-
-    /// Returns whether `point` wrote the address of a target at a place, and it still stands there.
-    pub fn has(&self, place: u64, target: u64) -> bool {
-        self.all.iter().any(|pointer| pointer.place == place && pointer.target == target)
-    }
+pub struct Pointer {
+    /// The host address of the pointer.
+    pub place: u64,
+    /// The host address that it got.
+    pub target: u64,
+    /// Whether nothing else has been written there since.
+    pub stands: bool,
 }
 
 /// Returns the section of the eight bytes of a pointer.
@@ -56,19 +26,29 @@ pub fn pointer_section(place: u64) -> Section {
     }
 }
 
-/// Whether two sections have no address in common.
-fn is_apart(one: Section, other: Section) -> bool {
-    one.len == 0
-        || other.len == 0
-        || one.start.saturating_add(one.len) <= other.start
-        || other.start.saturating_add(other.len) <= one.start
+/// Returns whether the pointer at a host address is attached.
+pub fn is_attached(table: &Table, place: u64) -> bool {
+    table.attachment(DEVICE, place) > 0
 }
 
-/// Returns the address that these bytes hold, the lowest byte first.
-pub fn address_of(bytes: &[u8]) -> u64 {
-    let mut address = 0u64;
-    for byte in bytes.iter().rev() {
-        address = address.wrapping_mul(256).wrapping_add(u64::from(*byte));
+/// Returns the bytes of a section, in host memory or on the device, if it has all of them.
+pub fn bytes_at(table: &Table, section: Section, on_device: bool) -> Option<&[u8]> {
+    if on_device {
+        table.device_read(DEVICE, section)
+    } else {
+        table.host_read(section)
     }
-    address
+}
+
+/// Returns the address that the eight bytes at a place hold, the lowest byte first; 0 where they are not there.
+pub fn word_at(table: &Table, place: u64, on_device: bool) -> u64 {
+    let mut word = 0u64;
+    for byte in bytes_at(table, pointer_section(place), on_device)
+        .unwrap_or(&[])
+        .iter()
+        .rev()
+    {
+        word = word.wrapping_mul(256).wrapping_add(u64::from(*byte));
+    }
+    word
 }

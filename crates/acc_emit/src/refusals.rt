@@ -1,13 +1,11 @@
 //! The statement that is refused, as the last one of a program.
 
-use crate::directives::{REGION, put_directive};
+use crate::directives::written_directive;
+use crate::doing::put_all;
 use crate::emitters::Emitter;
-use crate::events::{Told, told_directive};
 use crate::faults::{EmitFault, Reason};
 use crate::kernels::put_kernel;
-use crate::regions::OpenRegion;
-use crate::twins::read_on;
-use acc_base::{Directive, Fault};
+use acc_base::Fault;
 use acc_read::Statement;
 use std::alloc::Global;
 
@@ -20,7 +18,7 @@ use std::alloc::Global;
 pub fn emit_refused(
     alloc: Global,
     emitter: &mut Emitter,
-    line: &[u8],
+    statement: &Statement<'_>,
     fault: Fault,
     until_refusal: bool,
 ) -> Result<(), EmitFault> {
@@ -30,14 +28,13 @@ pub fn emit_refused(
     if !is_of_openacc(fault) {
         return Err(emitter.unfit(Reason::Limit));
     }
-    let number = emitter.sheet.line;
-    let statement = read_on(alloc, &emitter.twins.own, number, line)?;
     emitter.sheet.start("expect_failure();\n");
-    put_refused(alloc, emitter, &statement)?;
-    emitter.sheet.start("no_failure(");
-    emitter.sheet.put_number(number);
+    put_refused(alloc, emitter, statement)?;
+    emitter.sheet.start_call("no_failure");
     emitter.sheet.body.text(");\n");
-    close_regions(emitter);
+    for region in emitter.regions.iter().rev() {
+        region.close_blocks(&mut emitter.sheet);
+    }
     Ok(())
 }
 
@@ -49,44 +46,22 @@ fn is_of_openacc(fault: Fault) -> bool {
     )
 }
 
-/// Puts the statement that is refused.
+/// Puts the statement that is refused. Where it starts a region, it opens the blocks of that too.
 fn put_refused(
     alloc: Global,
     emitter: &mut Emitter,
     statement: &Statement<'_>,
 ) -> Result<(), EmitFault> {
     match statement {
-        Statement::Direct(directive) => put_refused_directive(alloc, emitter, directive),
+        Statement::Direct(directive) => match written_directive(alloc, directive, &[])? {
+            Some(written) => put_all(emitter, written),
+            None => Err(emitter.unfit(Reason::Limit)),
+        },
         Statement::Kernel {
             kernel,
             section,
             ..
         } => put_kernel(&mut emitter.sheet, *kernel, *section),
         _ => Err(emitter.unfit(Reason::Limit)),
-    }
-}
-
-/// Puts the directive that is refused. Where it starts a region, it opens the blocks of that too.
-fn put_refused_directive(
-    alloc: Global,
-    emitter: &mut Emitter,
-    directive: &Directive,
-) -> Result<(), EmitFault> {
-    match told_directive(alloc, directive)? {
-        Told::Start(items) => {
-            put_directive(&mut emitter.sheet, REGION, &items)?;
-            let region = OpenRegion::new(&emitter.sheet, items);
-            emitter.regions.push(region)?;
-            Ok(())
-        }
-        Told::Standalone(frame, items) => put_directive(&mut emitter.sheet, frame, &items),
-        _ => Err(emitter.unfit(Reason::Limit)),
-    }
-}
-
-/// Closes the blocks of all open regions.
-fn close_regions(emitter: &mut Emitter) {
-    for region in emitter.regions.iter().rev() {
-        region.close_blocks(&mut emitter.sheet);
     }
 }

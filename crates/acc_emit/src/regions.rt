@@ -9,8 +9,8 @@ use acc_base::Did;
 /// An open data region.
 #[derive(Drop)]
 pub struct OpenRegion {
-    /// The items of its start, each with what it did.
-    items: Vec<Written>,
+    /// The items of its start; from the last to the first, once they are undone.
+    pub items: Vec<Written>,
     /// Whether it is one directive, with one block; else each item has a block of its own.
     is_one: bool,
 }
@@ -24,46 +24,37 @@ impl OpenRegion {
         }
     }
 
-    /// Returns its items, each with what undoing it did in place of what it did.
-    pub fn undone(mut self, did: &[Did]) -> Vec<Written> {
+    /// Notes what undoing each of its items did.
+    pub fn undo(&mut self, did: &[Did]) {
         for (item, done) in self.items.iter_mut().zip(did) {
             item.did = *done;
         }
-        self.items
-    }
-
-    /// Whether its start is one directive.
-    pub fn is_one(&self) -> bool {
-        self.is_one
+        self.items.reverse();
     }
 
     /// Closes its blocks, behind a directive that does not return.
     pub fn close_blocks(&self, sheet: &mut Sheet) {
+        let blocks = if self.is_one { 1 } else { self.items.len() };
+        for _ in 0..blocks {
+            sheet.close_block();
+        }
+    }
+
+    /// Closes its blocks at its end, each behind the detachment of its item.
+    ///
+    /// # Errors
+    ///
+    /// `OutsideArray` alone, where no one array has the pointer of an item.
+    pub fn put_end(&self, sheet: &mut Sheet) -> Result<(), EmitFault> {
+        for item in &self.items {
+            put_call(sheet, "acc_detach", item.pointer())?;
+            if !self.is_one {
+                sheet.close_block();
+            }
+        }
         if self.is_one {
             sheet.close_block();
-            return;
         }
-        for _ in 0..self.items.len() {
-            sheet.close_block();
-        }
+        Ok(())
     }
-}
-
-/// Closes the blocks of a region, from that of its last item to that of its first, each behind the detachment of its
-/// item.
-///
-/// # Errors
-///
-/// `OutsideArray` alone, where no one array has the pointer of an item.
-pub fn put_end(sheet: &mut Sheet, items: &[Written], is_one: bool) -> Result<(), EmitFault> {
-    for item in items.iter().rev() {
-        put_call(sheet, "acc_detach", item.pointer())?;
-        if !is_one {
-            sheet.close_block();
-        }
-    }
-    if is_one {
-        sheet.close_block();
-    }
-    Ok(())
 }

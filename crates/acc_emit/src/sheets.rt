@@ -61,6 +61,12 @@ impl Sheet {
         self.body.text(text);
     }
 
+    /// Begins a call, whose first argument is the number of the script's line.
+    pub fn start_call(&mut self, name: &str) {
+        self.start(name);
+        let _ = write!(self.body, "({}", self.line);
+    }
+
     /// Opens a block.
     pub fn open_block(&mut self) {
         self.start("{\n");
@@ -85,11 +91,9 @@ impl Sheet {
     /// `OutsideArray` alone, where no one array has the section.
     pub fn put_section(&mut self, section: Section) -> Result<(), EmitFault> {
         let spot = spot_of(&self.names, self.line, section)?;
-        let is_whole = spot.array.whole() == section;
-        let offset = spot.offset;
         put_name(&mut self.body, spot.name);
-        if !is_whole {
-            put_bounds(&mut self.body, offset, section.len);
+        if spot.array.whole() != section {
+            let _ = write!(self.body, "[{}:{}]", spot.offset, section.len);
         }
         Ok(())
     }
@@ -104,6 +108,15 @@ impl Sheet {
         put_name(&mut self.body, spot.name);
         put_offset(&mut self.body, spot.offset);
         Ok(())
+    }
+
+    /// Puts the address of a byte of some array.
+    ///
+    /// # Errors
+    ///
+    /// `OutsideArray` alone, where no array has it.
+    pub fn put_byte_address(&mut self, start: u64) -> Result<(), EmitFault> {
+        self.put_address(Section { start, len: 1 })
     }
 
     /// Puts the byte at the place `i` of a section that lies in one array, `a_[i + 8]`.
@@ -129,7 +142,7 @@ impl Sheet {
         let mut page = Page::new(alloc);
         page.text(crate::harness::HEAD);
         page.bytes(self.head.whole()?);
-        put_longest(&mut page, self.longest);
+        let _ = writeln!(page, "\n#define LONGEST {}", self.longest);
         page.text(crate::harness::FUNCTIONS);
         page.bytes(self.body.whole()?);
         page.text(crate::harness::TAIL);
@@ -153,16 +166,8 @@ pub fn put_name(page: &mut Page, name: &[u8]) {
     page.text("_");
 }
 
-fn put_bounds(page: &mut Page, offset: u64, length: u64) {
-    let _ = write!(page, "[{offset}:{length}]");
-}
-
 fn put_offset(page: &mut Page, offset: u64) {
     if offset > 0 {
         let _ = write!(page, " + {offset}");
     }
-}
-
-fn put_longest(page: &mut Page, longest: u64) {
-    let _ = writeln!(page, "\n#define LONGEST {longest}");
 }

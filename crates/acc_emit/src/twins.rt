@@ -1,11 +1,10 @@
 //! The script on two tables, which differ in the bytes that nothing has filled.
 
-use acc_base::{
-    Config, Did, Directive, EnterClause, Event, Fault, Item, List, MEMORY_MAX, RegionClause,
-    Section, Step,
-};
+use crate::emitters::Emitter;
+use crate::faults::{EmitFault, Reason};
+use acc_base::{Config, Directive, Fault, List, MEMORY_MAX, Section};
 use acc_read::{ScriptKernel, Statement, Trouble, line_at};
-use acc_script::{Effect, Session};
+use acc_script::Session;
 use std::alloc::Global;
 use std::sync::Wait;
 use std::thread::Threads;
@@ -16,38 +15,35 @@ pub const DEVICE: u64 = 0;
 /// How many events the second table may have: it makes more of them than the first.
 const EVENTS: u64 = 16_777_216;
 
-/// The script's own table, and its twin.
+/// Returns a session on a new table. It is boxed: a function that owns two unboxed ones takes minutes to check.
+///
+/// # Errors
+///
+/// [`Fault::Memory`] alone.
+pub fn boxed_session(alloc: Global, config: Config) -> Result<Box<Session>, Fault> {
+    Ok(Box::new(alloc, Session::new(alloc, config, 1)?)?)
+}
+
+/// Returns a twin of a session of these limits, with more room.
 ///
 /// On the twin the bytes of a new block that nothing fills are others, each with all bits flipped. A copy keeps that,
 /// and so does a kernel, whose new byte is another where the old one is. So a byte that is the same on both is one that
-/// was filled. (A `plus` has two old bytes: whoever emits it has to look at its source.)
-#[derive(Drop)]
-pub struct Twins {
-    /// The script's own table.
-    pub own: Box<Session>,
-    /// Its twin.
-    pub twin: Box<Session>,
-}
-
-impl Twins {
-    /// Returns new tables for a script: its own within these limits, and a twin with more room.
-    ///
-    /// # Errors
-    ///
-    /// [`Fault::Memory`] alone.
-    pub fn new(alloc: Global, config: Config) -> Result<Twins, Fault> {
-        let twin = twin_config(config)?;
-        let own = boxed_session(alloc, config)?;
-        Ok(Twins {
-            own,
-            twin: boxed_session(alloc, twin)?,
-        })
-    }
-}
-
-/// Returns a session on a new table. It is boxed: a function that owns two unboxed ones takes minutes to check.
-fn boxed_session(alloc: Global, config: Config) -> Result<Box<Session>, Fault> {
-    Ok(Box::new(alloc, Session::new(alloc, config, 1)?)?)
+/// was filled. (A `plus` has two old bytes: whoever emits it has to look at its source.) A region without items is open
+/// on the twin from the start, for the kernels that flip.
+///
+/// # Errors
+///
+/// [`Fault::Memory`] alone.
+pub fn twin_of<R: Threads + Wait + Sync + AllocGlobal>(
+    rt: &R,
+    config: Config,
+) -> Result<Box<Session>, Fault> {
+    let mut twin = boxed_session(rt.alloc(), twin_config(config)?)?;
+    let device = DEVICE;
+    let items = List::from_vec(Vec::new(rt.alloc()));
+    let enter = Directive::Enter { device, items };
+    twin.perform(rt, Statement::Direct(enter))?;
+    Ok(twin)
 }
 
 /// The limits of the twin. It has one region more, for fills, and room on its device for blocks that lie otherwise.
@@ -79,151 +75,44 @@ pub fn read_on<'a>(
     }
 }
 
-/// Runs a line on the twin, with the fills that make it differ; returns what it would print.
+/// Runs a statement on the twin, and makes the blocks differ that nothing filled.
 ///
 /// # Errors
 ///
-/// Those of [`read_on`].
+/// `Unsettled` where the twin refuses it; [`EmitFault::Run`] for lack of memory.
 pub fn follow_on_twin<R: Threads + Wait + Sync + AllocGlobal>(
     rt: &R,
-    twin: &mut Session,
-    number: u64,
-    line: &[u8],
-) -> Result<Effect, Fault> {
-    let events = twin.table.events();
-    let statement = read_on(rt.alloc(), twin, number, line)?;
-    let effect = twin.perform(rt, statement)?;
-    if twin.table.events() > events {
-        fill_births(rt, twin)?;
+    emitter: &mut Emitter,
+    statement: Statement<'_>,
+) -> Result<(), EmitFault> {
+    if emitter.twin.perform(rt, statement)?.is_refused() {
+        return Err(emitter.unfit(Reason::Unsettled));
     }
-    Ok(effect)
-}
-
-fn fill_births<R: Threads + Wait + Sync + AllocGlobal>(
-    rt: &R,
-    twin: &mut Session,
-) -> Result<(), Fault> {
-    let mut births = Vec::new(rt.alloc());
-    if let Some(event) = twin.table.trace().last() {
-        find_births(event, &mut births)?;
+    let Emitter { twin, births, .. } = emitter;
+    for section in births.iter() {
+        flip(rt, twin, *section)?;
     }
-    for section in &births {
-        fill(rt, twin, *section)?;
-    }
+    births.clear();
     Ok(())
 }
 
-/// Adds the sections of an event that got blocks which nothing fills at once.
-fn find_births(event: &Event, births: &mut Vec<Section>) -> Result<(), Fault> {
-    match event {
-        Event::Entered { items, did, .. } => {
-            for (item, done) in items.as_slice().iter().zip(did.as_slice()) {
-                note_birth(births, item.section, *done, is_open(item.clause))?;
-            }
-        }
-        Event::EnteredData { items, did, .. } => {
-            for (item, done) in items.as_slice().iter().zip(did.as_slice()) {
-                note_birth(births, item.section, *done, is_enter_open(item.clause))?;
-            }
-        }
-        _ => {}
-    }
-    Ok(())
-}
-
-/// Whether the bytes of a block that is new with this clause of a region are left open.
-fn is_open(clause: RegionClause) -> bool {
-    matches!(
-        clause,
-        RegionClause::Copyout { zero: false } | RegionClause::Create { zero: false }
-    )
-}
-
-/// Whether the bytes of a block that is new with this clause of `enter data` are left open.
-fn is_enter_open(clause: EnterClause) -> bool {
-    matches!(clause, EnterClause::Create { zero: false })
-}
-
-/// Notes the section of a new block whose bytes are left open.
-fn note_birth(
-    births: &mut Vec<Section>,
-    section: Section,
-    done: Did,
-    is_open: bool,
-) -> Result<(), Fault> {
-    if is_open && matches!(done.step, Step::Born { .. }) {
-        births.push(section)?;
-    }
-    Ok(())
-}
-
-/// Flips all bits of a section's bytes on the device, but for those of attached pointers.
-fn fill<R: Threads + Wait + Sync + AllocGlobal>(
-    rt: &R,
-    twin: &mut Session,
-    section: Section,
-) -> Result<(), Fault> {
-    let item = Item {
-        clause: RegionClause::Present,
-        section,
-        pointer: None,
-    };
-    let items = List::from_vec(vec![in rt.alloc(); item]?);
-    let device = DEVICE;
-    let enter = Directive::Enter { device, items };
-    twin.perform(rt, Statement::Direct(enter))?;
-    let Some(number) = twin.table.newest_region(device) else {
-        return Ok(());
-    };
-    flip_gaps(rt, twin, number, section)?;
-    twin.perform(rt, Statement::Direct(Directive::Exit { number }))?;
-    Ok(())
-}
-
-/// Flips what lies before, between and behind the attached pointers of a section.
-fn flip_gaps<R: Threads + Wait + Sync + AllocGlobal>(
-    rt: &R,
-    twin: &mut Session,
-    region: u64,
-    section: Section,
-) -> Result<(), Fault> {
-    let end = section.start.saturating_add(section.len);
-    let mut start = section.start;
-    for _ in 0..section.len {
-        let len = end.saturating_sub(start);
-        let next = twin.table.next_attached(DEVICE, Section { start, len });
-        let stop = next.map_or(end, |attached| attached.pointer);
-        flip(rt, twin, region, start, stop)?;
-        if next.is_none() {
-            break;
-        }
-        start = stop.saturating_add(8);
-    }
-    Ok(())
-}
-
-/// Flips the bytes from one host address up to another.
+/// Flips all bits of a section's bytes on the device.
 fn flip<R: Threads + Wait + Sync + AllocGlobal>(
     rt: &R,
     twin: &mut Session,
-    region: u64,
-    start: u64,
-    stop: u64,
+    section: Section,
 ) -> Result<(), Fault> {
-    let section = Section {
-        start,
-        len: stop.saturating_sub(start),
+    let Some(region) = twin.innermost() else {
+        return Ok(());
     };
-    if section.len > 0 {
-        let kernel = ScriptKernel::Xor(255);
-        twin.perform(
-            rt,
-            Statement::Kernel {
-                region,
-                kernel,
-                section,
-            },
-        )?;
-    }
+    let kernel = ScriptKernel::Xor(255);
+    twin.perform(
+        rt,
+        Statement::Kernel {
+            region,
+            kernel,
+            section,
+        },
+    )?;
     Ok(())
 }

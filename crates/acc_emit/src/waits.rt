@@ -69,7 +69,8 @@ impl Waits {
     }
 }
 
-fn common(one: Section, other: Section) -> Section {
+/// Returns the bytes that two sections have in common.
+pub fn common(one: Section, other: Section) -> Section {
     let start = one.start.max(other.start);
     let end = one
         .start

@@ -3,7 +3,7 @@
 use crate::emitters::Emitter;
 use crate::faults::EmitFault;
 use crate::kernels::put_kernel;
-use crate::pointers::address_of;
+use crate::pointers::word_at;
 use crate::sheets::{Sheet, put_name};
 use acc_base::Section;
 use acc_read::{Array, ScriptKernel};
@@ -35,21 +35,29 @@ fn put_size(sheet: &mut Sheet, size: u64) {
     let _ = writeln!(sheet.head, "[{size}];");
 }
 
-/// Emits a write of the host into a section.
+/// Emits a write of the host into a section: of bytes, or of the host address of a target into a pointer.
 ///
 /// # Errors
 ///
-/// `OutsideArray` alone, where no one array has the section.
-pub fn emit_write(emitter: &mut Emitter, section: Section) -> Result<(), EmitFault> {
+/// `OutsideArray` where no one array has the section, or the target; [`EmitFault::Run`] for lack of memory.
+pub fn emit_write(
+    emitter: &mut Emitter,
+    section: Section,
+    is_point: bool,
+) -> Result<(), EmitFault> {
     let Emitter {
-        twins,
+        own,
         marks,
         sheet,
         ..
     } = emitter;
+    if is_point {
+        let target = word_at(&own.table, section.start, false);
+        marks.point(section.start, target)?;
+        return put_point(sheet, section, target);
+    }
     marks.write(section);
-    let bytes = twins.own.table.host_read(section).unwrap_or(&[]);
-    put_write(sheet, section, bytes)
+    put_write(sheet, section, own.table.host_read(section).unwrap_or(&[]))
 }
 
 fn put_write(sheet: &mut Sheet, section: Section, bytes: &[u8]) -> Result<(), EmitFault> {
@@ -66,31 +74,11 @@ fn put_write(sheet: &mut Sheet, section: Section, bytes: &[u8]) -> Result<(), Em
     Ok(())
 }
 
-/// Emits a write of a host address into a pointer.
-///
-/// # Errors
-///
-/// `OutsideArray` where no one array has the section, or the target; [`EmitFault::Run`] for lack of memory.
-pub fn emit_point(emitter: &mut Emitter, section: Section) -> Result<(), EmitFault> {
-    let Emitter {
-        twins,
-        marks,
-        sheet,
-        ..
-    } = emitter;
-    let target = address_of(twins.own.table.host_read(section).unwrap_or(&[]));
-    marks.point(section.start, target)?;
-    put_point(sheet, section, target)
-}
-
 fn put_point(sheet: &mut Sheet, section: Section, target: u64) -> Result<(), EmitFault> {
     sheet.start("point(");
     sheet.put_address(section)?;
     sheet.body.text(", ");
-    sheet.put_address(Section {
-        start: target,
-        len: 1,
-    })?;
+    sheet.put_byte_address(target)?;
     sheet.body.text(");\n");
     Ok(())
 }
@@ -114,13 +102,18 @@ pub fn emit_kernel(
 
 /// Marks bytes of a section: those to which bytes of a source are added that are not compared, or that nothing filled.
 fn spread_marks(emitter: &mut Emitter, source: Section, section: Section) {
-    let Emitter { twins, marks, .. } = emitter;
-    let own = twins.own.table.host_read(source).unwrap_or(&[]);
-    let twin = twins.twin.table.host_read(source).unwrap_or(&[]);
+    let Emitter {
+        own,
+        twin,
+        marks,
+        ..
+    } = emitter;
+    let own = own.table.host_read(source).unwrap_or(&[]);
+    let twin = twin.table.host_read(source).unwrap_or(&[]);
     for offset in 0..source.len.min(section.len) {
         let at = offset as usize;
         if own.get(at) != twin.get(at) || marks.is_open(source.start.saturating_add(offset)) {
-            marks.mark(section.start.saturating_add(offset));
+            marks.open(section.start.saturating_add(offset));
         }
     }
 }

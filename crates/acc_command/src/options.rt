@@ -33,6 +33,8 @@ pub struct Options<'a> {
     pub emit: bool,
     /// Whether that program ends with the first statement that is refused.
     pub until_refusal: bool,
+    /// The scripts whose rows of the clause tables are counted, in place of a run; none where that is not asked for.
+    pub rows: &'a [&'a str],
     /// The file for a picture of the memories at the end.
     pub svg: Option<&'a str>,
     /// The file for the pictures behind directives; each gets the number of its line in the name.
@@ -118,7 +120,7 @@ fn expect_option<'a>(alloc: Global) -> Arg<'a> {
 /// The languages that a script can be emitted in.
 const LANGUAGES: &[&str] = &["c"];
 
-/// Options of runs, which do not go with a program that is emitted.
+/// Options of runs, which do not go with what is done in place of one.
 const OF_RUNS: &[&str] = &[
     "echo",
     "json",
@@ -130,13 +132,29 @@ const OF_RUNS: &[&str] = &[
 ];
 
 fn emit_option<'a>(alloc: Global) -> Result<Arg<'a>, AllocError> {
-    let mut option = Arg::new(alloc, "emit")
+    let option = Arg::new(alloc, "emit")
         .long("emit")
         .value_name("LANGUAGE")
         .help("Write the script as a program instead")
         .action(ArgAction::Set)
         .value_parser(LANGUAGES)
         .hide_possible_values(true);
+    without_runs(option)
+}
+
+fn rows_option<'a>(alloc: Global) -> Result<Arg<'a>, AllocError> {
+    let option = Arg::new(alloc, "rows")
+        .long("rows")
+        .value_name("FILE")
+        .help("Count the rows that scripts reach instead")
+        .action(ArgAction::Set)
+        .num_args(1..);
+    without_runs(option)?
+        .conflicts_with("emit")?
+        .conflicts_with("FILE")
+}
+
+fn without_runs<'a>(mut option: Arg<'a>) -> Result<Arg<'a>, AllocError> {
     for name in OF_RUNS {
         option = option.conflicts_with(name)?;
     }
@@ -158,16 +176,15 @@ fn flag<'a>(alloc: Global, name: &'a str, help: &'a str) -> Arg<'a> {
         .action(ArgAction::SetTrue)
 }
 
-/// Reads the command line. The first word is the program's name.
+/// Reads the command line, for [`options_of`]. The first word is the program's name.
 ///
 /// # Errors
 ///
 /// `clap`'s own, whose text is for the user: also where help was asked for, and for lack of memory.
-pub fn parsed_options<'a>(alloc: Global, words: &'a [String]) -> Result<Options<'a>, Error> {
+pub fn parsed_words<'a>(alloc: Global, words: &'a [String]) -> Result<ArgMatches<'a>, Error> {
     let command = with_views(alloc, with_limits(alloc, bare(alloc))?)?;
     let command = with_programs(alloc, command)?;
-    let matches = command.try_get_matches_from(words)?;
-    Ok(options_of(&matches))
+    command.try_get_matches_from(words)
 }
 
 fn bare<'a>(alloc: Global) -> Command<'a> {
@@ -205,14 +222,16 @@ fn with_views<'a>(alloc: Global, command: Command<'a>) -> Result<Command<'a>, Al
 fn program_options<'a>(alloc: Global) -> Result<Vec<Arg<'a>>, Error> {
     let emit = emit_option(alloc)?;
     let until = flag(alloc, "until-refusal", "End it with the first refusal").requires_arg("emit")?;
-    Ok(vec![in alloc; emit, until]?)
+    let rows = rows_option(alloc)?;
+    Ok(vec![in alloc; emit, until, rows]?)
 }
 
 fn with_programs<'a>(alloc: Global, command: Command<'a>) -> Result<Command<'a>, Error> {
     Ok(command.args(program_options(alloc)?)?)
 }
 
-fn options_of<'a>(matches: &ArgMatches<'a>) -> Options<'a> {
+/// What a command line asks for.
+pub fn options_of<'a>(matches: &'a ArgMatches<'a>) -> Options<'a> {
     Options {
         file: matches.get_str("FILE"),
         expect: matches.get_str("expect"),
@@ -226,6 +245,7 @@ fn options_of<'a>(matches: &ArgMatches<'a>) -> Options<'a> {
         },
         emit: matches.contains_id("emit"),
         until_refusal: matches.get_flag("until-refusal"),
+        rows: matches.get_strs("rows").unwrap_or(&[]),
         svg: matches.get_str("svg"),
         svg_every: matches.get_str("svg-every"),
         host: matches.get_one::<u64>("host").unwrap_or(DEFAULT_SIZE),
@@ -264,6 +284,10 @@ With --emit c the script is written as a C program with OpenACC directives,
 which does what the script does, and has the expected output in it. A statement
 that is refused, or that C cannot say, is a fault. With --until-refusal the
 program ends with the first statement that is refused, and has to fail there.
+
+With --rows the scripts of all FILEs are run, and what they print is dropped.
+Each row of the clause tables is printed with how often they reached it, and the
+status is 1 where one is reached by none.
 
 Statements, one to a line, with comments after '#':
   array NAME BYTES         an array in host memory

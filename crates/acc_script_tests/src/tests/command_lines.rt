@@ -13,7 +13,7 @@ use std::thread::Threads;
 
 /// Command lines with an empty script, and their status. The words follow that the text on standard output and on
 /// standard error has to have; an empty one is no text.
-const COMMAND_LINES: [(&str, u8, &str, &str); 25] = [
+const COMMAND_LINES: [(&str, u8, &str, &str); 28] = [
     ("--help", 0, "Usage: accrun [OPTIONS] [FILE]", ""),
     (
         "--host 15",
@@ -69,6 +69,14 @@ const COMMAND_LINES: [(&str, u8, &str, &str); 25] = [
     ("--svg", 2, "", "'--svg <PICTURE>'"),
     ("life.acc life.acc", 2, "", "'life.acc'"),
     ("--host", 2, "", "'--host <BYTES>'"),
+    ("--rows", 2, "", "'--rows <FILE>...'"),
+    ("--rows life.acc", 2, "", "accrun: cannot read life.acc"),
+    (
+        "--rows life.acc --echo",
+        2,
+        "",
+        "'--rows <FILE>...' cannot be used with '--echo'",
+    ),
 ];
 
 /// Checks that the text has these words, or that there is none where they are empty.
@@ -117,7 +125,7 @@ fn command_lines_are_read(rt: HostRuntime) -> Result<(), Fail> {
 /// What the help has to name, with bars between the words.
 const HELP_WORDS: &str =
     "[FILE]|--expect <OUTPUT>|--echo|--json|--log|--explain|--svg <PICTURE>|--svg-every <PICTURE>|\
-    --version|--emit <LANGUAGE>|--until-refusal|--devices <N>|--threads <N>|--drill <ROUNDS>|\
+    --version|--emit <LANGUAGE>|--until-refusal|--rows <FILE>|--devices <N>|--threads <N>|--drill <ROUNDS>|\
     --trace <WHAT>|read whole|array NAME|write PLACE|point PLACE to PLACE|data CLAUSES|copy(REFS)|\
     copyin(REFS)|copyout(REFS)|create(REFS)|no_create(REFS)|present(REFS)|attach(PLACES)|end data|\
     enter data copyin(REFS)|enter data create(REFS)|enter data attach(PLACES)|exit data delete(REFS)|\

@@ -1,5 +1,5 @@
-//! What is written in place of what a script prints: the script as a program, and which rows of the clause tables
-//! scripts reach.
+//! What is written in place of what a script prints: the script as a program, a script by chance, and which rows of the
+//! clause tables scripts reach.
 
 use crate::endings::Mishap;
 use crate::file_stores::FileStore;
@@ -8,6 +8,7 @@ use crate::tools::read_file;
 use acc_base::{Config, Fault};
 use acc_emit::emit;
 use acc_follow::{Page, Rows, count_rows};
+use acc_random::random_script;
 use acc_script::{Sink, Source, Status, read_all, write_all};
 use std::sync::Wait;
 use std::thread::Threads;
@@ -27,6 +28,22 @@ pub fn emit_script<'a, R: Threads + Wait + Sync + AllocGlobal, S: Source, O: Sin
     let script = read_all(rt.alloc(), reader)?;
     let page = emit(rt, config, &script, options.until_refusal)?;
     write_page(out, &page)
+}
+
+/// Writes the script of a seed with so many statements.
+///
+/// # Errors
+///
+/// Those of [`random_script`]; [`Fault::Write`] where the sink fails.
+pub fn write_random<'a, R: Threads + Wait + Sync + AllocGlobal, O: Sink>(
+    rt: &R,
+    config: Config,
+    seed: u64,
+    lines: u64,
+    out: &mut O,
+) -> Result<Status, Mishap<'a>> {
+    let script = random_script(rt, config, seed, lines)?;
+    write_page(out, &script)
 }
 
 /// Writes how often the scripts of some files reached each row of the clause tables; [`Status::Refused`] where one is

@@ -7,7 +7,7 @@ use crate::endings::{Mishap, tell, tell_difference, tell_mishap};
 use crate::file_stores::FileStore;
 use crate::options::{Options, options_of, parsed_words};
 use crate::picture_files::PictureFiles;
-use crate::programs::{emit_script, write_rows};
+use crate::programs::{emit_script, write_random, write_rows};
 use crate::words::WordsFault;
 use acc_base::{Config, Fault};
 use acc_follow::{Beside, Frame, Page, Setting, Stop, first_difference, follow};
@@ -140,6 +140,9 @@ fn carried_out<
     let config = limits(options)?;
     if let Some(rounds) = options.drill {
         return Ok(drill_threads(rt, options, config, rounds, ends.out)?);
+    }
+    if let Some(seed) = options.random {
+        return write_random(rt, config, seed, options.lines, ends.out);
     }
     if !options.rows.is_empty() {
         return write_rows(rt, config, options.rows, ends.files, ends.out);

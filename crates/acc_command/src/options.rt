@@ -14,6 +14,9 @@ const DEFAULT_DEVICES: u64 = 1;
 /// The default of `--threads`, as `DEFAULT_SIZE` is that of sizes.
 const DEFAULT_THREADS: u64 = 1;
 
+/// The default of `--lines`, as `DEFAULT_SIZE` is that of sizes.
+const DEFAULT_LINES: u64 = 40;
+
 /// What a trace may keep of each event: what it did to counters, or also the bytes of all memories.
 const TRACES: &[&str] = &["counts", "full"];
 
@@ -33,6 +36,12 @@ pub struct Options<'a> {
     pub emit: bool,
     /// Whether that program ends with the first statement that is refused.
     pub until_refusal: bool,
+    /// The scripts whose rows of the clause tables are counted, in place of a run; none where that is not asked for.
+    pub rows: &'a [&'a str],
+    /// The seed of a script by chance, where one is written in place of a run.
+    pub random: Option<u64>,
+    /// How many statements that script has.
+    pub lines: u64,
     /// The file for a picture of the memories at the end.
     pub svg: Option<&'a str>,
     /// The file for the pictures behind directives; each gets the number of its line in the name.
@@ -118,7 +127,7 @@ fn expect_option<'a>(alloc: Global) -> Arg<'a> {
 /// The languages that a script can be emitted in.
 const LANGUAGES: &[&str] = &["c"];
 
-/// Options of runs, which do not go with a program that is emitted.
+/// Options of runs, which do not go with what is done in place of one.
 const OF_RUNS: &[&str] = &[
     "echo",
     "json",
@@ -130,13 +139,53 @@ const OF_RUNS: &[&str] = &[
 ];
 
 fn emit_option<'a>(alloc: Global) -> Result<Arg<'a>, AllocError> {
-    let mut option = Arg::new(alloc, "emit")
+    let option = Arg::new(alloc, "emit")
         .long("emit")
         .value_name("LANGUAGE")
         .help("Write the script as a program instead")
         .action(ArgAction::Set)
         .value_parser(LANGUAGES)
         .hide_possible_values(true);
+    without_runs(option)
+}
+
+fn rows_option<'a>(alloc: Global) -> Result<Arg<'a>, AllocError> {
+    let option = Arg::new(alloc, "rows")
+        .long("rows")
+        .value_name("FILE")
+        .help("Count the rows that scripts reach instead")
+        .action(ArgAction::Set)
+        .num_args(1..);
+    without_runs(option)?
+        .conflicts_with("emit")?
+        .conflicts_with("FILE")
+}
+
+fn random_option<'a>(alloc: Global) -> Result<Arg<'a>, AllocError> {
+    let option = Arg::new(alloc, "random")
+        .long("random")
+        .value_name("SEED")
+        .help("Write a random script instead")
+        .action(ArgAction::Set)
+        .value_parser(value_parser!(u64));
+    without_runs(option)?
+        .conflicts_with("emit")?
+        .conflicts_with("rows")?
+        .conflicts_with("FILE")
+}
+
+fn lines_option<'a>(alloc: Global) -> Result<Arg<'a>, AllocError> {
+    Arg::new(alloc, "lines")
+        .long("lines")
+        .value_name("N")
+        .help("How many statements it has")
+        .action(ArgAction::Set)
+        .value_parser(value_parser!(u64).range(1..=10_000))
+        .default_value("40")
+        .requires_arg("random")
+}
+
+fn without_runs<'a>(mut option: Arg<'a>) -> Result<Arg<'a>, AllocError> {
     for name in OF_RUNS {
         option = option.conflicts_with(name)?;
     }
@@ -158,16 +207,15 @@ fn flag<'a>(alloc: Global, name: &'a str, help: &'a str) -> Arg<'a> {
         .action(ArgAction::SetTrue)
 }
 
-/// Reads the command line. The first word is the program's name.
+/// Reads the command line, for [`options_of`]. The first word is the program's name.
 ///
 /// # Errors
 ///
 /// `clap`'s own, whose text is for the user: also where help was asked for, and for lack of memory.
-pub fn parsed_options<'a>(alloc: Global, words: &'a [String]) -> Result<Options<'a>, Error> {
+pub fn parsed_words<'a>(alloc: Global, words: &'a [String]) -> Result<ArgMatches<'a>, Error> {
     let command = with_views(alloc, with_limits(alloc, bare(alloc))?)?;
     let command = with_programs(alloc, command)?;
-    let matches = command.try_get_matches_from(words)?;
-    Ok(options_of(&matches))
+    command.try_get_matches_from(words)
 }
 
 fn bare<'a>(alloc: Global) -> Command<'a> {
@@ -205,14 +253,18 @@ fn with_views<'a>(alloc: Global, command: Command<'a>) -> Result<Command<'a>, Al
 fn program_options<'a>(alloc: Global) -> Result<Vec<Arg<'a>>, Error> {
     let emit = emit_option(alloc)?;
     let until = flag(alloc, "until-refusal", "End it with the first refusal").requires_arg("emit")?;
-    Ok(vec![in alloc; emit, until]?)
+    let rows = rows_option(alloc)?;
+    let random = random_option(alloc)?;
+    let lines = lines_option(alloc)?;
+    Ok(vec![in alloc; emit, until, rows, random, lines]?)
 }
 
 fn with_programs<'a>(alloc: Global, command: Command<'a>) -> Result<Command<'a>, Error> {
     Ok(command.args(program_options(alloc)?)?)
 }
 
-fn options_of<'a>(matches: &ArgMatches<'a>) -> Options<'a> {
+/// What a command line asks for.
+pub fn options_of<'a>(matches: &'a ArgMatches<'a>) -> Options<'a> {
     Options {
         file: matches.get_str("FILE"),
         expect: matches.get_str("expect"),
@@ -226,6 +278,9 @@ fn options_of<'a>(matches: &ArgMatches<'a>) -> Options<'a> {
         },
         emit: matches.contains_id("emit"),
         until_refusal: matches.get_flag("until-refusal"),
+        rows: matches.get_strs("rows").unwrap_or(&[]),
+        random: matches.get_one::<u64>("random"),
+        lines: matches.get_one::<u64>("lines").unwrap_or(DEFAULT_LINES),
         svg: matches.get_str("svg"),
         svg_every: matches.get_str("svg-every"),
         host: matches.get_one::<u64>("host").unwrap_or(DEFAULT_SIZE),
@@ -264,6 +319,12 @@ With --emit c the script is written as a C program with OpenACC directives,
 which does what the script does, and has the expected output in it. A statement
 that is refused, or that C cannot say, is a fault. With --until-refusal the
 program ends with the first statement that is refused, and has to fail there.
+
+With --rows the scripts of all FILEs are run, and what they print is dropped.
+Each row of the clause tables is printed with how often they reached it, and the
+status is 1 where one is reached by none. With --random a script for these sizes
+and devices is written, which is the same for a SEED on each machine: 40
+statements, or 1 to 10000, of which none is at fault or refused.
 
 Statements, one to a line, with comments after '#':
   array NAME BYTES         an array in host memory

@@ -1,9 +1,14 @@
-//! A script as a program.
+//! What is written in place of what a script prints: the script as a program, a script by chance, and which rows of the
+//! clause tables scripts reach.
 
 use crate::endings::Mishap;
+use crate::file_stores::FileStore;
 use crate::options::Options;
+use crate::tools::read_file;
 use acc_base::{Config, Fault};
 use acc_emit::emit;
+use acc_follow::{Page, Rows, count_rows};
+use acc_random::random_script;
 use acc_script::{Sink, Source, Status, read_all, write_all};
 use std::sync::Wait;
 use std::thread::Threads;
@@ -22,6 +27,51 @@ pub fn emit_script<'a, R: Threads + Wait + Sync + AllocGlobal, S: Source, O: Sin
 ) -> Result<Status, Mishap<'a>> {
     let script = read_all(rt.alloc(), reader)?;
     let page = emit(rt, config, &script, options.until_refusal)?;
+    write_page(out, &page)
+}
+
+/// Writes the script of a seed with so many statements.
+///
+/// # Errors
+///
+/// Those of [`random_script`]; [`Fault::Write`] where the sink fails.
+pub fn write_random<'a, R: Threads + Wait + Sync + AllocGlobal, O: Sink>(
+    rt: &R,
+    config: Config,
+    seed: u64,
+    lines: u64,
+    out: &mut O,
+) -> Result<Status, Mishap<'a>> {
+    let script = random_script(rt, config, seed, lines)?;
+    write_page(out, &script)
+}
+
+/// Writes how often the scripts of some files reached each row of the clause tables; [`Status::Refused`] where one is
+/// reached by none.
+///
+/// # Errors
+///
+/// A file that cannot be read, or the fault of the first script that has one; [`Fault::Write`] where the sink fails.
+/// Before that nothing is written.
+pub fn write_rows<'a, R: Threads + Wait + Sync + AllocGlobal, D: FileStore, O: Sink>(
+    rt: &R,
+    config: Config,
+    names: &'a [&'a str],
+    files: &D,
+    out: &mut O,
+) -> Result<Status, Mishap<'a>> {
+    let mut rows = Rows::new(rt.alloc());
+    for name in names {
+        let script = read_file(files, name)?;
+        rows = count_rows(rt, config, &script, rows)?;
+    }
+    let mut page = Page::new(rt.alloc());
+    let is_complete = rows.put(&mut page);
+    let status = write_page(out, &page)?;
+    Ok(if is_complete { status } else { Status::Refused })
+}
+
+fn write_page<'a, O: Sink>(out: &mut O, page: &Page) -> Result<Status, Mishap<'a>> {
     if write_all(out, page.whole()?) {
         Ok(Status::Clean)
     } else {

@@ -5,9 +5,9 @@ ghost use Rattle.std.specs.Prelude.{◌≤◌};
 use crate::drills::run_drill;
 use crate::endings::{Mishap, tell, tell_difference, tell_mishap};
 use crate::file_stores::FileStore;
-use crate::options::{Options, parsed_options};
+use crate::options::{Options, options_of, parsed_words};
 use crate::picture_files::PictureFiles;
-use crate::programs::emit_script;
+use crate::programs::{emit_script, write_random, write_rows};
 use crate::words::WordsFault;
 use acc_base::{Config, Fault};
 use acc_follow::{Beside, Frame, Page, Setting, Stop, first_difference, follow};
@@ -77,10 +77,11 @@ pub fn tool<R: Threads + Wait + Sync + AllocGlobal, S: Source, O: Sink, E: Sink,
     err: &mut E,
     files: &D,
 ) -> u8 {
-    let options = match parsed_options(rt.alloc(), &words) {
-        Ok(options) => options,
+    let matches = match parsed_words(rt.alloc(), &words) {
+        Ok(matches) => matches,
         Err(error) => return tell_usage(rt, out, err, &error),
     };
+    let options = options_of(&matches);
     let mut reason = Page::new(rt.alloc());
     let ends = Ends {
         out: &mut *out,
@@ -137,10 +138,18 @@ fn carried_out<
     ends: Ends<'_, O, E, D>,
 ) -> Result<Status, Mishap<'a>> {
     let config = limits(options)?;
-    match (options.drill, options.file) {
-        (Some(rounds), _) => Ok(drill_threads(rt, options, config, rounds, ends.out)?),
-        (None, Some(name)) => run_file(rt, options, config, name, ends),
-        (None, None) => use_script(rt, options, config, reader, ends),
+    if let Some(rounds) = options.drill {
+        return Ok(drill_threads(rt, options, config, rounds, ends.out)?);
+    }
+    if let Some(seed) = options.random {
+        return write_random(rt, config, seed, options.lines, ends.out);
+    }
+    if !options.rows.is_empty() {
+        return write_rows(rt, config, options.rows, ends.files, ends.out);
+    }
+    match options.file {
+        Some(name) => run_file(rt, options, config, name, ends),
+        None => use_script(rt, options, config, reader, ends),
     }
 }
 
@@ -155,7 +164,8 @@ fn run_file<'a, R: Threads + Wait + Sync + AllocGlobal, O: Sink, E: Sink, D: Fil
     use_script(rt, options, config, &mut MemorySource::new(&script), ends)
 }
 
-fn read_file<'a, D: FileStore>(files: &D, name: &'a str) -> Result<Vec<u8>, Mishap<'a>> {
+/// Reads a file, which has to be there.
+pub fn read_file<'a, D: FileStore>(files: &D, name: &'a str) -> Result<Vec<u8>, Mishap<'a>> {
     match files.read(name) {
         Ok(bytes) => Ok(bytes),
         Err(Fault::Memory) => Err(Mishap::Fault(Fault::Memory)),

@@ -6,8 +6,11 @@ mod differences;
 mod follows;
 mod picture_sinks;
 mod report_objects;
+mod row_counts;
 
+pub use acc_log::Rows;
 pub use acc_page::{Names, Page, Spot, statement_text};
 pub use differences::{Difference, first_difference};
 pub use follows::{Beside, Setting, Views, follow};
 pub use picture_sinks::{Frame, PictureSink, Stop};
+pub use row_counts::count_rows;

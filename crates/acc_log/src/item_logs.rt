@@ -7,7 +7,7 @@ use crate::log_lines::{
     put_skipped, put_spot,
 };
 use crate::logs::Log;
-use acc_base::{Aim, Counter, Did, Step};
+use acc_base::{Aim, Counter, Did, Section, Step};
 use acc_page::Names;
 
 impl Log {
@@ -17,6 +17,7 @@ impl Log {
             Step::Born { block, place } => {
                 let placed = told.born(counter, block, place);
                 self.totals.mapped = self.totals.mapped.saturating_add(1);
+                self.reach_item(told, "absent");
                 self.tell_range(names, told, "mapped", placed);
                 self.tell_copy(names, told, placed);
             }
@@ -31,6 +32,7 @@ impl Log {
             return;
         };
         let placed = found.raised(counter);
+        self.reach_item(told, "inside");
         self.tell_range(names, told, "counted", placed);
         if told.copies {
             put_skipped(&mut self.page, names, told, "present");
@@ -52,6 +54,7 @@ impl Log {
         else {
             return;
         };
+        self.reach_item(told, way_out(drops, ended));
         if ended {
             self.tell_end(names, told, found);
             return;
@@ -74,7 +77,10 @@ impl Log {
     /// Puts the lines of an item of `update`.
     pub(crate) fn tell_move(&mut self, names: &Names, told: LogItem, step: Step) {
         match (step, self.account.inside(told.section)) {
-            (Step::Moved { .. }, Some(found)) => self.tell_copy(names, told, found),
+            (Step::Moved { .. }, Some(found)) => {
+                self.reach_item(told, "inside");
+                self.tell_copy(names, told, found);
+            }
             _ => self.tell_nothing(names, told),
         }
     }
@@ -85,14 +91,20 @@ impl Log {
         if told.is_pointer {
             return;
         }
+        self.reach_pointer(told, "nothing");
         if told.section.len == 0 {
+            self.reach_item(told, "empty");
             put_item(&mut self.page, told, "empty");
             self.page.text("\n");
             return;
         }
         match self.account.inside(told.section) {
-            Some(found) => put_range(&mut self.page, names, told, "kept", found),
+            Some(found) => {
+                self.reach_item(told, "inside, uncounted");
+                put_range(&mut self.page, names, told, "kept", found);
+            }
             None => {
+                self.reach_item(told, "absent");
                 put_section(&mut self.page, told, "absent", told.section);
                 put_name(&mut self.page, names, told.section);
             }
@@ -138,6 +150,7 @@ impl Log {
         match aim {
             Aim::None => {
                 if told.is_pointer {
+                    self.reach_no_aim(told);
                     put_pointer(&mut self.page, told, "unattached", told.section.start);
                     put_spot(&mut self.page, names, told.section.start);
                 }
@@ -147,12 +160,15 @@ impl Log {
                 block,
                 target,
             } => {
+                let was = self.account.attached(block, pointer);
+                self.reach_pointer(told, if was > 0 { "another target" } else { "new" });
                 put_pointer(&mut self.page, told, "attached", pointer);
                 self.page.text(" to ");
                 self.page.address(target);
                 self.tell_count(names, block, pointer, 1);
             }
             Aim::Again { pointer, block } => {
+                self.reach_pointer(told, "again");
                 put_pointer(&mut self.page, told, "attached", pointer);
                 let count = self.account.attached(block, pointer).saturating_add(1);
                 self.tell_count(names, block, pointer, count);
@@ -160,13 +176,31 @@ impl Log {
             Aim::Less { pointer, block } => {
                 put_pointer(&mut self.page, told, "detached", pointer);
                 let count = self.account.attached(block, pointer).saturating_sub(1);
+                self.reach_pointer(told, if count > 0 { "one of more" } else { "last" });
                 self.tell_count(names, block, pointer, count);
             }
             Aim::Cleared { pointer, block } => {
+                let was = self.account.attached(block, pointer);
+                self.reach_pointer(told, if was > 1 { "several" } else { "last" });
                 put_pointer(&mut self.page, told, "detached", pointer);
                 self.tell_count(names, block, pointer, 0);
             }
         }
+    }
+
+    /// Counts the row of a clause that is of pointers alone, where its item did nothing.
+    fn reach_no_aim(&mut self, told: LogItem) {
+        let pointer = Section {
+            start: told.section.start,
+            len: 8,
+        };
+        let is_there = self.account.inside(pointer).is_some();
+        let outcome = match (is_there, told.out) {
+            (false, _) => "no pointer",
+            (true, false) => "no target",
+            (true, true) => "unattached",
+        };
+        self.reach_pointer(told, outcome);
     }
 
     fn tell_count(&mut self, names: &Names, block: u64, pointer: u64, count: u64) {
@@ -174,5 +208,15 @@ impl Log {
         self.page.text(" count ");
         self.page.number(count);
         put_spot(&mut self.page, names, pointer);
+    }
+}
+
+/// What became of a mapping that an item counted down, as the rows name it.
+fn way_out(drops: Drops, ended: bool) -> &'static str {
+    match (drops, ended) {
+        (Drops::Structured, true) => "ends",
+        (Drops::Structured, false) => "stays",
+        (_, true) => "inside, ends",
+        (_, false) => "inside, stays",
     }
 }

@@ -1,4 +1,5 @@
-//! The log of a script: what each of its calls did, read from the events of its table.
+//! The log of a script: what each of its calls did, read from the events of its table. Which rows of the clause tables
+//! these were.
 #![tactic(auto)]
 
 mod accounts;
@@ -6,6 +7,8 @@ mod item_logs;
 mod log_items;
 mod log_lines;
 mod logs;
+mod rows;
 mod totals;
 
 pub use logs::Log;
+pub use rows::Rows;

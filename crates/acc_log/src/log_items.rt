@@ -2,7 +2,7 @@
 
 use crate::accounts::Placed;
 use acc_base::{
-    Counter, EnterClause, ExitClause, Item, Range, RegionClause, Section, UpdateClause,
+    Counter, Directive, EnterClause, ExitClause, Item, Range, RegionClause, Section, UpdateClause,
 };
 
 /// What the log has to know of an item, for every directive alike.
@@ -10,8 +10,14 @@ use acc_base::{
 pub struct LogItem {
     /// Its place in the directive, counted from 0.
     pub place: usize,
+    /// The words of its directive and its clause.
+    pub words: &'static str,
+    /// The modifier of its clause, or the option of its directive beside `async`; an empty text where there is none.
+    pub modifier: &'static str,
     /// The section. For `attach` and `detach` the pointer begins where the section does.
     pub section: Section,
+    /// The host address of its pointer, if it has one.
+    pub pointer: Option<u64>,
     /// Whether it is one of `attach` or `detach`, which name a pointer alone.
     pub is_pointer: bool,
     /// Whether its clause copies.
@@ -25,9 +31,13 @@ pub struct LogItem {
 impl LogItem {
     /// An item of `data`, at the entry to its region (OpenACC 3.3, section 2.6.5).
     pub fn of_region(place: usize, item: Item<RegionClause>) -> LogItem {
+        let (words, modifier) = region_words(item.clause);
         LogItem {
             place,
+            words,
+            modifier,
             section: item.section,
+            pointer: item.pointer,
             is_pointer: matches!(item.clause, RegionClause::Attach),
             copies: matches!(item.clause, RegionClause::Copy | RegionClause::Copyin),
             out: false,
@@ -38,23 +48,30 @@ impl LogItem {
     /// The same item, at the exit from its region.
     pub fn left_by(place: usize, item: Item<RegionClause>) -> LogItem {
         LogItem {
-            place,
-            section: item.section,
-            is_pointer: matches!(item.clause, RegionClause::Attach),
+            words: end_words(item.clause),
+            modifier: "",
             copies: matches!(
                 item.clause,
                 RegionClause::Copy | RegionClause::Copyout { .. }
             ),
             out: true,
-            queue: None,
+            ..LogItem::of_region(place, item)
         }
     }
 
     /// An item of `enter data` (OpenACC 3.3, section 2.6.6).
     pub fn of_enter(place: usize, item: Item<EnterClause>, queue: Option<u64>) -> LogItem {
+        let (words, modifier) = match item.clause {
+            EnterClause::Copyin => ("enter data copyin", ""),
+            EnterClause::Create { zero } => ("enter data create", zero_word(zero)),
+            EnterClause::Attach => ("enter data attach", ""),
+        };
         LogItem {
             place,
+            words,
+            modifier,
             section: item.section,
+            pointer: item.pointer,
             is_pointer: matches!(item.clause, EnterClause::Attach),
             copies: matches!(item.clause, EnterClause::Copyin),
             out: false,
@@ -63,10 +80,22 @@ impl LogItem {
     }
 
     /// An item of `exit data` (OpenACC 3.3, section 2.6.6).
-    pub fn of_exit(place: usize, item: Item<ExitClause>, queue: Option<u64>) -> LogItem {
+    pub fn of_exit(
+        place: usize,
+        item: Item<ExitClause>,
+        finalize: bool,
+        queue: Option<u64>,
+    ) -> LogItem {
         LogItem {
             place,
+            words: match item.clause {
+                ExitClause::Delete => "exit data delete",
+                ExitClause::Copyout => "exit data copyout",
+                ExitClause::Detach => "exit data detach",
+            },
+            modifier: if finalize { "finalize" } else { "" },
             section: item.section,
+            pointer: item.pointer,
             is_pointer: matches!(item.clause, ExitClause::Detach),
             copies: matches!(item.clause, ExitClause::Copyout),
             out: true,
@@ -75,14 +104,54 @@ impl LogItem {
     }
 
     /// An item of `update` (OpenACC 3.3, the update directive).
-    pub fn of_update(place: usize, item: Item<UpdateClause>, queue: Option<u64>) -> LogItem {
+    pub fn of_update(
+        place: usize,
+        item: Item<UpdateClause>,
+        if_present: bool,
+        queue: Option<u64>,
+    ) -> LogItem {
+        let out = matches!(item.clause, UpdateClause::ToSelf);
         LogItem {
             place,
+            words: if out { "update self" } else { "update device" },
+            modifier: if if_present { "if_present" } else { "" },
             section: item.section,
+            pointer: None,
             is_pointer: false,
             copies: true,
-            out: matches!(item.clause, UpdateClause::ToSelf),
+            out,
             queue,
+        }
+    }
+
+    /// The item of a directive at a place, if it has one.
+    pub fn of_directive(directive: &Directive, place: usize) -> Option<LogItem> {
+        match directive {
+            Directive::Enter { items, .. } => {
+                Some(LogItem::of_region(place, *items.as_slice().get(place)?))
+            }
+            Directive::EnterData { items, queue, .. } => {
+                Some(LogItem::of_enter(place, *items.as_slice().get(place)?, *queue))
+            }
+            Directive::ExitData {
+                items,
+                finalize,
+                queue,
+                ..
+            } => {
+                let item = *items.as_slice().get(place)?;
+                Some(LogItem::of_exit(place, item, *finalize, *queue))
+            }
+            Directive::Update {
+                items,
+                if_present,
+                queue,
+                ..
+            } => {
+                let item = *items.as_slice().get(place)?;
+                Some(LogItem::of_update(place, item, *if_present, *queue))
+            }
+            _ => None,
         }
     }
 
@@ -96,6 +165,35 @@ impl LogItem {
         };
         Placed { range, place }.raised(counter)
     }
+}
+
+/// The words of a clause of `data`, and its modifier.
+fn region_words(clause: RegionClause) -> (&'static str, &'static str) {
+    match clause {
+        RegionClause::Copy => ("data copy", ""),
+        RegionClause::Copyin => ("data copyin", ""),
+        RegionClause::Copyout { zero } => ("data copyout", zero_word(zero)),
+        RegionClause::Create { zero } => ("data create", zero_word(zero)),
+        RegionClause::NoCreate => ("data no_create", ""),
+        RegionClause::Present => ("data present", ""),
+        RegionClause::Attach => ("data attach", ""),
+    }
+}
+
+fn end_words(clause: RegionClause) -> &'static str {
+    match clause {
+        RegionClause::Copy => "end data copy",
+        RegionClause::Copyin => "end data copyin",
+        RegionClause::Copyout { .. } => "end data copyout",
+        RegionClause::Create { .. } => "end data create",
+        RegionClause::NoCreate => "end data no_create",
+        RegionClause::Present => "end data present",
+        RegionClause::Attach => "end data attach",
+    }
+}
+
+fn zero_word(zero: bool) -> &'static str {
+    if zero { "zero" } else { "" }
 }
 
 /// What an item that leaves subtracts from the counters of a range.

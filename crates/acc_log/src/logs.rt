@@ -6,12 +6,14 @@ use crate::log_items::{Drops, LogItem};
 use crate::log_lines::{
     put_copied, put_device, put_head, put_inner, put_loan, put_refused, put_region, put_written,
 };
+use crate::rows::{Rows, has_readonly};
 use crate::totals::{Totals, put_total};
 use acc_base::{
     Aim, Counter, Did, EnterClause, Event, ExitClause, Fault, Item, RegionClause, Section, Step,
     UpdateClause,
 };
 use acc_page::{Names, Page};
+use acc_read::Statement;
 use acc_script::Effect;
 use acc_table::Table;
 use std::alloc::Global;
@@ -21,6 +23,8 @@ use std::alloc::Global;
 pub struct Log {
     /// The lines that were not written yet.
     pub page: Page,
+    /// How often rows of the clause tables were reached, where that is counted.
+    pub rows: Option<Rows>,
     /// What the events in the log say of ranges, pointers, queues and regions.
     pub(crate) account: Account,
     /// What the events in the log did in all.
@@ -29,6 +33,8 @@ pub struct Log {
     told: usize,
     /// The loan of the kernel that runs.
     lent: Option<Copied>,
+    /// Whether the statement has the modifier `readonly`.
+    readonly: bool,
 }
 
 impl Log {
@@ -36,10 +42,12 @@ impl Log {
     pub fn new(alloc: Global) -> Log {
         Log {
             page: Page::new(alloc),
+            rows: None,
             account: Account::new(alloc),
             totals: Totals::new(),
             told: 0,
             lent: None,
+            readonly: false,
         }
     }
 
@@ -59,6 +67,7 @@ impl Log {
         effect: Effect,
     ) -> Result<(), Fault> {
         let trace = table.trace();
+        self.readonly = self.rows.is_some() && has_readonly(text);
         if self.told < trace.len() || is_outcome(effect) {
             put_head(&mut self.page, number, text);
             self.tell_device(table);
@@ -75,6 +84,63 @@ impl Log {
     pub fn tell_total(&mut self) {
         let waiting = self.account.waiting() as u64;
         put_total(&mut self.page, &self.totals, waiting);
+    }
+
+    /// Counts the row of a statement that was refused.
+    pub fn count_refused(&mut self, statement: &Statement<'_>, fault: Fault) {
+        let (place, outcome) = match fault {
+            Fault::PartlyPresent { item } => (item, "partly present"),
+            Fault::NotPresent { item } => (item, "absent"),
+            _ => {
+                self.reach("refused", "", fault.name());
+                return;
+            }
+        };
+        match statement {
+            Statement::Direct(directive) => {
+                if let Some(told) = LogItem::of_directive(directive, place as usize) {
+                    self.reach_item(told, outcome);
+                }
+            }
+            Statement::Kernel { section, .. } if section.len == 0 => {
+                self.reach("kernel", "", "empty")
+            }
+            _ => self.reach("kernel", "", outcome),
+        }
+    }
+
+    /// Counts the row of what became of an item.
+    pub(crate) fn reach_item(&mut self, told: LogItem, outcome: &'static str) {
+        if told.queue.is_some() {
+            self.reach(told.words, "async", outcome);
+        }
+        if self.readonly && told.words.ends_with("copyin") {
+            self.reach(told.words, "readonly", outcome);
+        } else if told.queue.is_none() || !told.modifier.is_empty() {
+            self.reach(told.words, told.modifier, outcome);
+        }
+    }
+
+    /// Counts the row of what became of the pointer of an item.
+    pub(crate) fn reach_pointer(&mut self, told: LogItem, outcome: &'static str) {
+        if told.is_pointer {
+            self.reach(told.words, told.modifier, outcome);
+        } else if told.pointer.is_some() {
+            let is_end = told.words.starts_with("end");
+            let words = if is_end { "end data" } else { told.words };
+            let is_final = told.modifier == "finalize";
+            self.reach(
+                words,
+                if is_final { "via finalize" } else { "via" },
+                outcome,
+            );
+        }
+    }
+
+    fn reach(&mut self, directive: &'static str, modifier: &'static str, outcome: &'static str) {
+        if let Some(rows) = &mut self.rows {
+            rows.reach(directive, modifier, outcome);
+        }
     }
 
     /// Puts the line of the device, where there are several. All events of a statement are on one device, so one line
@@ -97,7 +163,10 @@ impl Log {
 
     fn put_outcome(&mut self, effect: Effect) {
         match effect {
-            Effect::EmptyQueue => put_inner(&mut self.page, "idle"),
+            Effect::EmptyQueue => {
+                self.reach("step", "", "none");
+                put_inner(&mut self.page, "idle");
+            }
             Effect::Refused(fault) => {
                 self.totals.refused = self.totals.refused.saturating_add(1);
                 put_refused(&mut self.page, fault);
@@ -138,10 +207,11 @@ impl Log {
             } => self.tell_exited(names, items.as_slice(), *finalize, *queue, did.as_slice()),
             Event::Updated {
                 items,
+                if_present,
                 queue,
                 did,
                 ..
-            } => self.tell_updated(names, items.as_slice(), *queue, did.as_slice()),
+            } => self.tell_updated(names, items.as_slice(), *if_present, *queue, did.as_slice()),
             _ => self.tell_short(names, event),
         }
     }
@@ -150,7 +220,10 @@ impl Log {
     fn tell_short(&mut self, names: &Names, event: &Event) {
         match event {
             Event::Waited { queue, count, .. } => self.tell_waited(names, *queue, *count),
-            Event::Stepped { queue, .. } => self.tell_made(names, *queue),
+            Event::Stepped { queue, .. } => {
+                self.reach("step", "", "some");
+                self.tell_made(names, *queue);
+            }
             Event::HostWritten { addr, len, .. } => {
                 let section = Section {
                     start: *addr,
@@ -207,7 +280,7 @@ impl Log {
         };
         for place in 0..items.len() {
             if let Some((item, did)) = paired(items, did, place) {
-                let told = LogItem::of_exit(place, item, queue);
+                let told = LogItem::of_exit(place, item, finalize, queue);
                 self.tell_leave(names, told, drops, did);
             }
         }
@@ -252,8 +325,13 @@ impl Log {
     fn tell_holding(&mut self, names: &Names, told: LogItem, held: Did, did: Did) {
         if !matches!(held.aim, Aim::None) {
             self.tell_aim(names, told, did.aim);
+            if matches!(did.aim, Aim::None) {
+                self.reach_pointer(told, "gone");
+            }
         }
-        if !matches!(held.step, Step::Nothing) {
+        if matches!(held.step, Step::Nothing) {
+            self.reach_item(told, "nothing");
+        } else {
             self.tell_drop(names, told, Drops::Structured, did.step);
         }
     }
@@ -262,12 +340,13 @@ impl Log {
         &mut self,
         names: &Names,
         items: &[Item<UpdateClause>],
+        if_present: bool,
         queue: Option<u64>,
         did: &[Did],
     ) {
         for place in 0..items.len() {
             if let Some((item, did)) = paired(items, did, place) {
-                let told = LogItem::of_update(place, item, queue);
+                let told = LogItem::of_update(place, item, if_present, queue);
                 self.tell_move(names, told, did.step);
             }
         }
@@ -275,6 +354,12 @@ impl Log {
 
     /// Puts the copies that a `wait` made: those of a queue, or of all queues from the first on.
     fn tell_waited(&mut self, names: &Names, queue: Option<u64>, count: u64) {
+        let directive = if queue.is_some() {
+            "wait queue"
+        } else {
+            "wait"
+        };
+        self.reach(directive, "", if count > 0 { "some" } else { "none" });
         if count == 0 {
             put_inner(&mut self.page, "idle");
         }
@@ -300,6 +385,7 @@ impl Log {
                 out: false,
             };
             self.lent = Some(copied);
+            self.reach("kernel", "", "inside");
             put_loan(&mut self.page, names, "lent", copied, serial);
         }
     }

@@ -13,6 +13,7 @@ use std::test::Fail;
 use std::thread::Threads;
 use worked::{FAULTS, KERNELS, LIVES, REFUSALS};
 
+mod chances;
 mod command_lines;
 mod cuts;
 mod ends;

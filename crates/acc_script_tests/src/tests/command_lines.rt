@@ -13,7 +13,7 @@ use std::thread::Threads;
 
 /// Command lines with an empty script, and their status. The words follow that the text on standard output and on
 /// standard error has to have; an empty one is no text.
-const COMMAND_LINES: [(&str, u8, &str, &str); 25] = [
+const COMMAND_LINES: [(&str, u8, &str, &str); 33] = [
     ("--help", 0, "Usage: accrun [OPTIONS] [FILE]", ""),
     (
         "--host 15",
@@ -69,6 +69,24 @@ const COMMAND_LINES: [(&str, u8, &str, &str); 25] = [
     ("--svg", 2, "", "'--svg <PICTURE>'"),
     ("life.acc life.acc", 2, "", "'life.acc'"),
     ("--host", 2, "", "'--host <BYTES>'"),
+    ("--rows", 2, "", "'--rows <FILE>...'"),
+    ("--rows life.acc", 2, "", "accrun: cannot read life.acc"),
+    (
+        "--rows life.acc --echo",
+        2,
+        "",
+        "'--rows <FILE>...' cannot be used with '--echo'",
+    ),
+    ("--random most", 2, "", "'most' for '--random <SEED>'"),
+    (
+        "--random 1 --rows life.acc",
+        2,
+        "",
+        "'--random <SEED>' cannot be used with '--rows <FILE>...'",
+    ),
+    ("--lines 3", 2, "", "--random <SEED>"),
+    ("--random 1 --lines 0", 2, "", "'0' for '--lines <N>'"),
+    ("--random 1 --lines 1", 0, "wait\nshow a\n", ""),
 ];
 
 /// Checks that the text has these words, or that there is none where they are empty.
@@ -117,7 +135,7 @@ fn command_lines_are_read(rt: HostRuntime) -> Result<(), Fail> {
 /// What the help has to name, with bars between the words.
 const HELP_WORDS: &str =
     "[FILE]|--expect <OUTPUT>|--echo|--json|--log|--explain|--svg <PICTURE>|--svg-every <PICTURE>|\
-    --version|--emit <LANGUAGE>|--until-refusal|--devices <N>|--threads <N>|--drill <ROUNDS>|\
+    --version|--emit <LANGUAGE>|--until-refusal|--rows <FILE>|--random <SEED>|--lines <N>|--devices <N>|--threads <N>|--drill <ROUNDS>|\
     --trace <WHAT>|read whole|array NAME|write PLACE|point PLACE to PLACE|data CLAUSES|copy(REFS)|\
     copyin(REFS)|copyout(REFS)|create(REFS)|no_create(REFS)|present(REFS)|attach(PLACES)|end data|\
     enter data copyin(REFS)|enter data create(REFS)|enter data attach(PLACES)|exit data delete(REFS)|\

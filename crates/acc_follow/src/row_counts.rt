@@ -1,0 +1,90 @@
+//! Which rows of the clause tables a script reaches.
+
+use acc_base::{Config, Fault};
+use acc_log::{Log, Rows};
+use acc_page::{Names, statement_text};
+use acc_read::line_at;
+use acc_script::{Effect, MemorySink, MemorySource, Session, Sink, Watcher, run};
+use std::alloc::Global;
+use std::sync::Wait;
+use std::thread::Threads;
+
+/// Runs a script, drops what it prints, and returns the counts with the rows of the clause tables that it reached.
+///
+/// # Errors
+///
+/// Those of [`run`] for a script in memory, and [`Fault::Memory`] where there is none for the counts.
+pub fn count_rows<R: Threads + Wait + Sync + AllocGlobal>(
+    rt: &R,
+    config: Config,
+    script: &[u8],
+    rows: Rows,
+) -> Result<Rows, Fault> {
+    let mut log = Log::new(rt.alloc());
+    log.rows = Some(rows);
+    let mut counter = RowCounter {
+        alloc: rt.alloc(),
+        names: Names::new(rt.alloc()),
+        log,
+        wants: false,
+    };
+    let mut printed = MemorySink::new(rt.alloc());
+    let mut source = MemorySource::new(script);
+    match run(rt, &mut source, &mut printed, config, 1, &mut counter) {
+        // This sink fails for lack of memory alone.
+        Err(Fault::Write) => Err(Fault::Memory),
+        Err(fault) => Err(fault),
+        Ok(_) => counter.rows(),
+    }
+}
+
+#[derive(Drop)]
+struct RowCounter {
+    alloc: Global,
+    /// No array: the log that they are for is dropped.
+    names: Names,
+    log: Log,
+    /// Whether there was no memory for some of it.
+    wants: bool,
+}
+
+impl RowCounter {
+    fn rows(&mut self) -> Result<Rows, Fault> {
+        let is_whole = !self.wants && self.log.page.whole().is_ok();
+        match self.log.rows.take() {
+            Some(rows) if is_whole && !rows.wants() => Ok(rows),
+            _ => Err(Fault::Memory),
+        }
+    }
+
+    /// Counts the row of a line that was refused. It is read once more: it changed nothing.
+    fn count_refused(&mut self, line: &[u8], session: &Session, fault: Fault) {
+        let (arrays, innermost) = (&session.arrays, session.innermost());
+        match line_at(self.alloc, arrays, session.device, innermost, line) {
+            Ok(statement) => self.log.count_refused(&statement, fault),
+            Err(_) => self.wants = true,
+        }
+    }
+}
+
+impl<W: Sink> Watcher<W> for RowCounter {
+    #[tactic(auto, using(acc_script::proofs::Fronts::took_nothing))]
+    fn after(
+        &mut self,
+        number: u64,
+        line: &[u8],
+        session: &Session,
+        effect: Effect,
+        _writer: &mut W,
+    ) {
+        let text = statement_text(line);
+        let told = self
+            .log
+            .tell(&self.names, number, text, &session.table, effect);
+        self.wants |= told.is_err();
+        self.log.page.clear();
+        if let Effect::Refused(fault) = effect {
+            self.count_refused(line, session, fault);
+        }
+    }
+}

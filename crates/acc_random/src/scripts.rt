@@ -1,0 +1,127 @@
+//! Whole scripts by chance.
+
+use crate::statements::Statements;
+use acc_base::{Config, Fault};
+use acc_page::Page;
+use acc_read::{Trouble, line_at};
+use acc_script::Session;
+use std::sync::Wait;
+use std::thread::Threads;
+
+/// How many arrays are declared first.
+const ARRAYS: u64 = 5;
+
+/// How many statements are tried for one that the table accepts.
+const TRIES: u64 = 16;
+
+/// Returns a script of so many statements on a table of these limits, which runs without a fault, and without a
+/// statement that is refused. It is the same for a seed on each machine.
+///
+/// The arrays come first, and are not counted. In the end all regions are exited, all copies that wait are made, and the
+/// host's bytes are shown.
+///
+/// # Errors
+///
+/// [`Fault::Memory`] alone.
+pub fn random_script<R: Threads + Wait + Sync + AllocGlobal>(
+    rt: &R,
+    config: Config,
+    seed: u64,
+    lines: u64,
+) -> Result<Page, Fault> {
+    let mut draft = Draft {
+        session: Session::new(rt.alloc(), config, 1)?,
+        statements: Statements::new(rt.alloc(), seed, config.devices()),
+        script: Page::new(rt.alloc()),
+    };
+    for nth in 0..ARRAYS {
+        draft.statements.put_array(nth);
+        draft.keep(rt)?;
+    }
+    draft.add_statements(rt, lines)?;
+    draft.finish(rt)?;
+    Ok(draft.script)
+}
+
+/// A script so far, and the session in which it ran.
+#[derive(Drop)]
+struct Draft {
+    session: Session,
+    statements: Statements,
+    script: Page,
+}
+
+impl Draft {
+    fn add_statements<R: Threads + Wait + Sync + AllocGlobal>(
+        &mut self,
+        rt: &R,
+        lines: u64,
+    ) -> Result<(), Fault> {
+        let mut left = lines;
+        for _ in 0..lines.saturating_mul(TRIES) {
+            if left == 0 {
+                return Ok(());
+            }
+            self.statements.put_any();
+            if self.keep(rt)? {
+                left -= 1;
+            }
+        }
+        Ok(())
+    }
+
+    fn finish<R: Threads + Wait + Sync + AllocGlobal>(&mut self, rt: &R) -> Result<(), Fault> {
+        for _ in 0..self.session.table.regions() {
+            self.add(rt, "end data")?;
+        }
+        let devices = self.session.table.config().devices();
+        for device in 0..devices {
+            if devices > 1 {
+                self.statements.put_device(device);
+                self.keep(rt)?;
+            }
+            self.add(rt, "wait")?;
+        }
+        for nth in 0..ARRAYS {
+            self.statements.put_show(nth);
+            self.keep(rt)?;
+        }
+        self.add(rt, "report")
+    }
+
+    fn add<R: Threads + Wait + Sync + AllocGlobal>(
+        &mut self,
+        rt: &R,
+        text: &str,
+    ) -> Result<(), Fault> {
+        self.statements.page.text(text);
+        self.keep(rt)?;
+        Ok(())
+    }
+
+    /// Runs the statement that was written last, and adds it to the script, if it is neither at fault nor refused.
+    fn keep<R: Threads + Wait + Sync + AllocGlobal>(&mut self, rt: &R) -> Result<bool, Fault> {
+        let line = self.statements.page.whole()?;
+        let is_right = runs(rt, &mut self.session, line)?;
+        if is_right {
+            self.script.bytes(line);
+            self.script.text("\n");
+        }
+        self.statements.page.clear();
+        Ok(is_right)
+    }
+}
+
+/// Runs a line, and returns whether it is neither at fault nor refused. Then alone it changes something.
+fn runs<R: Threads + Wait + Sync + AllocGlobal>(
+    rt: &R,
+    session: &mut Session,
+    line: &[u8],
+) -> Result<bool, Fault> {
+    let innermost = session.innermost();
+    match line_at(rt.alloc(), &session.arrays, session.device, innermost, line) {
+        Ok(statement) => Ok(!session.perform(rt, statement)?.is_refused()),
+        Err(Trouble::Memory) => Err(Fault::Memory),
+        Err(Trouble::Line(_)) => Ok(false),
+    }
+}

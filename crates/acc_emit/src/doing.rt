@@ -71,9 +71,9 @@ fn note_all(emitter: &mut Emitter, queue: Option<u64>, items: &[Written]) -> Res
         if item.copied_block().is_some() && has_attached(emitter, items, nth, item.section) {
             return Err(emitter.unfit(Reason::AttachedCopied));
         }
-        check_attached(emitter, *item)?;
         check_ended(emitter, queue, *item)?;
         note(emitter, queue, *item)?;
+        check_attached(emitter, *item)?;
     }
     if items.iter().any(|item| item.ended_block().is_some()) {
         emitter.marks.give_up_lost(&emitter.own.table);
@@ -81,7 +81,7 @@ fn note_all(emitter: &mut Emitter, queue: Option<u64>, items: &[Written]) -> Res
     Ok(())
 }
 
-/// Whether a pointer in a section was attached before the directive, which the twin has not done yet, and not detached by
+/// Whether a pointer in a section was attached before the directive, which the twin has yet to do, and not detached by
 /// the items before the nth.
 fn has_attached(emitter: &Emitter, items: &[Written], nth: usize, section: Section) -> bool {
     emitter.marks.pointers.iter().any(|pointer| {

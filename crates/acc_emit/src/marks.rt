@@ -115,7 +115,7 @@ impl Marks {
         }
     }
 
-    /// Notes that the bytes of a section are copied in a queue, or at once. A word of which it copies a part alone is no
+    /// Notes that the bytes of a section are copied in a queue, or at once. A word of which it copies a part is no
     /// pointer any more.
     pub fn copy(&mut self, section: Section, queue: Option<u64>) {
         self.touch(section, queue);
@@ -182,8 +182,8 @@ impl Marks {
             && pointer.target == target)
     }
 
-    /// Returns the target of the pointer at a place, in host memory or on the device: the pointer holds its host address,
-    /// or its device address where it is attached. `None` where it holds another word.
+    /// Returns the target of the pointer at a place, in host memory or on the device. The pointer holds its host
+    /// address, or its device address where it is attached. `None` where it holds another word.
     pub fn target(&self, table: &Table, place: u64, on_device: bool) -> Option<u64> {
         let word = word_at(table, place, on_device);
         let is_attached = on_device && is_attached(table, place);

@@ -58,10 +58,7 @@ pub fn pointer_section(place: u64) -> Section {
 
 /// Whether two sections have no address in common.
 fn is_apart(one: Section, other: Section) -> bool {
-    one.len == 0
-        || other.len == 0
-        || one.start.saturating_add(one.len) <= other.start
-        || other.start.saturating_add(other.len) <= one.start
+    one.len == 0 || other.len == 0 || one.is_apart(other)
 }
 
 /// Returns the address that these bytes hold, the lowest byte first.

@@ -1,8 +1,7 @@
 //! The script on two tables, which differ in the bytes that nothing has filled.
 
 use acc_base::{
-    Config, Did, Directive, EnterClause, Event, Fault, Item, List, MEMORY_MAX, RegionClause,
-    Section, Step,
+    Config, Did, Directive, Event, Fault, Item, List, MEMORY_MAX, RegionClause, Section, Step,
 };
 use acc_read::{ScriptKernel, Statement, Trouble, line_at};
 use acc_script::{Effect, Session};
@@ -118,12 +117,12 @@ fn find_births(event: &Event, births: &mut Vec<Section>) -> Result<(), Fault> {
     match event {
         Event::Entered { items, did, .. } => {
             for (item, done) in items.as_slice().iter().zip(did.as_slice()) {
-                note_birth(births, item.section, *done, is_open(item.clause))?;
+                note_birth(births, item.section, item.clause, *done)?;
             }
         }
         Event::EnteredData { items, did, .. } => {
             for (item, done) in items.as_slice().iter().zip(did.as_slice()) {
-                note_birth(births, item.section, *done, is_enter_open(item.clause))?;
+                note_birth(births, item.section, item.clause.as_region(), *done)?;
             }
         }
         _ => {}
@@ -131,26 +130,14 @@ fn find_births(event: &Event, births: &mut Vec<Section>) -> Result<(), Fault> {
     Ok(())
 }
 
-/// Whether the bytes of a block that is new with this clause of a region are left open.
-fn is_open(clause: RegionClause) -> bool {
-    matches!(
-        clause,
-        RegionClause::Copyout { zero: false } | RegionClause::Create { zero: false }
-    )
-}
-
-/// Whether the bytes of a block that is new with this clause of `enter data` are left open.
-fn is_enter_open(clause: EnterClause) -> bool {
-    matches!(clause, EnterClause::Create { zero: false })
-}
-
-/// Notes the section of a new block whose bytes are left open.
+/// Notes the section of a new block whose bytes are left open: its clause neither copies them nor has `zero`.
 fn note_birth(
     births: &mut Vec<Section>,
     section: Section,
+    clause: RegionClause,
     done: Did,
-    is_open: bool,
 ) -> Result<(), Fault> {
+    let is_open = !clause.copies_in() && !clause.is_zeroed();
     if is_open && matches!(done.step, Step::Born { .. }) {
         births.push(section)?;
     }
@@ -168,7 +155,7 @@ fn fill<R: Threads + Wait + Sync + AllocGlobal>(
         section,
         pointer: None,
     };
-    let items = List::from_vec(vec![in rt.alloc(); item]?);
+    let items = List::one(item);
     let device = DEVICE;
     let enter = Directive::Enter { device, items };
     twin.perform(rt, Statement::Direct(enter))?;

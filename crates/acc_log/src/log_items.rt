@@ -28,8 +28,8 @@ impl LogItem {
         LogItem {
             place,
             section: item.section,
-            is_pointer: matches!(item.clause, RegionClause::Attach),
-            copies: matches!(item.clause, RegionClause::Copy | RegionClause::Copyin),
+            is_pointer: item.clause.is_attach(),
+            copies: item.clause.copies_in(),
             out: false,
             queue: None,
         }
@@ -40,11 +40,8 @@ impl LogItem {
         LogItem {
             place,
             section: item.section,
-            is_pointer: matches!(item.clause, RegionClause::Attach),
-            copies: matches!(
-                item.clause,
-                RegionClause::Copy | RegionClause::Copyout { .. }
-            ),
+            is_pointer: item.clause.is_attach(),
+            copies: item.clause.copies_out(),
             out: true,
             queue: None,
         }
@@ -55,8 +52,8 @@ impl LogItem {
         LogItem {
             place,
             section: item.section,
-            is_pointer: matches!(item.clause, EnterClause::Attach),
-            copies: matches!(item.clause, EnterClause::Copyin),
+            is_pointer: item.clause.as_region().is_attach(),
+            copies: item.clause.as_region().copies_in(),
             out: false,
             queue,
         }
@@ -67,8 +64,8 @@ impl LogItem {
         LogItem {
             place,
             section: item.section,
-            is_pointer: matches!(item.clause, ExitClause::Detach),
-            copies: matches!(item.clause, ExitClause::Copyout),
+            is_pointer: item.clause.is_detach(),
+            copies: item.clause.copies_out(),
             out: true,
             queue,
         }
@@ -81,7 +78,7 @@ impl LogItem {
             section: item.section,
             is_pointer: false,
             copies: true,
-            out: matches!(item.clause, UpdateClause::ToSelf),
+            out: item.clause.copies_out(),
             queue,
         }
     }

@@ -240,10 +240,7 @@ fn range_of(mapped: Mapped) -> Section {
 
 /// Whether two sections have an address in common.
 fn meets(one: Section, other: Section) -> bool {
-    one.len > 0
-        && other.len > 0
-        && one.start < other.start.saturating_add(other.len)
-        && other.start < one.start.saturating_add(one.len)
+    one.len > 0 && other.len > 0 && !one.is_apart(other)
 }
 
 fn put_range(page: &mut Page, names: &Names, mapped: Mapped) {

@@ -38,8 +38,8 @@ impl LogItem {
             modifier,
             section: item.section,
             pointer: item.pointer,
-            is_pointer: matches!(item.clause, RegionClause::Attach),
-            copies: matches!(item.clause, RegionClause::Copy | RegionClause::Copyin),
+            is_pointer: item.clause.is_attach(),
+            copies: item.clause.copies_in(),
             out: false,
             queue: None,
         }
@@ -50,10 +50,7 @@ impl LogItem {
         LogItem {
             words: end_words(item.clause),
             modifier: "",
-            copies: matches!(
-                item.clause,
-                RegionClause::Copy | RegionClause::Copyout { .. }
-            ),
+            copies: item.clause.copies_out(),
             out: true,
             ..LogItem::of_region(place, item)
         }
@@ -72,8 +69,8 @@ impl LogItem {
             modifier,
             section: item.section,
             pointer: item.pointer,
-            is_pointer: matches!(item.clause, EnterClause::Attach),
-            copies: matches!(item.clause, EnterClause::Copyin),
+            is_pointer: item.clause.as_region().is_attach(),
+            copies: item.clause.as_region().copies_in(),
             out: false,
             queue,
         }
@@ -96,8 +93,8 @@ impl LogItem {
             modifier: if finalize { "finalize" } else { "" },
             section: item.section,
             pointer: item.pointer,
-            is_pointer: matches!(item.clause, ExitClause::Detach),
-            copies: matches!(item.clause, ExitClause::Copyout),
+            is_pointer: item.clause.is_detach(),
+            copies: item.clause.copies_out(),
             out: true,
             queue,
         }
@@ -110,7 +107,7 @@ impl LogItem {
         if_present: bool,
         queue: Option<u64>,
     ) -> LogItem {
-        let out = matches!(item.clause, UpdateClause::ToSelf);
+        let out = item.clause.copies_out();
         LogItem {
             place,
             words: if out { "update self" } else { "update device" },

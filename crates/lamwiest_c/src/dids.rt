@@ -2,7 +2,6 @@
 
 ghost use Rattle.std.specs.Prelude.{◌≡◌, Some};
 ghost use Rattle.std.specs.List.{slice_get};
-ghost use Rattle.acc_base.specs.Clauses.{copies_in, copies_out};
 ghost use Rattle.acc_base.specs.Devices.{view};
 ghost use Rattle.lamwiest_c.specs.Finds.{IsAskedOf};
 ghost use Rattle.lamwiest_c.specs.Dids.{is_born, is_ended, is_moved, step_fields, aim_fields, copy_fields, of_entry, of_enter, of_exit, of_update, copy_at, raw_did, times_of, dids_in, did_in, did_at, told_over};
@@ -118,20 +117,6 @@ fn is_moved(step: Step) -> bool
     matches!(step, Step::Moved { .. })
 }
 
-/// Whether a new block gets the bytes of the section from host memory.
-fn copies_in(clause: RegionClause) -> bool
-    ensures { result ≡ copies_in clause }
-{
-    matches!(clause, RegionClause::Copy | RegionClause::Copyin)
-}
-
-/// Whether host memory gets the bytes of the section just before the mapping ends.
-fn copies_out(clause: RegionClause) -> bool
-    ensures { result ≡ copies_out clause }
-{
-    matches!(clause, RegionClause::Copy | RegionClause::Copyout { .. })
-}
-
 /// Returns a copy of this many bytes this way, if it was made or put into a queue.
 fn copy_fields(way: u32, copied: bool, back: bool, len: u64) -> CopyFields
     ensures { result ≡ copy_fields way copied back len }
@@ -154,8 +139,8 @@ fn of_entry(step: Step, item: Option<Item<RegionClause>>) -> CopyFields
 {
     match item {
         Some(item) => {
-            let copied = is_born(step) && copies_in(item.clause);
-            copy_fields(1, copied, copies_out(item.clause), item.section.len)
+            let copied = is_born(step) && item.clause.copies_in();
+            copy_fields(1, copied, item.clause.copies_out(), item.section.len)
         }
         None => copy_fields(0, false, false, 0),
     }
@@ -167,7 +152,7 @@ fn of_enter(step: Step, item: Option<Item<EnterClause>>) -> CopyFields
 {
     match item {
         Some(item) => {
-            let copied = is_born(step) && matches!(item.clause, EnterClause::Copyin);
+            let copied = is_born(step) && item.clause.as_region().copies_in();
             copy_fields(1, copied, false, item.section.len)
         }
         None => copy_fields(0, false, false, 0),
@@ -180,7 +165,7 @@ fn of_exit(step: Step, item: Option<Item<ExitClause>>) -> CopyFields
 {
     match item {
         Some(item) => {
-            let copied = is_ended(step) && matches!(item.clause, ExitClause::Copyout);
+            let copied = is_ended(step) && item.clause.copies_out();
             copy_fields(2, copied, false, item.section.len)
         }
         None => copy_fields(0, false, false, 0),
@@ -193,10 +178,7 @@ fn of_update(step: Step, item: Option<Item<UpdateClause>>) -> CopyFields
 {
     match item {
         Some(item) => {
-            let way = match item.clause {
-                UpdateClause::ToSelf => 2,
-                UpdateClause::ToDevice => 1,
-            };
+            let way = if item.clause.copies_out() { 2 } else { 1 };
             copy_fields(way, is_moved(step), false, item.section.len)
         }
         None => copy_fields(0, false, false, 0),
@@ -222,10 +204,10 @@ fn times_of(table: &Table, aim: Aim) -> u64
 {
     match aim {
         Aim::None => 0,
-        Aim::New { pointer, .. } => table.attachment(0, pointer),
-        Aim::Again { pointer, .. } => table.attachment(0, pointer),
-        Aim::Less { pointer, .. } => table.attachment(0, pointer),
-        Aim::Cleared { pointer, .. } => table.attachment(0, pointer),
+        Aim::New { pointer, .. }
+        | Aim::Again { pointer, .. }
+        | Aim::Less { pointer, .. }
+        | Aim::Cleared { pointer, .. } => table.attachment(0, pointer),
     }
 }
 

@@ -1,6 +1,6 @@
 //! Items as C writes them, and the clauses by their numbers.
 
-ghost use Rattle.std.specs.Prelude.{◌≡◌, ℕ, Option, Err};
+ghost use Rattle.std.specs.Prelude.{◌≡◌, ℕ, Option, Err, [], ◌∷◌};
 ghost use Rattle.lamwiest_c.specs.Clauses.{pointer_of, queue_of, region_clause, enter_clause, exit_clause, update_clause, item_of, items_from, IsRead};
 
 use crate::statuses::Refusal;
@@ -176,6 +176,16 @@ fn refusal_without_memory<C: Clause>(items: &[RawItem]) -> Refusal
     Refusal::OfTable(Fault::Memory)
 }
 
+/// The list of one item, which takes no memory.
+fn one_item<C: Clause>(item: RawItem) -> Result<List<Item<C>>, Refusal>
+    ensures { IsRead (items_from C.numbered 0 (item ∷ [])) result }
+{
+    match C::from_number(item.clause) {
+        Some(clause) => Ok(List::one(item_of(clause, item))),
+        None => Err(Refusal::BadClause { item: 0 }),
+    }
+}
+
 /// The items of a directive.
 ///
 /// # Errors
@@ -185,6 +195,9 @@ fn refusal_without_memory<C: Clause>(items: &[RawItem]) -> Refusal
 pub fn items_of<C: Clause>(alloc: Global, items: &[RawItem]) -> Result<List<Item<C>>, Refusal>
     ensures { IsRead (items_from C.numbered 0 items.now) result }
 {
+    if let [item] = items {
+        return one_item(*item);
+    }
     let Ok(mut read) = Vec::with_capacity(alloc, items.len()) else {
         return Err(refusal_without_memory::<C>(items));
     };

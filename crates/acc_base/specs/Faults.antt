@@ -1,5 +1,5 @@
 -- The number, the name and the text of each fault.
-use Rattle.std.specs.Prelude.{ℕ, List, [], ◌++◌, Option, Some, None, codes}
+use Rattle.std.specs.Prelude.{ℕ, List, [], ◌++◌, codes}
 use Rattle.std.specs.Fmt.{decimal}
 use Rattle.acc_base.specs.Words.{Fault, ScriptFault}
 use Rattle.acc_base.specs.declared.faults.Fault.TheVariants.{Memory, BadConfig, NoTickets, NoAllowance, TooManyItems, TraceFull, OutOfHost, Misaligned, NoQueue, PartlyPresent, NotPresent, CounterFull, Lent, DeviceFull, QueueFull, NoRegion, NoLease, BadCuts, Script, Read, Write, NoDevice}
@@ -64,37 +64,27 @@ kind_name_of HostFull = codes "HostFull"
 kind_name_of NoOpenRegion = codes "NoOpenRegion"
 kind_name_of Unclosed = codes "Unclosed"
 
--- the name and the value of the first field
-abbrev pub first_field : Fault → Option (List ℕ × ℕ)
-first_field (NoTickets left) = Some (codes "left", left)
-first_field (NoAllowance left) = Some (codes "left", left)
-first_field (TooManyItems n) = Some (codes "n", n)
-first_field (TraceFull len) = Some (codes "len", len)
-first_field (OutOfHost item) = Some (codes "item", item)
-first_field (Misaligned item) = Some (codes "item", item)
-first_field (NoQueue q) = Some (codes "q", q)
-first_field (PartlyPresent item) = Some (codes "item", item)
-first_field (NotPresent item) = Some (codes "item", item)
-first_field (CounterFull item) = Some (codes "item", item)
-first_field (Lent block) = Some (codes "block", block)
-first_field (DeviceFull item need) = Some (codes "item", item)
-first_field (QueueFull q) = Some (codes "q", q)
-first_field (NoRegion number) = Some (codes "number", number)
-first_field (NoDevice device) = Some (codes "device", device)
-first_field (NoLease serial) = Some (codes "serial", serial)
-first_field (Script line kind) = Some (codes "line", line)
-first_field _ = None
-
-abbrev pub field_text : Option (List ℕ × ℕ) → List ℕ
-field_text None = []
-field_text (Some field) = codes " " ++ field.0 ++ codes " " ++ decimal field.1
-
--- the second field
-abbrev pub last_text : Fault → List ℕ
-last_text (DeviceFull item need) = codes " need " ++ decimal need
-last_text (Script line kind) = codes " kind " ++ kind_name_of kind
-last_text _ = []
+-- each field's name and value
+abbrev pub fields_text : Fault → List ℕ
+fields_text (NoTickets left) = codes " left " ++ decimal left
+fields_text (NoAllowance left) = codes " left " ++ decimal left
+fields_text (TooManyItems n) = codes " n " ++ decimal n
+fields_text (TraceFull len) = codes " len " ++ decimal len
+fields_text (OutOfHost item) = codes " item " ++ decimal item
+fields_text (Misaligned item) = codes " item " ++ decimal item
+fields_text (NoQueue q) = codes " q " ++ decimal q
+fields_text (PartlyPresent item) = codes " item " ++ decimal item
+fields_text (NotPresent item) = codes " item " ++ decimal item
+fields_text (CounterFull item) = codes " item " ++ decimal item
+fields_text (Lent block) = codes " block " ++ decimal block
+fields_text (DeviceFull item need) = codes " item " ++ decimal item ++ codes " need " ++ decimal need
+fields_text (QueueFull q) = codes " q " ++ decimal q
+fields_text (NoRegion number) = codes " number " ++ decimal number
+fields_text (NoDevice device) = codes " device " ++ decimal device
+fields_text (NoLease serial) = codes " serial " ++ decimal serial
+fields_text (Script line kind) = codes " line " ++ decimal line ++ codes " kind " ++ kind_name_of kind
+fields_text _ = []
 
 -- the number, the name, and each field's name and value
 abbrev pub fault_text : Fault → List ℕ
-fault_text fault = decimal (number_of fault) ++ codes " " ++ name_of fault ++ field_text (first_field fault) ++ last_text fault
+fault_text fault = decimal (number_of fault) ++ codes " " ++ name_of fault ++ fields_text fault

@@ -1,6 +1,6 @@
 //! Why a call was refused.
 
-ghost use Rattle.std.specs.Prelude.{◌≡◌, option_map};
+ghost use Rattle.std.specs.Prelude.{◌≡◌};
 
 use std::alloc::{AllocError, AllocFailed};
 use std::error::Error;
@@ -139,7 +139,7 @@ pub enum ScriptFault {
 }
 
 impl Fault {
-    ghost use Rattle.acc_base.specs.Faults.{number_of, name_of, first_field};
+    ghost use Rattle.acc_base.specs.Faults.{number_of, name_of};
 
     /// The number of the fault, from 1 to 22.
     pub fn number(&self) -> u64
@@ -200,30 +200,6 @@ impl Fault {
             Fault::NoDevice { .. } => "NoDevice",
         }
     }
-
-    /// The name and the value of its first field.
-    fn first_field(self) -> Option<(&'static str, u64)>
-        ensures { option_map (λ field. (field.0.now, field.1)) result ≡ first_field self }
-    {
-        match self {
-            Fault::NoTickets { left } | Fault::NoAllowance { left } => Some(("left", left)),
-            Fault::TooManyItems { n } => Some(("n", n)),
-            Fault::TraceFull { len } => Some(("len", len)),
-            Fault::OutOfHost { item }
-            | Fault::Misaligned { item }
-            | Fault::PartlyPresent { item }
-            | Fault::NotPresent { item }
-            | Fault::CounterFull { item }
-            | Fault::DeviceFull { item, .. } => Some(("item", item)),
-            Fault::NoQueue { q } | Fault::QueueFull { q } => Some(("q", q)),
-            Fault::Lent { block } => Some(("block", block)),
-            Fault::NoRegion { number } => Some(("number", number)),
-            Fault::NoDevice { device } => Some(("device", device)),
-            Fault::NoLease { serial } => Some(("serial", serial)),
-            Fault::Script { line, .. } => Some(("line", line)),
-            _ => None,
-        }
-    }
 }
 
 impl ScriptFault {
@@ -265,29 +241,31 @@ impl fmt::Display for Fault {
     ghost output = { λ fault. Some (fault_text fault) };
 
     fn fmt<W: fmt::Write>(&self, f: &mut fmt::Formatter<W>) -> fmt::Result {
-        write!(f, "{} {}", self.number(), self.name())?;
-        if let Some((name, value)) = self.first_field() {
-            write!(f, " {name} {value}")?;
-        }
-        write!(f, "{}", Last(*self))
-    }
-}
-
-/// Writes the second field of a fault that has two.
-#[derive(Drop)]
-struct Last(Fault);
-
-impl fmt::Display for Last {
-    ghost use Rattle.std.specs.Prelude.{Some};
-    ghost use Rattle.acc_base.specs.Faults.{last_text};
-
-    ghost output = { λ last. Some (last_text last.0) };
-
-    fn fmt<W: fmt::Write>(&self, f: &mut fmt::Formatter<W>) -> fmt::Result {
-        match self.0 {
-            Fault::DeviceFull { need, .. } => write!(f, " need {need}"),
-            Fault::Script { kind, .. } => write!(f, " kind {kind}"),
-            _ => Ok(()),
+        let number = self.number();
+        let name = self.name();
+        match *self {
+            Fault::Memory | Fault::BadConfig | Fault::BadCuts | Fault::Read | Fault::Write => {
+                write!(f, "{number} {name}")
+            }
+            Fault::NoTickets { left } | Fault::NoAllowance { left } => {
+                write!(f, "{number} {name} left {left}")
+            }
+            Fault::TooManyItems { n } => write!(f, "{number} {name} n {n}"),
+            Fault::TraceFull { len } => write!(f, "{number} {name} len {len}"),
+            Fault::OutOfHost { item }
+            | Fault::Misaligned { item }
+            | Fault::PartlyPresent { item }
+            | Fault::NotPresent { item }
+            | Fault::CounterFull { item } => write!(f, "{number} {name} item {item}"),
+            Fault::NoQueue { q } | Fault::QueueFull { q } => write!(f, "{number} {name} q {q}"),
+            Fault::Lent { block } => write!(f, "{number} {name} block {block}"),
+            Fault::DeviceFull { item, need } => {
+                write!(f, "{number} {name} item {item} need {need}")
+            }
+            Fault::NoRegion { number: region } => write!(f, "{number} {name} number {region}"),
+            Fault::NoDevice { device } => write!(f, "{number} {name} device {device}"),
+            Fault::NoLease { serial } => write!(f, "{number} {name} serial {serial}"),
+            Fault::Script { line, kind } => write!(f, "{number} {name} line {line} kind {kind}"),
         }
     }
 }

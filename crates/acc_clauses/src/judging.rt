@@ -20,10 +20,10 @@ ghost use Rattle.acc_clauses.specs.Overlays.{IsPlanned, AreUnmixed, tasks_in, re
 use crate::drafts::Draft;
 use crate::effects::{are_zero, recount};
 use crate::lending::not_lent;
-use crate::parts::Parts;
 use crate::readings::{counters_after, number_after, place_after, queue_len_after};
 use crate::rows::{moves, pointer_of, queue_of, section_of};
 use crate::sections::{POINTER_LEN, is_within, pointer_at};
+use crate::views::View;
 use acc_base::{
     Aim, Counter, Counters, ExitClause, Fault, Found, HOST_BASE, Holding, Item, RegionClause,
     Section, Step, Task, UpdateClause,
@@ -31,12 +31,12 @@ use acc_base::{
 use acc_present::{Hint, Located};
 
 /// A section that is not empty lies in host memory. Nothing of an empty one is checked.
-pub(crate) fn in_host(parts: &Parts, n: u64, section: Section) -> Result<(), Fault>
-    ensures { result ≡ in_host parts.now.limits n section }
+pub(crate) fn in_host(view: &View<'_>, n: u64, section: Section) -> Result<(), Fault>
+    ensures { result ≡ in_host view.now.limits n section }
 {
     let host = Section {
         start: HOST_BASE,
-        len: parts.host_size(),
+        len: view.host_size(),
     };
     if section.len != 0 && !is_within(section, host) {
         return Err(Fault::OutOfHost { item: n });
@@ -45,15 +45,15 @@ pub(crate) fn in_host(parts: &Parts, n: u64, section: Section) -> Result<(), Fau
 }
 
 // The eight bytes of an item's pointer, if it names one, lie in host memory, from a multiple of eight on.
-fn pointer_checked(parts: &Parts, n: u64, pointer: Option<u64>) -> Result<(), Fault>
-    ensures { result ≡ pointer_checked parts.now.limits n pointer }
+fn pointer_checked(view: &View<'_>, n: u64, pointer: Option<u64>) -> Result<(), Fault>
+    ensures { result ≡ pointer_checked view.now.limits n pointer }
 {
     let Some(pointer) = pointer else {
         return Ok(());
     };
     let host = Section {
         start: HOST_BASE,
-        len: parts.host_size(),
+        len: view.host_size(),
     };
     if !is_within(pointer_at(pointer), host) {
         return Err(Fault::OutOfHost { item: n });
@@ -65,11 +65,11 @@ fn pointer_checked(parts: &Parts, n: u64, pointer: Option<u64>) -> Result<(), Fa
 }
 
 // Section and pointer of a task, if it names them, may stand there.
-fn checked(parts: &Parts, n: u64, task: Task) -> Result<(), Fault>
-    ensures { result ≡ checked parts.now.limits n task }
+fn checked(view: &View<'_>, n: u64, task: Task) -> Result<(), Fault>
+    ensures { result ≡ checked view.now.limits n task }
 {
-    in_host(parts, n, section_of(task))?;
-    pointer_checked(parts, n, pointer_of(task))
+    in_host(view, n, section_of(task))?;
+    pointer_checked(view, n, pointer_of(task))
 }
 
 // What a block takes of the device: the least multiple of 16 that is at least its length.
@@ -82,16 +82,16 @@ fn rounded(len: u64) -> u64
 
 // The section is mapped to a new block, where the device has a place for it.
 #[tactic(auto, using(crate::proofs::Laws::plan_laws))]
-fn born(parts: &Parts, draft: &Draft, n: u64, section: Section) -> Result<Step, Fault>
-    requires planned { IsPlanned parts.now.limits draft.now parts.now.state.records }
+fn born(view: &View<'_>, draft: &Draft, n: u64, section: Section) -> Result<Step, Fault>
+    requires planned { IsPlanned view.now.limits draft.now view.now.state.records }
     requires entering { list_all enters (tasks_in draft.now) ≡ true }
-    requires births { parts.now.state.records.births < 2 ^ 48 }
+    requires births { view.now.state.records.births < 2 ^ 48 }
     requires len { IsFromOne MEMORY_MAX section.len }
-    ensures { result ≡ born parts.now.limits n section (records_after draft.now parts.now.state.records) }
+    ensures { result ≡ born view.now.limits n section (records_after draft.now view.now.state.records) }
 {
-    match place_after(parts, draft, section.len) {
+    match place_after(view, draft, section.len) {
         Some(place) => {
-            let block = number_after(parts, draft);
+            let block = number_after(view, draft);
             Ok(Step::Born { block, place })
         }
         None => {
@@ -103,23 +103,23 @@ fn born(parts: &Parts, draft: &Draft, n: u64, section: Section) -> Result<Step, 
 
 // The entry of an absent section.
 fn enter_absent(
-    parts: &Parts,
+    view: &View<'_>,
     draft: &Draft,
     n: u64,
     clause: RegionClause,
     section: Section,
 ) -> Result<Step, Fault>
-    requires planned { IsPlanned parts.now.limits draft.now parts.now.state.records }
+    requires planned { IsPlanned view.now.limits draft.now view.now.state.records }
     requires entering { list_all enters (tasks_in draft.now) ≡ true }
-    requires births { parts.now.state.records.births < 2 ^ 48 }
+    requires births { view.now.state.records.births < 2 ^ 48 }
     requires len { IsFromOne MEMORY_MAX section.len }
-    ensures { result ≡ enter_absent clause parts.now.limits n section (records_after draft.now parts.now.state.records) }
+    ensures { result ≡ enter_absent clause view.now.limits n section (records_after draft.now view.now.state.records) }
 {
     match clause {
-        RegionClause::Copy => born(parts, draft, n, section),
-        RegionClause::Copyin => born(parts, draft, n, section),
-        RegionClause::Copyout { .. } => born(parts, draft, n, section),
-        RegionClause::Create { .. } => born(parts, draft, n, section),
+        RegionClause::Copy => born(view, draft, n, section),
+        RegionClause::Copyin => born(view, draft, n, section),
+        RegionClause::Copyout { .. } => born(view, draft, n, section),
+        RegionClause::Create { .. } => born(view, draft, n, section),
         RegionClause::NoCreate => Ok(Step::Nothing),
         RegionClause::Present => Err(Fault::NotPresent { item: n }),
         RegionClause::Attach => Ok(Step::Nothing),
@@ -128,22 +128,22 @@ fn enter_absent(
 
 // The counter of a mapped range rises, below its limit.
 fn counted(
-    parts: &Parts,
+    view: &View<'_>,
     draft: &Draft,
     n: u64,
     counter: Counter,
     block: u64,
     hint: Hint,
 ) -> Result<Step, Fault>
-    requires { IsPlanned parts.now.limits draft.now parts.now.state.records }
-    ensures { result ≡ counted parts.now.limits counter n block (records_after draft.now parts.now.state.records) }
+    requires { IsPlanned view.now.limits draft.now view.now.state.records }
+    ensures { result ≡ counted view.now.limits counter n block (records_after draft.now view.now.state.records) }
 {
-    let counters = counters_after(parts, draft, block, hint);
+    let counters = counters_after(view, draft, block, hint);
     let count = match counter {
         Counter::Structured => counters.structured,
         Counter::Dynamic => counters.dynamic,
     };
-    if parts.counter_max() <= count {
+    if view.counter_max() <= count {
         return Err(Fault::CounterFull { item: n });
     }
     Ok(Step::Counted { block })
@@ -152,7 +152,7 @@ fn counted(
 // An item of a region's entry, or of `enter data`.
 #[tactic(auto, using(crate::proofs::Laws::plan_laws), unfolding(acc_base::specs::Steps::judge_row))]
 fn enter(
-    parts: &Parts,
+    view: &View<'_>,
     draft: &Draft,
     n: u64,
     counter: Counter,
@@ -160,23 +160,23 @@ fn enter(
     queue: Option<u64>,
     located: Located,
 ) -> Result<Step, Fault>
-    requires planned { IsPlanned parts.now.limits draft.now parts.now.state.records }
+    requires planned { IsPlanned view.now.limits draft.now view.now.state.records }
     requires entering { list_all enters (tasks_in draft.now) ≡ true }
-    requires births { parts.now.state.records.births < 2 ^ 48 }
-    requires located { located.found ≡ where_is (section_of (Task.Enter counter item queue)) (records_after draft.now parts.now.state.records).ranges }
-    ensures { result ≡ judge_row parts.now.limits n (Task.Enter counter item queue) (records_after draft.now parts.now.state.records) }
+    requires births { view.now.state.records.births < 2 ^ 48 }
+    requires located { located.found ≡ where_is (section_of (Task.Enter counter item queue)) (records_after draft.now view.now.state.records).ranges }
+    ensures { result ≡ judge_row view.now.limits n (Task.Enter counter item queue) (records_after draft.now view.now.state.records) }
 {
     let task = Task::Enter {
         counter,
         item,
         queue,
     };
-    checked(parts, n, task)?;
+    checked(view, n, task)?;
     let Located { found, hint } = located;
     match found {
         Found::Empty => Ok(Step::Nothing),
-        Found::Inside { block, .. } => counted(parts, draft, n, counter, block, hint),
-        Found::Absent => enter_absent(parts, draft, n, item.clause, section_of(task)),
+        Found::Inside { block, .. } => counted(view, draft, n, counter, block, hint),
+        Found::Absent => enter_absent(view, draft, n, item.clause, section_of(task)),
         Found::Partly => Err(Fault::PartlyPresent { item: n }),
     }
 }
@@ -194,13 +194,13 @@ fn dropped(task: Task, block: u64, counters: Counters) -> Step
 
 // Undoes what an item of a region's entry counted, and nothing else.
 #[tactic(auto, using(crate::proofs::Laws::plan_laws), unfolding(acc_base::specs::Steps::judge_row))]
-fn leave(parts: &Parts, draft: &Draft, holding: Holding, hint: Hint) -> Result<Step, Fault>
-    requires { IsPlanned parts.now.limits draft.now parts.now.state.records }
-    ensures { (n : ℕ) → result ≡ judge_row parts.now.limits n (Task.ExitRegion holding) (records_after draft.now parts.now.state.records) }
+fn leave(view: &View<'_>, draft: &Draft, holding: Holding, hint: Hint) -> Result<Step, Fault>
+    requires { IsPlanned view.now.limits draft.now view.now.state.records }
+    ensures { (n : ℕ) → result ≡ judge_row view.now.limits n (Task.ExitRegion holding) (records_after draft.now view.now.state.records) }
 {
     match holding.block {
         Some(block) => {
-            let counters = counters_after(parts, draft, block, hint);
+            let counters = counters_after(view, draft, block, hint);
             Ok(dropped(Task::ExitRegion { holding }, block, counters))
         }
         None => Ok(Step::Nothing),
@@ -210,7 +210,7 @@ fn leave(parts: &Parts, draft: &Draft, holding: Holding, hint: Hint) -> Result<S
 // An item of `exit data`.
 #[tactic(auto, using(crate::proofs::Laws::plan_laws), unfolding(acc_base::specs::Steps::judge_row))]
 fn exit(
-    parts: &Parts,
+    view: &View<'_>,
     draft: &Draft,
     n: u64,
     finalize: bool,
@@ -218,21 +218,21 @@ fn exit(
     queue: Option<u64>,
     located: Located,
 ) -> Result<Step, Fault>
-    requires planned { IsPlanned parts.now.limits draft.now parts.now.state.records }
-    requires located { located.found ≡ where_is (section_of (Task.ExitData finalize item queue)) (records_after draft.now parts.now.state.records).ranges }
-    ensures { result ≡ judge_row parts.now.limits n (Task.ExitData finalize item queue) (records_after draft.now parts.now.state.records) }
+    requires planned { IsPlanned view.now.limits draft.now view.now.state.records }
+    requires located { located.found ≡ where_is (section_of (Task.ExitData finalize item queue)) (records_after draft.now view.now.state.records).ranges }
+    ensures { result ≡ judge_row view.now.limits n (Task.ExitData finalize item queue) (records_after draft.now view.now.state.records) }
 {
     let task = Task::ExitData {
         finalize,
         item,
         queue,
     };
-    checked(parts, n, task)?;
+    checked(view, n, task)?;
     let Located { found, hint } = located;
     match found {
         Found::Empty => Ok(Step::Nothing),
         Found::Inside { block, .. } => {
-            let counters = counters_after(parts, draft, block, hint);
+            let counters = counters_after(view, draft, block, hint);
             if counters.dynamic == 0 {
                 return Ok(Step::Nothing);
             }
@@ -246,15 +246,15 @@ fn exit(
 // An item of `update`.
 #[tactic(auto, unfolding(acc_base::specs::Steps::judge_row))]
 fn copy(
-    parts: &Parts,
+    view: &View<'_>,
     n: u64,
     if_present: bool,
     item: Item<UpdateClause>,
     found: Found,
 ) -> Result<Step, Fault>
-    ensures { (queue : Option ℕ) (w : Records) → found ≡ where_is item.section w.ranges → result ≡ judge_row parts.now.limits n (Task.Move if_present item queue) w }
+    ensures { (queue : Option ℕ) (w : Records) → found ≡ where_is item.section w.ranges → result ≡ judge_row view.now.limits n (Task.Move if_present item queue) w }
 {
-    in_host(parts, n, item.section)?;
+    in_host(view, n, item.section)?;
     match found {
         Found::Empty => Ok(Step::Nothing),
         Found::Inside { block, .. } => Ok(Step::Moved { block }),
@@ -272,49 +272,49 @@ fn copy(
 /// where its section lies then.
 #[tactic(auto, using(crate::proofs::Laws::kind_laws))]
 pub(crate) fn judge_row(
-    parts: &Parts,
+    view: &View<'_>,
     draft: &Draft,
     n: u64,
     task: Task,
     located: Located,
 ) -> Result<Step, Fault>
-    requires planned { IsPlanned parts.now.limits draft.now parts.now.state.records }
+    requires planned { IsPlanned view.now.limits draft.now view.now.state.records }
     requires unmixed { AreUnmixed (tasks_in draft.now ++ task ∷ []) }
-    requires births { parts.now.state.records.births < 2 ^ 48 }
-    requires located { located.found ≡ where_is (section_of task) (records_after draft.now parts.now.state.records).ranges }
-    ensures { result ≡ judge_row parts.now.limits n task (records_after draft.now parts.now.state.records) }
+    requires births { view.now.state.records.births < 2 ^ 48 }
+    requires located { located.found ≡ where_is (section_of task) (records_after draft.now view.now.state.records).ranges }
+    ensures { result ≡ judge_row view.now.limits n task (records_after draft.now view.now.state.records) }
 {
     match task {
         Task::Enter {
             counter,
             item,
             queue,
-        } => enter(parts, draft, n, counter, item, queue, located),
-        Task::ExitRegion { holding } => leave(parts, draft, holding, located.hint),
+        } => enter(view, draft, n, counter, item, queue, located),
+        Task::ExitRegion { holding } => leave(view, draft, holding, located.hint),
         Task::ExitData {
             finalize,
             item,
             queue,
-        } => exit(parts, draft, n, finalize, item, queue, located),
+        } => exit(view, draft, n, finalize, item, queue, located),
         Task::Move {
             if_present,
             item,
             ..
-        } => copy(parts, n, if_present, item, located.found),
+        } => copy(view, n, if_present, item, located.found),
     }
 }
 
 // The queue of a task has room for the transfer of its step.
 #[tactic(auto, using(crate::proofs::QueuesAfter::room_laws))]
-fn room_for(parts: &Parts, draft: &Draft, task: Task, step: Step) -> Result<(), Fault>
-    requires planned { IsPlanned parts.now.limits draft.now parts.now.state.records }
+fn room_for(view: &View<'_>, draft: &Draft, task: Task, step: Step) -> Result<(), Fault>
+    requires planned { IsPlanned view.now.limits draft.now view.now.state.records }
     requires known { queue_named (queue_of task) ≡ Ok tt }
-    ensures { let w = records_after draft.now parts.now.state.records in result ≡ room_for parts.now.limits.queue_cap (queue_of task) (transfer_of task step w.ranges) w.queues }
+    ensures { let w = records_after draft.now view.now.state.records in result ≡ room_for view.now.limits.queue_cap (queue_of task) (transfer_of task step w.ranges) w.queues }
 {
     let Some(q) = queue_of(task) else {
         return Ok(());
     };
-    if moves(task, step) && parts.queue_cap() <= queue_len_after(parts, draft, q) {
+    if moves(task, step) && view.queue_cap() <= queue_len_after(view, draft, q) {
         return Err(Fault::QueueFull { q });
     }
     Ok(())
@@ -347,17 +347,17 @@ fn block_aimed(aim: Aim) -> Option<u64>
 /// What the tables say of a task can be done. Neither the block in which it detaches a pointer before its step is lent,
 /// nor the one that the step needs. And its queue has room.
 pub(crate) fn step_free(
-    parts: &Parts,
+    view: &View<'_>,
     draft: &Draft,
     task: Task,
     step: Step,
     before: Aim,
 ) -> Result<(), Fault>
-    requires planned { IsPlanned parts.now.limits draft.now parts.now.state.records }
+    requires planned { IsPlanned view.now.limits draft.now view.now.state.records }
     requires known { queue_named (queue_of task) ≡ Ok tt }
-    ensures { let w = records_after draft.now parts.now.state.records in result ≡ step_free task step before parts.now.limits.queue_cap w }
+    ensures { let w = records_after draft.now view.now.state.records in result ≡ step_free task step before view.now.limits.queue_cap w }
 {
-    not_lent(parts, block_aimed(before))?;
-    not_lent(parts, block_needed(task, step))?;
-    room_for(parts, draft, task, step)
+    not_lent(view, block_aimed(before))?;
+    not_lent(view, block_needed(task, step))?;
+    room_for(view, draft, task, step)
 }

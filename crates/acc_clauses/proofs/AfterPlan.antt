@@ -1,6 +1,6 @@
 -- What a planned directive makes of a store: the state after its event, and a store that is sound.
 use Rattle.std.proofs.lemmas.Bool.Decides.{nat_tests}
-use Rattle.std.proofs.Common.{◌≡◌, ◌≤◌, refl, sym, subst, ℕ, Bool, List, [], arith}
+use Rattle.std.proofs.Common.{◌<◌, ◌≡◌, ◌≤◌, refl, sym, subst, ℕ, Bool, List, [], arith, length}
 use Rattle.acc_clauses.specs.Words.{Directive, Event}
 use Rattle.acc_base.specs.Limits.{Limits, IsWithinBounds}
 use Rattle.acc_base.specs.Records.{Layout, State, layout_of}
@@ -50,8 +50,8 @@ layout_kept l e lay bounds h legal few =
 
 -- a store is sound after a legal event
 pub event_sound : (l : Limits) (e : Event) (brought : List ℕ) (c f : Contents) → IsWithinBounds l → c.limits ≡ l → f.limits ≡ l → IsStoreSound c → IsLegal l e (layout_of c.state) → AreBrought e brought c.state.records → f.state ≡ after l.full e brought c.state
-    → AreFew (register_after e c.state.register) → used_bytes f.state.records.blocks ≤ l.device → AreHoldingsWithin f.state.records f.state.register.regions → IsStoreSound f
-event_sound l e brought c f bounds cl fl h legal fits is few used within =
+    → AreFew (register_after e c.state.register) → length f.state.records.loans < f.state.register.serial → used_bytes f.state.records.blocks ≤ l.device → AreHoldingsWithin f.state.records f.state.register.regions → IsStoreSound f
+event_sound l e brought c f bounds cl fl h legal fits is few lent used within =
     let before : IsSound l c.state = subst (λ (m : Limits). IsSound m c.state) cl h.sound in
     let layout : IsLayoutSound l (layout_of (after l.full e brought c.state)) = subst (IsLayoutSound l) (sym (layout-after l.full e brought c.state)) (layout_kept l e (layout_of c.state) bounds before.layout legal few) in
     record {
@@ -60,5 +60,6 @@ event_sound l e brought c f bounds cl fl h legal fits is few used within =
         bytes_accounted = used;
         memories_sized = rw is (event_sized l l.full e brought c.state fits before.memories_sized);
       });
+      few = lent;
       holdings = within;
     }

@@ -15,9 +15,8 @@ use Rattle.acc_dev.specs.Device.{DeviceState}
 use Rattle.acc_attach.specs.Attached.{AttachedState, left_of}
 use Rattle.acc_attach.specs.declared.left.Left.{Left}
 use Rattle.acc_attach.specs.declared.left.Left.TheVariants as left
-use Rattle.acc_clauses.specs.declared.numbers.Numbers.{Numbers}
 use Rattle.acc_clauses.specs.declared.environments.Environment.{Environment}
-use Rattle.acc_clauses.specs.Contents.{WithHost, beside, AreMarked, state_of, bare_state}
+use Rattle.acc_clauses.specs.Contents.{Numbers, WithHost, beside, AreMarked, state_of, bare_state}
 use Rattle.acc_clauses.specs.Acts.{CanDetach, pointers_of, IsAimedBy}
 
 -- the parts with eight bytes written over a pointer in a block that is mapped from an address on

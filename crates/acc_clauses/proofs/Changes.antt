@@ -5,9 +5,8 @@ use Rattle.std.proofs.Common.{ℕ, ◌≡◌, ◌+◌, ◌≤◌, refl, sym, ◌
 use Rattle.acc_base.specs.Records.{State}
 use Rattle.acc_present.specs.Present as present
 use Rattle.acc_queues.specs.Queued.{spare_at}
-use Rattle.acc_clauses.specs.declared.numbers.Numbers.{Numbers}
 use Rattle.acc_clauses.specs.declared.environments.Environment.{Environment}
-use Rattle.acc_clauses.specs.Contents.{WithHost, beside, state_of, room_of, ArePartsSound}
+use Rattle.acc_clauses.specs.Contents.{bare_numbers, bare_state, Numbers, WithHost, beside, state_of, room_of, ArePartsSound}
 use Rattle.acc_clauses.specs.Acts.{IsRoomLeft, IsChangedBy}
 use Rattle.acc_base.specs.Limits.{Limits}
 use Rattle.acc_base.specs.Accounts.{AreRecordsSound, AreMemoriesSized}
@@ -48,13 +47,12 @@ pub both : (f g h : State → State) (bs cs ds : List ℕ) (m n k : ℕ) (u v w 
 both f g h bs cs ds m n k u v w x y z whole births pointers puts a b = grind (arith, nat_tests, append_assoc, length-append)
 
 -- the parts are sound after a change that keeps the records and the memories sound, and the loans
-pub changed_sound : (l : Limits) (change : State → State) (bs : List ℕ) (m : ℕ) (u : ℕ → ℕ) (x y : WithHost) (next : Numbers) → ArePartsSound l x next → IsChangedBy change bs m u x y
-    → AreRecordsSound l (change (state_of x next)).records → AreMemoriesSized l (change (state_of x next)) → (change (state_of x next)).records.loans ≡ x.device.loans → ArePartsSound l y next
-changed_sound l change bs m u x y next sound done records memories loans = record {
+pub changed_sound : (l : Limits) (change : State → State) (bs : List ℕ) (m : ℕ) (u : ℕ → ℕ) (x y : WithHost) (lent : ℕ) → ArePartsSound l x lent → IsChangedBy change bs m u x y
+    → AreRecordsSound l (change (bare_state x)).records → AreMemoriesSized l (change (bare_state x)) → (change (bare_state x)).records.loans ≡ x.device.loans → ArePartsSound l y lent
+changed_sound l change bs m u x y lent sound done records memories loans = record {
   bounds = sound.bounds;
   sized = record { counters = done.counter_max ∙ sound.sized.counters; device = done.memory ∙ sound.sized.device; pointers = done.pointer_max ∙ sound.sized.pointers; queues = done.queue_cap ∙ sound.sized.queues };
-  sound = record { records = subst (λ (s : State). AreRecordsSound l s.records) (sym (done.state next)) records; memories = subst (AreMemoriesSized l) (sym (done.state next)) memories };
+  sound = record { records = subst (λ (s : State). AreRecordsSound l s.records) (sym (done.state bare_numbers)) records; memories = subst (AreMemoriesSized l) (sym (done.state bare_numbers)) memories };
   marked = done.marked;
-  lent = sound.lent ∙ ap length (sym (ap (λ (s : State). s.records.loans) (done.state next) ∙ loans));
-  few = sound.few;
+  lent = sound.lent ∙ ap length (sym (ap (λ (s : State). s.records.loans) (done.state bare_numbers) ∙ loans));
 }

@@ -25,7 +25,9 @@ use Rattle.acc_base.proofs.Sound.{ranges-drained}
 use Rattle.acc_base.proofs.AllTasks.{sum_by-reverse}
 use Rattle.acc_base.proofs.LegalEvents.{open_left}
 use Rattle.acc_base.proofs.Registers.{IsNumbered, AreFew, next_region, opened_regions, opened_few, closed_few, closed_held}
-use Rattle.acc_clauses.specs.Planned.{Planned, IsPlanOf, holdings_by, register_by, finished}
+use Rattle.acc_base.proofs.Loaned.{loans-act_all}
+use Rattle.acc_clauses.specs.Planned.{Planned, IsPlanOf, holdings_by, register_by, finished, steps_by}
+use Rattle.acc_clauses.proofs.Emptying.{same_loans}
 use Rattle.acc_clauses.specs.Contents.{Contents}
 use Rattle.acc_clauses.specs.Acts.{IsKnown, AreKnown, HasRegionRoom, regions_entered, CanFinish}
 use Rattle.acc_clauses.specs.Stored.{IsHoldingWithin, AreHoldingsWithin, IsStoreSound}
@@ -122,6 +124,16 @@ few_with_plan d c p h planned =
     let short : length (holdings_by p.tasks p.dids) ≤ 64 = omega (arith, holdings_few p.tasks p.dids, planned.few) in
     by_register AreFew d (holdings_by p.tasks p.dids) c.state.register few (λ device items is. opened_few (holdings_by p.tasks p.dids) c.state.register (numbered_of c h) few short) (λ number. closed_few number c.state.register few)
 
+-- fewer blocks are lent than the number of the next loan
+few_lent : (d : Directive) (c : Contents) (p : Planned) → IsStoreSound c → length (finished d p (act_all_state p.tasks p.dids c.state)).records.loans < (finished d p (act_all_state p.tasks p.dids c.state)).register.serial
+few_lent d c p h =
+    let s : State = act_all_state p.tasks p.dids c.state in
+    let n : ℕ = length s.records.loans in
+    let loans : s.records.loans ≡ c.state.records.loans = ap (λ (w : Records). w.loans) (records-act_all_state p.tasks p.dids c.state) ∙ loans-act_all p.tasks p.dids c.state.records in
+    let below : n < s.register.serial = rw (loans, register-act_all_state p.tasks p.dids c.state) h.few in
+    let after : n < (register_by d (holdings_by p.tasks p.dids) s.register).serial = by_register (λ g. n < g.serial) d (holdings_by p.tasks p.dids) s.register below (λ device items is. below) (λ number. below) in
+    rw (same_loans (steps_by d s.records.queues) s) after
+
 -- what open regions hold lies within after a plan
 within_after : (d : Directive) (c : Contents) (p : Planned) → IsWithinBounds c.limits → IsStoreSound c → IsPlanOf c.limits d c.state p
     → AreHoldingsWithin (act_all p.tasks p.dids c.state.records) (register_by d (holdings_by p.tasks p.dids) c.state.register).regions
@@ -180,6 +192,7 @@ made_sound d c f p e bounds h planned limits state used made =
     let P : State → Type 0 = λ s. AreHoldingsWithin s.records s.register.regions in
     event_sound l e [] c f bounds refl limits h (planned_legal l 0 d c.state p e planned made) (is.brought c.state.records) (state ∙ sym (after_plan l.full d p c.state e is))
     (subst AreFew (sym is.register) (few_with_plan d c p h planned))
+    (subst (λ (t : State). length t.records.loans < t.register.serial) (sym state) (few_lent d c p h))
     (subst (λ (m : Limits). used_bytes f.state.records.blocks ≤ m.device) limits used)
     (subst P (sym state) (within_finished d c p bounds h planned))
 

@@ -11,10 +11,8 @@ use Rattle.acc_dev.proofs.Crossing.{device_send}
 use Rattle.acc_host.specs.contracts.memories.HostMem as HostMem
 use Rattle.acc_base.specs.contracts.configs.Config as Config
 use Rattle.acc_clauses.specs.contracts.environments.Environment as Environment
-use Rattle.acc_clauses.specs.contracts.environments.Apart as Apart
-use Rattle.acc_clauses.specs.contracts.numbers.Numbers as Numbers
-use Rattle.acc_clauses.specs.contracts.parts.Parts as Parts
-use Rattle.acc_clauses.specs.contracts.parts.Parts.TheInside as inside
+use Rattle.acc_clauses.specs.contracts.devices.DeviceData as DeviceData
+use Rattle.acc_clauses.specs.contracts.devices.DeviceData.TheInside as inside
 use Rattle.acc_clauses.specs.contracts.spares.Spare as Spare
 use Rattle.acc_clauses.specs.contracts.stores.Store as Store
 use Rattle.acc_clauses.specs.contracts.bases.Base as Base
@@ -26,23 +24,17 @@ use Rattle.acc_clauses.specs.contracts.plans.Plan as Plan
 environment_send : IsSend (Environment.the_field).row
 environment_send = search (sendable, crosses, device_send, present_send, attached_send, queues_send) depth 60 fits 100000
 
-numbers_send : IsSend (Numbers.the_field).row
-numbers_send = search (sendable, crosses) depth 60 fits 100000
-
 pub config_send : IsSend Config.the_row
 config_send = search (sendable, crosses) depth 60 fits 100000
 
-parts_send : IsSend Parts.the_row
-parts_send = view_send _ _ _ _ _ (recorded_send inside.the_field.row _ _ inside.the_type.to_one (struct_send (shape inside.the_type) (as_row_send Config.the_field config_send, (search (sendable, crosses) depth 20, (environment_send, (as_row_send HostMem.the_field host_send, (numbers_send, tt)))))))
+device_data_send : IsSend DeviceData.the_row
+device_data_send = view_send _ _ _ _ _ (recorded_send inside.the_field.row _ _ inside.the_type.to_one (struct_send (shape inside.the_type) (as_row_send Config.the_field config_send, (search (sendable, crosses) depth 20, (environment_send, (search (sendable, crosses) depth 20, tt))))))
 
 pub store_send : IsSend Store.the_row
-store_send = search (sendable, crosses, parts_send) depth 60 fits 100000
-
-apart_send : IsSend (Apart.the_field).row
-apart_send = search (sendable, crosses, config_send, environment_send, numbers_send) depth 60 fits 100000
+store_send = search (sendable, crosses, host_send, device_data_send) depth 60 fits 100000
 
 pub spare_send : IsSend Spare.the_row
-spare_send = search (sendable, crosses, apart_send) depth 60 fits 100000
+spare_send = search (sendable, crosses, device_data_send) depth 60 fits 100000
 
 -- ---- what the devices of a table had, and a plan
 

@@ -26,8 +26,7 @@ use Rattle.acc_base.proofs.Memories.{lent_sized, gathered_sized}
 use Rattle.acc_base.proofs.LegalEvents.{lend_legal, IsGathered, gather_legal}
 use Rattle.acc_dev.specs.Marks.{is_ended_at, IsMarkOf}
 use Rattle.acc_dev.specs.Device.{DeviceState, number_at, HasBlock, IsTakenOut, IsPutBack}
-use Rattle.acc_clauses.specs.declared.numbers.Numbers.{Numbers}
-use Rattle.acc_clauses.specs.Contents.{WithHost, Contents, state_of, AreSizedBy, ArePartsSound}
+use Rattle.acc_clauses.specs.Contents.{Numbers, WithHost, Contents, state_of, bare_numbers, bare_state, AreSizedBy, ArePartsSound}
 use Rattle.acc_clauses.specs.Stored.{IsStoreSound, AreHoldingsWithin}
 use Rattle.acc_clauses.specs.Lending.{IsLoanPlanned, lent_state, gathered_state}
 use Rattle.acc_clauses.proofs.Changes.{state_from_parts}
@@ -46,14 +45,14 @@ record IsThere (blocks : List Block) (loan : Loan) (range : Range) : Type 0 wher
 loan_there : (l : Limits) (w : Records) (loan : Loan) → AreRecordsSound l w → (sound : IsLoanSound w.ranges loan) → IsThere w.blocks loan sound.range
 loan_there l w loan h sound = grind (arith, nat_tests, found_has)
 
-pub loan_has_block : (l : Limits) (x : WithHost) (n : Numbers) (loan : Loan) → ArePartsSound l x n → IsLoanSound x.present.table.ranges loan → HasBlock x.device loan.block
-loan_has_block l x n loan parts sound = grind (arith, nat_tests, loan_there l (state_of x n).records loan parts.sound.records sound)
+pub loan_has_block : (l : Limits) (x : WithHost) (n : ℕ) (loan : Loan) → ArePartsSound l x n → IsLoanSound x.present.table.ranges loan → HasBlock x.device loan.block
+loan_has_block l x n loan parts sound = grind (arith, nat_tests, loan_there l (bare_state x).records loan parts.sound.records sound)
 
-pub lend_mapped : (l : Limits) (x : WithHost) (n : Numbers) (loan : Loan) → ArePartsSound l x n → AllZip IsMarkOf x.device.marks x.device.blocks → IsLoanSound x.present.table.ranges loan → is_ended_at loan.block x.device.marks ≡ false
+pub lend_mapped : (l : Limits) (x : WithHost) (n : ℕ) (loan : Loan) → ArePartsSound l x n → AllZip IsMarkOf x.device.marks x.device.blocks → IsLoanSound x.present.table.ranges loan → is_ended_at loan.block x.device.marks ≡ false
 lend_mapped l x n loan parts zip sound = (told_by_mark x loan.block parts.marked zip (loan_has_block l x n loan parts sound)).ended ∙ ap is_none sound.mapped
 
-pub lend_within : (l : Limits) (x : WithHost) (n : Numbers) (loan : Loan) → ArePartsSound l x n → IsLoanSound x.present.table.ranges loan → loan.offset + loan.len ≤ len_of loan.block x.device.blocks
-lend_within l x n loan parts sound = grind (arith, nat_tests, loan_there l (state_of x n).records loan parts.sound.records sound)
+pub lend_within : (l : Limits) (x : WithHost) (n : ℕ) (loan : Loan) → ArePartsSound l x n → IsLoanSound x.present.table.ranges loan → loan.offset + loan.len ≤ len_of loan.block x.device.blocks
+lend_within l x n loan parts sound = grind (arith, nat_tests, loan_there l (bare_state x).records loan parts.sound.records sound)
 
 -- ---- the number of the device
 
@@ -66,12 +65,9 @@ number_told l x sized = ap (λ (m : Section). number_at m.start) sized.device �
 
 -- ---- the parts
 
--- the numbers after a loan, and after its end
+-- the numbers after a loan
 abbrev pub numbered_on : Numbers → Numbers
-numbered_on n = record { region = n.region; serial = n.serial + 1; lent = n.lent + 1 }
-
-abbrev pub numbered_off : Numbers → Numbers
-numbered_off n = record { region = n.region; serial = n.serial; lent = n.lent - 1 }
+numbered_on n = record { region = n.region; serial = n.serial + 1 }
 
 -- one loan more
 length-with : (new : Loan) (ls : List Loan) → length (with_loan new ls) ≡ length ls + 1
@@ -100,6 +96,10 @@ length-without block (l ∷ ls) rising lent = go (l.block == block) refl (length
         rw e (omega (arith, later))
     go false e rest = grind (arith, nat_tests, some_lent)
 
+pub length-without_most : (block : ℕ) (ls : List Loan) → length (without_loan block ls) ≤ length ls
+length-without_most block [] = omega arith
+length-without_most block (l ∷ ls) = grind (arith, nat_tests, length-without_most block ls)
+
 -- what is a lease's is some loan
 loan_some : (lease : Leased) (o : Option Loan) → is_loan_of lease o ≡ true → is_some o ≡ true
 loan_some lease o e = grind (arith, nat_tests)
@@ -111,24 +111,24 @@ returnable_lent full d lease s e = loan_some lease (loan_of lease.block s.record
 pub lent_is : (full : Bool) (x : WithHost) (n : Numbers) (d : DeviceState) (loan : Loan) → IsTakenOut x.device d loan full → state_of (record x { device = d }) (numbered_on n) ≡ lent_state full loan (state_of x n)
 lent_is full x n d loan out = state_from_parts (record x { device = d }) (numbered_on n) (lent_state full loan (state_of x n)) refl out.blocks refl out.births refl out.loans refl refl refl refl out.memories
 
-pub lent_parts : (l : Limits) (full : Bool) (x : WithHost) (n : Numbers) (d : DeviceState) (loan : Loan) → ArePartsSound l x n → is_lent loan.block x.device.loans ≡ false → IsLoanSound x.present.table.ranges loan → IsTakenOut x.device d loan full
-    → ArePartsSound l (record x { device = d }) (numbered_on n)
+pub lent_parts : (l : Limits) (full : Bool) (x : WithHost) (n : ℕ) (d : DeviceState) (loan : Loan) → ArePartsSound l x n → is_lent loan.block x.device.loans ≡ false → IsLoanSound x.present.table.ranges loan → IsTakenOut x.device d loan full
+    → ArePartsSound l (record x { device = d }) (n + 1)
 lent_parts l full x n d loan parts free sound out =
-    let s : State = state_of x n in
+    let s : State = bare_state x in
     let records : AreRecordsSound l (lent_state full loan s).records = with_loans l s.records (with_loan loan s.records.loans) parts.sound.records (loans-with s.records.ranges loan s.records.loans free sound parts.sound.records.loans) in
     let memories : AreMemoriesSized l (lent_state full loan s) = record { host = parts.sound.memories.host; blocks = lent_sized loan (recorded full) s.records.loans s.memories s.records.blocks parts.sound.memories.blocks } in
-    let is : state_of (record x { device = d }) (numbered_on n) ≡ lent_state full loan s = lent_is full x n d loan out in
+    let is : state_of (record x { device = d }) (numbered_on bare_numbers) ≡ lent_state full loan s = lent_is full x bare_numbers d loan out in
+    let sized : AreMemoriesSized l (state_of (record x { device = d }) (numbered_on bare_numbers)) = subst (AreMemoriesSized l) (sym is) memories in
     record {
       bounds = parts.bounds;
       sized = record { counters = parts.sized.counters; device = out.memory ∙ parts.sized.device; pointers = parts.sized.pointers; queues = parts.sized.queues };
-      sound = record { records = subst (λ (t : State). AreRecordsSound l t.records) (sym is) records; memories = subst (AreMemoriesSized l) (sym is) memories };
+      sound = record { records = subst (λ (t : State). AreRecordsSound l t.records) (sym is) records; memories = record { host = sized.host; blocks = sized.blocks } };
       marked = rw out.marks parts.marked;
       lent = ap (λ k. k + 1) parts.lent ∙ (sym (length-with loan x.device.loans) ∙ ap length (sym out.loans));
-      few = omega (arith, parts.few);
     }
 
-pub gathered_is : (x : WithHost) (n : Numbers) (d : DeviceState) (lease : Leased) → IsPutBack x.device d lease → state_of (record x { device = d }) (numbered_off n) ≡ gathered_state lease (state_of x n)
-gathered_is x n d lease back = state_from_parts (record x { device = d }) (numbered_off n) (gathered_state lease (state_of x n)) refl back.blocks refl back.births refl back.loans refl refl refl refl back.memories
+pub gathered_is : (x : WithHost) (n : Numbers) (d : DeviceState) (lease : Leased) → IsPutBack x.device d lease → state_of (record x { device = d }) n ≡ gathered_state lease (state_of x n)
+gathered_is x n d lease back = state_from_parts (record x { device = d }) n (gathered_state lease (state_of x n)) refl back.blocks refl back.births refl back.loans refl refl refl refl back.memories
 
 -- a lease that a block fits is gathered
 pub gather_is : (l : Limits) (lease : Leased) (s : State) → is_returnable l.full l.number lease s.records.blocks s.records.loans s.memories ≡ true → gather_event l lease s ≡ Ok (gathered l.full lease)
@@ -139,20 +139,19 @@ pub returnable : (l : Limits) (lease : Leased) (s : State) (e : Event) → gathe
 unfolding gather_event
 returnable l lease s e h = not_false _ (refused_not _ _ (then_ok (refuse_if (not (is_returnable l.full l.number lease s.records.blocks s.records.loans s.memories)) (NoLease lease.serial)) (Ok (gathered l.full lease)) e h).0)
 
-pub gathered_parts : (l : Limits) (x : WithHost) (n : Numbers) (d : DeviceState) (lease : Leased) → ArePartsSound l x n → is_returnable l.full l.number lease x.device.blocks x.device.loans x.device.memories ≡ true → IsPutBack x.device d lease → ArePartsSound l (record x { device = d }) (numbered_off n)
+pub gathered_parts : (l : Limits) (x : WithHost) (n : ℕ) (d : DeviceState) (lease : Leased) → ArePartsSound l x n → is_returnable l.full l.number lease x.device.blocks x.device.loans x.device.memories ≡ true → IsPutBack x.device d lease → ArePartsSound l (record x { device = d }) (n - 1)
 gathered_parts l x n d lease parts fits back =
-    let s : State = state_of x n in
+    let s : State = bare_state x in
     let long : IsGathered l lease s (gathered l.full lease) = gather_legal l lease s (gathered l.full lease) parts.sound.records (gather_is l lease s fits) in
     let records : AreRecordsSound l (gathered_state lease s).records = with_loans l s.records (without_loan lease.block s.records.loans) parts.sound.records (loans-without s.records.ranges lease.block s.records.loans parts.sound.records.loans) in
     let memories : AreMemoriesSized l (gathered_state lease s) = record { host = parts.sound.memories.host; blocks = gathered_sized lease.block lease.bytes s.records.loans s.memories s.records.blocks long.fits parts.sound.memories.blocks } in
-    let is : state_of (record x { device = d }) (numbered_off n) ≡ gathered_state lease s = gathered_is x n d lease back in
+    let is : bare_state (record x { device = d }) ≡ gathered_state lease s = gathered_is x bare_numbers d lease back in
     record {
       bounds = parts.bounds;
       sized = record { counters = parts.sized.counters; device = back.memory ∙ parts.sized.device; pointers = parts.sized.pointers; queues = parts.sized.queues };
       sound = record { records = subst (λ (t : State). AreRecordsSound l t.records) (sym is) records; memories = subst (AreMemoriesSized l) (sym is) memories };
       marked = rw back.marks parts.marked;
       lent = ap (λ k. k - 1) parts.lent ∙ (sym (length-without lease.block x.device.loans parts.sound.records.loans.rising (returnable_lent l.full l.number lease s fits)) ∙ ap length (sym back.loans));
-      few = omega (arith, parts.few);
     }
 
 -- ---- the store
@@ -181,13 +180,13 @@ gathered_after full lease s = refl
 pub lent_store : (region : ℕ) (section : Section) (c f : Contents) (loan : Loan) → IsWithinBounds c.limits → IsStoreSound c → IsLoanPlanned c.limits region section c.state loan → f.limits ≡ c.limits → f.state ≡ lent_state c.limits.full loan c.state → IsStoreSound f
 lent_store region section c f loan bounds h p limits is =
     let says : IsLendable c.limits region section c.state loan = planned_says c.limits region section c.state loan h.sound.layout.records p in
-    event_sound c.limits (Lent c.limits.number region section loan.block loan.serial) [] c f bounds refl limits h says.legal tt (is ∙ lent_after c.limits.full c.limits.number region section loan c.state p.loan_is) h.sound.layout.register.few
+    event_sound c.limits (Lent c.limits.number region section loan.block loan.serial) [] c f bounds refl limits h says.legal tt (is ∙ lent_after c.limits.full c.limits.number region section loan c.state p.loan_is) h.sound.layout.register.few (subst (λ (t : State). length t.records.loans < t.register.serial) (sym is) (omega (arith, length-with loan c.state.records.loans, h.few)))
     (subst (λ (t : State). used_bytes t.records.blocks ≤ c.limits.device) (sym is) h.sound.bytes_accounted)
     (subst (λ (t : State). AreHoldingsWithin t.records t.register.regions) (sym is) (holdings_same c.state.records (lent_state c.limits.full loan c.state).records c.state.register.regions refl refl h.holdings))
 
 pub gathered_store : (c f : Contents) (lease : Leased) → IsWithinBounds c.limits → IsStoreSound c → gather_event c.limits lease c.state ≡ Ok (gathered c.limits.full lease) → f.limits ≡ c.limits → f.state ≡ gathered_state lease c.state → IsStoreSound f
 gathered_store c f lease bounds h fits limits is =
     let says : IsGathered c.limits lease c.state (gathered c.limits.full lease) = gather_legal c.limits lease c.state (gathered c.limits.full lease) h.sound.layout.records fits in
-    event_sound c.limits (gathered c.limits.full lease) lease.bytes c f bounds refl limits h says.legal says.fits (is ∙ gathered_after c.limits.full lease c.state) h.sound.layout.register.few
+    event_sound c.limits (gathered c.limits.full lease) lease.bytes c f bounds refl limits h says.legal says.fits (is ∙ gathered_after c.limits.full lease c.state) h.sound.layout.register.few (subst (λ (t : State). length t.records.loans < t.register.serial) (sym is) (omega (arith, length-without_most lease.block c.state.records.loans, h.few)))
     (subst (λ (t : State). used_bytes t.records.blocks ≤ c.limits.device) (sym is) h.sound.bytes_accounted)
     (subst (λ (t : State). AreHoldingsWithin t.records t.register.regions) (sym is) (holdings_same c.state.records (gathered_state lease c.state).records c.state.register.regions refl refl h.holdings))

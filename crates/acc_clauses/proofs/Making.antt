@@ -14,8 +14,7 @@ use Rattle.acc_base.proofs.Queued.{all-at, head_first}
 use Rattle.acc_base.proofs.Sound.{stepped_sound}
 use Rattle.acc_base.proofs.Walked.{records-drained}
 use Rattle.acc_base.proofs.Memories.{drained_sized}
-use Rattle.acc_clauses.specs.declared.numbers.Numbers.{Numbers}
-use Rattle.acc_clauses.specs.Contents.{WithHost, state_of, ArePartsSound}
+use Rattle.acc_clauses.specs.Contents.{WithHost, ArePartsSound, bare_state}
 use Rattle.acc_clauses.specs.Acts.{CanStep, IsSteppedBy}
 use Rattle.acc_clauses.proofs.Emptying.{same_loans}
 use Rattle.acc_clauses.proofs.Moving.{bytes_of-len}
@@ -29,8 +28,8 @@ use Rattle.acc_clauses.proofs.Changes.{changed_sound}
 first_has : (P : Transfer → Type 0) (q : ℕ) (t : Transfer) (queues : List (List Transfer)) → head_of q queues ≡ Some t → AllByRecursion (AllByRecursion P) queues → P t
 first_has P q t queues e h = grind (arith, nat_tests, head_first, all-at)
 
-pub can_step : (l : Limits) (x : WithHost) (next : Numbers) (q : ℕ) → IsWithinBounds l → none_lent (take 1 (queue_at q x.queues.queues)) x.device.loans ≡ Ok tt → ArePartsSound l x next → CanStep q x
-can_step l x next q bounds free sound t e = grind (arith, nat_tests, first_has (IsTransferSound l x.device.blocks) q t x.queues.queues e sound.sound.records.queues.transfers, host_end, is_some, bytes_of-len)
+pub can_step : (l : Limits) (x : WithHost) (lent : ℕ) (q : ℕ) → IsWithinBounds l → none_lent (take 1 (queue_at q x.queues.queues)) x.device.loans ≡ Ok tt → ArePartsSound l x lent → CanStep q x
+can_step l x lent q bounds free sound t e = grind (arith, nat_tests, first_has (IsTransferSound l x.device.blocks) q t x.queues.queues e sound.sound.records.queues.transfers, host_end, is_some, bytes_of-len)
 
 -- ---- after it
 
@@ -43,7 +42,7 @@ step_loans : (q : ℕ) (s : State) → (stepped q s).records.loans ≡ s.records
 unfolding drained
 step_loans q s = same_loans (q ∷ []) s
 
-pub stepped_parts : (l : Limits) (x y : WithHost) (next : Numbers) (q : ℕ) → ArePartsSound l x next → IsSteppedBy q x y → ArePartsSound l y next
-stepped_parts l x y next q sound done =
-    let after = step_sound l q (state_of x next) sound.sound.records sound.sound.memories in
-    changed_sound l (stepped q) _ _ _ x y next sound done after.0 after.1 (step_loans q (state_of x next))
+pub stepped_parts : (l : Limits) (x y : WithHost) (lent q : ℕ) → ArePartsSound l x lent → IsSteppedBy q x y → ArePartsSound l y lent
+stepped_parts l x y lent q sound done =
+    let after = step_sound l q (bare_state x) sound.sound.records sound.sound.memories in
+    changed_sound l (stepped q) _ _ _ x y lent sound done after.0 after.1 (step_loans q (bare_state x))

@@ -27,7 +27,6 @@ use Rattle.acc_base.proofs.Aimed.{leave_sound, exit_sound, move_sound, says_aime
 use Rattle.acc_base.proofs.Walked.{records-act_state}
 use Rattle.acc_base.proofs.Loaned.{loans-act}
 use Rattle.acc_base.proofs.Memories.{step_sized, aimed_sized, act_sized}
-use Rattle.acc_clauses.specs.declared.numbers.Numbers.{Numbers}
 use Rattle.acc_clauses.specs.Contents.{WithHost, state_of, AreSizedBy, ArePartsSound, bare_state}
 use Rattle.acc_clauses.specs.Acts.{IsJudged, IsMappedAround, IsKnown, CanMove, CanAct, CanAim, CanEnter, CanLeave, CanQueue, CanDo, IsDoneBy}
 use Rattle.acc_clauses.proofs.Legal.{mapped_around, can_move, can_by}
@@ -134,9 +133,9 @@ can_of l x (ExitData finalize item queue) did sized h = can_leave l x (ExitData 
 can_of l x (Move if_present item queue) did sized h = can_leave l x (Move if_present item queue) did sized h
     (subst (λ a. CanAim l.counter_max a (bare_state x)) (sym h.judged.aim) tt) (move_sound l if_present item queue did (bare_state x).records h.sound h.judged.aim)
 
-pub can_do : (l : Limits) (x : WithHost) (next : Numbers) (task : Task) (did : Did) → IsWithinBounds l → ArePartsSound l x next → x.device.births < 2 ^ 48
-    → IsKnown (state_of x next).records task → IsJudged l task did (state_of x next).records → CanDo x task did
-can_do l x next task did bounds sound few known judged = search can_of
+pub can_do : (l : Limits) (x : WithHost) (lent : ℕ) (task : Task) (did : Did) → IsWithinBounds l → ArePartsSound l x lent → x.device.births < 2 ^ 48
+    → IsKnown (bare_state x).records task → IsJudged l task did (bare_state x).records → CanDo x task did
+can_do l x lent task did bounds sound few known judged = search can_of
 
 -- ---- what a task leaves
 
@@ -148,7 +147,8 @@ done_sound l s task did bounds h m judged = (
   act_sized l task did s m,
 )
 
-pub parts_sound : (l : Limits) (x y : WithHost) (next : Numbers) (task : Task) (did : Did) → IsWithinBounds l → ArePartsSound l x next → IsJudged l task did (state_of x next).records → IsDoneBy task did x y → ArePartsSound l y next
-parts_sound l x y next task did bounds sound judged done =
-    let after = done_sound l (state_of x next) task did bounds sound.sound.records sound.sound.memories judged in
-    changed_sound l (act_state task did) _ _ _ x y next sound done after.0 after.1 (ap (λ (w : Records). w.loans) (records-act_state task did (state_of x next)) ∙ loans-act task did (state_of x next).records)
+pub parts_sound : (l : Limits) (x y : WithHost) (lent : ℕ) (task : Task) (did : Did) → ArePartsSound l x lent → IsJudged l task did (bare_state x).records → IsDoneBy task did x y → ArePartsSound l y lent
+parts_sound l x y lent task did sound judged done =
+    let s : State = bare_state x in
+    let after = done_sound l s task did sound.bounds sound.sound.records sound.sound.memories judged in
+    changed_sound l (act_state task did) _ _ _ x y lent sound done after.0 after.1 (ap (λ (w : Records). w.loans) (records-act_state task did s) ∙ loans-act task did s.records)

@@ -18,8 +18,7 @@ use Rattle.acc_base.proofs.Counting.{with_same, with_new}
 use Rattle.acc_base.proofs.Memories.{recounted-block}
 use Rattle.acc_present.specs.Present.{PresentTable, PresentState, with_ranges}
 use Rattle.acc_present.specs.Present as present
-use Rattle.acc_clauses.specs.declared.numbers.Numbers.{Numbers}
-use Rattle.acc_clauses.specs.Contents.{WithHost, AreMarked, state_of}
+use Rattle.acc_clauses.specs.Contents.{Numbers, WithHost, AreMarked, state_of}
 use Rattle.acc_clauses.specs.Overlays.{puts_by}
 use Rattle.acc_clauses.specs.Acts.{IsChangedBy, IsActedBy}
 use Rattle.acc_clauses.proofs.Changes.{state_from_parts, room_same}

@@ -31,9 +31,8 @@ use Rattle.acc_host.specs.Host.{bytes_in}
 use Rattle.acc_dev.specs.Device.{DeviceState, birth_place}
 use Rattle.acc_dev.specs.Marks.{new_mark}
 use Rattle.acc_queues.specs.Queued.{QueuesState, spare_at}
-use Rattle.acc_clauses.specs.declared.numbers.Numbers.{Numbers}
 use Rattle.acc_clauses.specs.Planned.{Planned, holdings_by}
-use Rattle.acc_clauses.specs.Contents.{Room, Contents, state_of, room_of, AreMarked, bare_state, WithHost}
+use Rattle.acc_clauses.specs.Contents.{Numbers, Room, Contents, state_of, room_of, AreMarked, bare_state, WithHost}
 use Rattle.acc_clauses.specs.Overlays.{is_queue, puts_by, puts_in}
 
 -- ---- what is known of a task

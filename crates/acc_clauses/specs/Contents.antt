@@ -1,4 +1,4 @@
--- What contracts see of a store and of its parts: the limits, the state, and the room for more.
+-- What contracts see of a store: the limits, the state, and the room for more. And what holds of the parts of a device.
 use Rattle.std.specs.Prelude.{ℕ, ◌≡◌, ◌<◌, List, is_none, length}
 use Rattle.std.specs.List.{AllByRecursion}
 use Rattle.acc_clauses.specs.Words.{Range, Transfer}
@@ -14,7 +14,6 @@ use Rattle.acc_present.specs.Present.{PresentState}
 use Rattle.acc_attach.specs.Attached.{AttachedState}
 use Rattle.acc_queues.specs.Queued.{QueuesState}
 use Rattle.acc_clauses.specs.declared.environments.Environment.{Environment}
-use Rattle.acc_clauses.specs.declared.numbers.Numbers.{Numbers}
 
 -- what can be added without allocating: births of blocks of these lengths, in this order; so many ranges, regions and
 -- attachment counters. And so many holdings of the next region, and so many transfers in each queue
@@ -46,6 +45,11 @@ pub record WithHost : Type 0 where
 abbrev pub beside : Environment → List ℕ → WithHost
 beside x host = record { present = x.present; device = x.device; host = host; attached = x.attached; queues = x.queues }
 
+-- the number of the next region and the serial number of the next loan
+pub record Numbers : Type 0 where
+  pub region : ℕ
+  pub serial : ℕ
+
 -- the state of the parts, with the numbers of the next region and the next loan
 abbrev pub state_of : WithHost → Numbers → State
 state_of x next = record {
@@ -57,7 +61,7 @@ state_of x next = record {
 
 -- the state of the parts, whatever region or loan comes next
 abbrev pub bare_numbers : Numbers
-bare_numbers = record { region = 0; serial = 0; lent = 0 }
+bare_numbers = record { region = 0; serial = 0 }
 
 abbrev pub bare_state : WithHost → State
 bare_state x = state_of x bare_numbers
@@ -65,9 +69,6 @@ bare_state x = state_of x bare_numbers
 -- and their room
 abbrev pub room_of : WithHost → Room
 room_of x = record { births = x.device.room; ranges = x.present.room.ranges; regions = x.present.room.regions; holdings = x.present.room.holdings; attachments = x.attached.spare; puts = x.queues.spare }
-
-abbrev pub contents_of : Limits → WithHost → Numbers → Contents
-contents_of l x next = record { limits = l; state = state_of x next; room = room_of x }
 
 -- the parts have the sizes that the limits say
 pub record AreSizedBy (l : Limits) (x : WithHost) : Type 0 where
@@ -86,19 +87,17 @@ abbrev pub AreMarked : WithHost → Type 0
 AreMarked x = AllByRecursion (IsMarkRight x.present.table.ranges x.queues.queues) x.device.marks
 
 -- what each step of a directive keeps: records that are sound, and memories in step with them
-pub record AreContentsSound (c : Contents) : Type 0 where
-  pub records : AreRecordsSound c.limits c.state.records
-  pub memories : AreMemoriesSized c.limits c.state
+pub record IsStateSound (l : Limits) (s : State) : Type 0 where
+  pub records : AreRecordsSound l s.records
+  pub memories : AreMemoriesSized l s
 
--- the limits lie within their bounds, the parts fit one another, and the state is sound. The lent blocks are counted:
--- they are fewer than the number of the next loan
-pub record ArePartsSound (l : Limits) (x : WithHost) (next : Numbers) : Type 0 where
+-- the limits lie within their bounds, the parts fit one another, the state is sound, and the lent blocks are counted
+pub record ArePartsSound (l : Limits) (x : WithHost) (n : ℕ) : Type 0 where
   pub bounds : IsWithinBounds l
   pub sized : AreSizedBy l x
-  pub sound : AreContentsSound (contents_of l x next)
+  pub sound : IsStateSound l (bare_state x)
   pub marked : AreMarked x
-  pub lent : next.lent ≡ length x.device.loans
-  pub few : next.lent < next.serial
+  pub lent : n ≡ length x.device.loans
 
 -- nothing is mapped, no region is open, and host memory is zero
 pub record AreNew (l : Limits) (c : Contents) : Type 0 where

@@ -4,8 +4,7 @@ pub mod Overlays
 pub mod Planned
 pub mod Acts
 pub mod Stored
-pub mod Views
-pub mod Spares
+pub mod Devices
 pub mod Lending
 pub mod Copies
 pub mod Aims

@@ -1,5 +1,5 @@
 -- What holds of every store.
-use Rattle.std.specs.Prelude.{ℕ, ◌≡◌, ◌≤◌, true, List, Some}
+use Rattle.std.specs.Prelude.{ℕ, ◌≡◌, ◌<◌, ◌≤◌, true, List, Some, length}
 use Rattle.std.specs.List.{AllByRecursion}
 use Rattle.acc_clauses.specs.Words.{Section, Range, Holding}
 use Rattle.acc_base.specs.Section.{is_within}
@@ -22,7 +22,9 @@ IsHoldingWithin w h = (block : ℕ) → h.block ≡ Some block → IsHeldWithin 
 abbrev pub AreHoldingsWithin : Records → List Region → Type 0
 AreHoldingsWithin w regions = AllByRecursion (λ (r : Region). AllByRecursion (IsHoldingWithin w) r.holdings) regions
 
--- the state is sound, and what open regions hold lies in the ranges that they counted
+-- the state is sound, and what open regions hold lies in the ranges that they counted. Fewer blocks are lent than the
+-- number of the next loan
 pub record IsStoreSound (c : Contents) : Type 0 where
   pub sound : IsSound c.limits c.state
+  pub few : length c.state.records.loans < c.state.register.serial
   pub holdings : AreHoldingsWithin c.state.records c.state.register.regions

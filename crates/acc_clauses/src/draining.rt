@@ -4,36 +4,43 @@ ghost use Rattle.std.specs.Prelude.{◌≡◌, length, replicate, Ok};
 ghost use Rattle.acc_base.specs.Loans.{none_lent};
 ghost use Rattle.acc_base.specs.Queues.{queue_at};
 ghost use Rattle.acc_base.specs.Waits.{steps_of, transfers_of, drained};
+ghost use Rattle.acc_clauses.specs.Contents.{Numbers};
+ghost use Rattle.acc_clauses.specs.Devices.{state_beside};
 
-use crate::parts::Parts;
+use crate::devices::DeviceData;
 use acc_base::QUEUE_COUNT;
+use acc_host::HostMem;
 
 // Makes the transfers of one queue until it is empty. None is of a block that is lent.
-fn drain_queue(parts: &mut Parts, q: u64)
-    requires free { none_lent (queue_at q parts.old.state.records.queues) parts.old.state.records.loans ≡ Ok tt }
-    ensures limits { parts.new.limits ≡ parts.old.limits }
-    ensures state { parts.new.state ≡ drained (replicate (length (queue_at q parts.old.state.records.queues)) q) parts.old.state }
+fn drain_queue(device: &mut DeviceData, host: &mut HostMem, q: u64)
+    requires host { length host.old ≡ device.old.limits.host }
+    requires free { none_lent (queue_at q device.old.device.records.queues) device.old.device.records.loans ≡ Ok tt }
+    ensures limits { device.new.limits ≡ device.old.limits }
+    ensures host { length host.new ≡ length host.old }
+    ensures state { (n : Numbers) → state_beside device.new.device host.new n ≡ drained (replicate (length (queue_at q device.old.device.records.queues)) q) (state_beside device.old.device host.old n) }
 {
-    let count = parts.queue_len(q);
+    let count = device.view(host, 0, 0).queue_len(q);
     for _ in 0..count {
-        parts.step(q);
+        device.step(host, q);
     }
 }
 
 /// Makes the transfers of a queue, or those of all queues from the first to the last. None is of a block that is lent.
 /// It allocates nothing.
-pub fn drain(parts: &mut Parts, queue: Option<u64>)
-    requires free { none_lent (transfers_of queue parts.old.state.records.queues) parts.old.state.records.loans ≡ Ok tt }
-    ensures limits { parts.new.limits ≡ parts.old.limits }
-    ensures state { parts.new.state ≡ drained (steps_of queue parts.old.state.records.queues) parts.old.state }
+pub(crate) fn drain(device: &mut DeviceData, host: &mut HostMem, queue: Option<u64>)
+    requires host { length host.old ≡ device.old.limits.host }
+    requires free { none_lent (transfers_of queue device.old.device.records.queues) device.old.device.records.loans ≡ Ok tt }
+    ensures limits { device.new.limits ≡ device.old.limits }
+    ensures host { length host.new ≡ length host.old }
+    ensures state { (n : Numbers) → state_beside device.new.device host.new n ≡ drained (steps_of queue device.old.device.records.queues) (state_beside device.old.device host.old n) }
 {
     match queue {
-        Some(q) => drain_queue(parts, q),
+        Some(q) => drain_queue(device, host, q),
         None => {
             for q in 0..QUEUE_COUNT {
-                drain_queue(parts, q);
+                drain_queue(device, host, q);
             }
-            parts.laws();
+            device.laws();
         }
     }
 }

@@ -3,9 +3,8 @@
 ghost use Rattle.std.specs.Prelude.{◌≡◌, ◌<◌, IfOk, IfErr};
 ghost use Rattle.acc_base.specs.declared.faults.Fault.TheVariants.{Memory};
 ghost use Rattle.acc_base.specs.Limits.{limits_on};
-ghost use Rattle.acc_clauses.specs.Spares.{IsNewEnvironment};
+ghost use Rattle.acc_clauses.specs.Devices.{IsNewEnvironment};
 
-use crate::numbers::Numbers;
 use acc_attach::Attached;
 use acc_base::{Config, Fault};
 use acc_dev::Device;
@@ -25,16 +24,6 @@ pub(crate) struct Environment {
     pub(crate) attached: Attached,
     /// The transfers that are yet to be made.
     pub(crate) queues: Queues,
-}
-
-/// An environment apart from host memory, with the limits of its table and the number of its device. Beside these it
-/// has the numbers of the next region and the next loan when it was set apart.
-#[derive(Drop)]
-pub(crate) struct Apart {
-    pub(crate) config: Config,
-    pub(crate) number: u64,
-    pub(crate) environment: Environment,
-    pub(crate) numbers: Numbers,
 }
 
 impl Environment {

@@ -12,20 +12,20 @@ use crate::acted::Acted;
 use crate::aims::{aim_before, attach};
 use crate::drafts::Draft;
 use crate::judging::{judge_row, step_free};
-use crate::parts::Parts;
 use crate::readings::found_after;
 use crate::rows::{pointer_aimed, section_of};
+use crate::views::View;
 use acc_base::{Aim, Did, Fault, Step, Task};
 
 // Adds an entry whose step is judged. Its pointer is attached in what the step leaves.
-fn enter(parts: &Parts, draft: &mut Draft, n: u64, task: Task, step: Step) -> Result<(), Fault>
+fn enter(view: &View<'_>, draft: &mut Draft, n: u64, task: Task, step: Step) -> Result<(), Fault>
     requires entry { enters task ≡ true }
-    requires step { judge_step parts.now.limits n task (records_after draft.old parts.now.state.records) ≡ Ok step }
-    requires planned { IsPlanned parts.now.limits draft.old parts.now.state.records }
+    requires step { judge_step view.now.limits n task (records_after draft.old view.now.state.records) ≡ Ok step }
+    requires planned { IsPlanned view.now.limits draft.old view.now.state.records }
     requires unmixed { AreUnmixed (tasks_in draft.old ++ task ∷ []) }
     requires place { n ≡ length draft.old }
     requires few { n < 64 }
-    ensures { MatchResult result (λ _. IsJudgedNext parts.now.limits n task parts.now.state draft.old draft.new) (λ fault. judge_task parts.now.limits n task (state_after draft.old parts.now.state) ≡ Err fault) }
+    ensures { MatchResult result (λ _. IsJudgedNext view.now.limits n task view.now.state draft.old draft.new) (λ fault. judge_task view.now.limits n task (state_after draft.old view.now.state) ≡ Err fault) }
 {
     let did = Did {
         step,
@@ -33,28 +33,28 @@ fn enter(parts: &Parts, draft: &mut Draft, n: u64, task: Task, step: Step) -> Re
     };
     draft.push(Acted { task, did });
     if let Some(pointer) = pointer_aimed(task, step) {
-        let aim = attach(parts, draft, n, pointer)?;
+        let aim = attach(view, draft, n, pointer)?;
         draft.aim(aim);
     }
     Ok(())
 }
 
 /// Judges the task of the item at place `n` after those before it, and adds it to them.
-pub(crate) fn judge(parts: &Parts, draft: &mut Draft, n: u64, task: Task) -> Result<(), Fault>
-    requires planned { IsPlanned parts.now.limits draft.old parts.now.state.records }
+pub(crate) fn judge(view: &View<'_>, draft: &mut Draft, n: u64, task: Task) -> Result<(), Fault>
+    requires planned { IsPlanned view.now.limits draft.old view.now.state.records }
     requires unmixed { AreUnmixed (tasks_in draft.old ++ task ∷ []) }
-    requires births { parts.now.state.records.births < 2 ^ 48 }
+    requires births { view.now.state.records.births < 2 ^ 48 }
     requires queue { queue_named (queue_of task) ≡ Ok tt }
     requires place { n ≡ length draft.old }
     requires few { n < 64 }
-    ensures { MatchResult result (λ _. IsJudgedNext parts.now.limits n task parts.now.state draft.old draft.new) (λ fault. judge_task parts.now.limits n task (state_after draft.old parts.now.state) ≡ Err fault) }
+    ensures { MatchResult result (λ _. IsJudgedNext view.now.limits n task view.now.state draft.old draft.new) (λ fault. judge_task view.now.limits n task (state_after draft.old view.now.state) ≡ Err fault) }
 {
-    let found = found_after(parts, draft, section_of(task));
-    let step = judge_row(parts, draft, n, task, found)?;
-    let aim = aim_before(parts, draft, task, step);
-    step_free(parts, draft, task, step, aim)?;
+    let found = found_after(view, draft, section_of(task));
+    let step = judge_row(view, draft, n, task, found)?;
+    let aim = aim_before(view, draft, task, step);
+    step_free(view, draft, task, step, aim)?;
     if let Task::Enter { .. } = task {
-        return enter(parts, draft, n, task, step);
+        return enter(view, draft, n, task, step);
     }
     let did = Did { step, aim };
     draft.push(Acted { task, did });

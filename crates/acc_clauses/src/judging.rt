@@ -19,10 +19,10 @@ ghost use Rattle.acc_clauses.specs.Overlays.{IsPlanned, AreUnmixed, tasks_in, re
 use crate::drafts::Draft;
 use crate::effects::{are_zero, recount};
 use crate::lending::not_lent;
-use crate::parts::Parts;
 use crate::readings::{counters_after, number_after, place_after, queue_len_after};
 use crate::rows::{moves, pointer_of, queue_of, section_of};
 use crate::sections::{POINTER_LEN, pointer_at};
+use crate::views::View;
 use acc_base::{
     Aim, Counter, Counters, ExitClause, Fault, Found, HOST_BASE, Holding, Item, RegionClause,
     Section, Step, Task, UpdateClause,
@@ -30,12 +30,12 @@ use acc_base::{
 use acc_placement::rounded;
 
 /// A section that is not empty lies in host memory. Nothing of an empty one is checked.
-pub(crate) fn in_host(parts: &Parts, n: u64, section: Section) -> Result<(), Fault>
-    ensures { result ≡ in_host parts.now.limits n section }
+pub(crate) fn in_host(view: &View<'_>, n: u64, section: Section) -> Result<(), Fault>
+    ensures { result ≡ in_host view.now.limits n section }
 {
     let host = Section {
         start: HOST_BASE,
-        len: parts.host_size(),
+        len: view.host_size(),
     };
     if section.len != 0 && !section.is_within(host) {
         return Err(Fault::OutOfHost { item: n });
@@ -44,15 +44,15 @@ pub(crate) fn in_host(parts: &Parts, n: u64, section: Section) -> Result<(), Fau
 }
 
 // The eight bytes of an item's pointer, if it names one, lie in host memory, from a multiple of eight on.
-fn pointer_checked(parts: &Parts, n: u64, pointer: Option<u64>) -> Result<(), Fault>
-    ensures { result ≡ pointer_checked parts.now.limits n pointer }
+fn pointer_checked(view: &View<'_>, n: u64, pointer: Option<u64>) -> Result<(), Fault>
+    ensures { result ≡ pointer_checked view.now.limits n pointer }
 {
     let Some(pointer) = pointer else {
         return Ok(());
     };
     let host = Section {
         start: HOST_BASE,
-        len: parts.host_size(),
+        len: view.host_size(),
     };
     if !pointer_at(pointer).is_within(host) {
         return Err(Fault::OutOfHost { item: n });
@@ -64,25 +64,25 @@ fn pointer_checked(parts: &Parts, n: u64, pointer: Option<u64>) -> Result<(), Fa
 }
 
 // Section and pointer of a task, if it names them, may stand there.
-fn checked(parts: &Parts, n: u64, task: Task) -> Result<(), Fault>
-    ensures { result ≡ checked parts.now.limits n task }
+fn checked(view: &View<'_>, n: u64, task: Task) -> Result<(), Fault>
+    ensures { result ≡ checked view.now.limits n task }
 {
-    in_host(parts, n, section_of(task))?;
-    pointer_checked(parts, n, pointer_of(task))
+    in_host(view, n, section_of(task))?;
+    pointer_checked(view, n, pointer_of(task))
 }
 
 // The section is mapped to a new block, where the device has a place for it.
 #[tactic(auto, using(crate::proofs::Laws::plan_laws))]
-fn born(parts: &Parts, draft: &Draft, n: u64, section: Section) -> Result<Step, Fault>
-    requires planned { IsPlanned parts.now.limits draft.now parts.now.state.records }
+fn born(view: &View<'_>, draft: &Draft, n: u64, section: Section) -> Result<Step, Fault>
+    requires planned { IsPlanned view.now.limits draft.now view.now.state.records }
     requires entering { list_all enters (tasks_in draft.now) ≡ true }
-    requires births { parts.now.state.records.births < 2 ^ 48 }
+    requires births { view.now.state.records.births < 2 ^ 48 }
     requires len { IsFromOne MEMORY_MAX section.len }
-    ensures { result ≡ born parts.now.limits n section (records_after draft.now parts.now.state.records) }
+    ensures { result ≡ born view.now.limits n section (records_after draft.now view.now.state.records) }
 {
-    match place_after(parts, draft, section.len) {
+    match place_after(view, draft, section.len) {
         Some(place) => {
-            let block = number_after(parts, draft);
+            let block = number_after(view, draft);
             Ok(Step::Born { block, place })
         }
         None => {
@@ -94,23 +94,23 @@ fn born(parts: &Parts, draft: &Draft, n: u64, section: Section) -> Result<Step, 
 
 // The entry of an absent section.
 fn enter_absent(
-    parts: &Parts,
+    view: &View<'_>,
     draft: &Draft,
     n: u64,
     clause: RegionClause,
     section: Section,
 ) -> Result<Step, Fault>
-    requires planned { IsPlanned parts.now.limits draft.now parts.now.state.records }
+    requires planned { IsPlanned view.now.limits draft.now view.now.state.records }
     requires entering { list_all enters (tasks_in draft.now) ≡ true }
-    requires births { parts.now.state.records.births < 2 ^ 48 }
+    requires births { view.now.state.records.births < 2 ^ 48 }
     requires len { IsFromOne MEMORY_MAX section.len }
-    ensures { result ≡ enter_absent clause parts.now.limits n section (records_after draft.now parts.now.state.records) }
+    ensures { result ≡ enter_absent clause view.now.limits n section (records_after draft.now view.now.state.records) }
 {
     match clause {
-        RegionClause::Copy => born(parts, draft, n, section),
-        RegionClause::Copyin => born(parts, draft, n, section),
-        RegionClause::Copyout { .. } => born(parts, draft, n, section),
-        RegionClause::Create { .. } => born(parts, draft, n, section),
+        RegionClause::Copy => born(view, draft, n, section),
+        RegionClause::Copyin => born(view, draft, n, section),
+        RegionClause::Copyout { .. } => born(view, draft, n, section),
+        RegionClause::Create { .. } => born(view, draft, n, section),
         RegionClause::NoCreate => Ok(Step::Nothing),
         RegionClause::Present => Err(Fault::NotPresent { item: n }),
         RegionClause::Attach => Ok(Step::Nothing),
@@ -119,21 +119,21 @@ fn enter_absent(
 
 // The counter of a mapped range rises, below its limit.
 fn counted(
-    parts: &Parts,
+    view: &View<'_>,
     draft: &Draft,
     n: u64,
     counter: Counter,
     block: u64,
 ) -> Result<Step, Fault>
-    requires { IsPlanned parts.now.limits draft.now parts.now.state.records }
-    ensures { result ≡ counted parts.now.limits counter n block (records_after draft.now parts.now.state.records) }
+    requires { IsPlanned view.now.limits draft.now view.now.state.records }
+    ensures { result ≡ counted view.now.limits counter n block (records_after draft.now view.now.state.records) }
 {
-    let counters = counters_after(parts, draft, block);
+    let counters = counters_after(view, draft, block);
     let count = match counter {
         Counter::Structured => counters.structured,
         Counter::Dynamic => counters.dynamic,
     };
-    if parts.counter_max() <= count {
+    if view.counter_max() <= count {
         return Err(Fault::CounterFull { item: n });
     }
     Ok(Step::Counted { block })
@@ -142,7 +142,7 @@ fn counted(
 // An item of a region's entry, or of `enter data`.
 #[tactic(auto, using(crate::proofs::Laws::plan_laws), unfolding(acc_base::specs::Steps::judge_row))]
 fn enter(
-    parts: &Parts,
+    view: &View<'_>,
     draft: &Draft,
     n: u64,
     counter: Counter,
@@ -150,22 +150,22 @@ fn enter(
     queue: Option<u64>,
     found: Found,
 ) -> Result<Step, Fault>
-    requires planned { IsPlanned parts.now.limits draft.now parts.now.state.records }
+    requires planned { IsPlanned view.now.limits draft.now view.now.state.records }
     requires entering { list_all enters (tasks_in draft.now) ≡ true }
-    requires births { parts.now.state.records.births < 2 ^ 48 }
-    requires located { found ≡ where_is (section_of (Task.Enter counter item queue)) (records_after draft.now parts.now.state.records).ranges }
-    ensures { result ≡ judge_row parts.now.limits n (Task.Enter counter item queue) (records_after draft.now parts.now.state.records) }
+    requires births { view.now.state.records.births < 2 ^ 48 }
+    requires located { found ≡ where_is (section_of (Task.Enter counter item queue)) (records_after draft.now view.now.state.records).ranges }
+    ensures { result ≡ judge_row view.now.limits n (Task.Enter counter item queue) (records_after draft.now view.now.state.records) }
 {
     let task = Task::Enter {
         counter,
         item,
         queue,
     };
-    checked(parts, n, task)?;
+    checked(view, n, task)?;
     match found {
         Found::Empty => Ok(Step::Nothing),
-        Found::Inside { block, .. } => counted(parts, draft, n, counter, block),
-        Found::Absent => enter_absent(parts, draft, n, item.clause, section_of(task)),
+        Found::Inside { block, .. } => counted(view, draft, n, counter, block),
+        Found::Absent => enter_absent(view, draft, n, item.clause, section_of(task)),
         Found::Partly => Err(Fault::PartlyPresent { item: n }),
     }
 }
@@ -183,13 +183,13 @@ fn dropped(task: Task, block: u64, counters: Counters) -> Step
 
 // Undoes what an item of a region's entry counted, and nothing else.
 #[tactic(auto, using(crate::proofs::Laws::plan_laws), unfolding(acc_base::specs::Steps::judge_row))]
-fn leave(parts: &Parts, draft: &Draft, holding: Holding) -> Result<Step, Fault>
-    requires { IsPlanned parts.now.limits draft.now parts.now.state.records }
-    ensures { (n : ℕ) → result ≡ judge_row parts.now.limits n (Task.ExitRegion holding) (records_after draft.now parts.now.state.records) }
+fn leave(view: &View<'_>, draft: &Draft, holding: Holding) -> Result<Step, Fault>
+    requires { IsPlanned view.now.limits draft.now view.now.state.records }
+    ensures { (n : ℕ) → result ≡ judge_row view.now.limits n (Task.ExitRegion holding) (records_after draft.now view.now.state.records) }
 {
     match holding.block {
         Some(block) => {
-            let counters = counters_after(parts, draft, block);
+            let counters = counters_after(view, draft, block);
             Ok(dropped(Task::ExitRegion { holding }, block, counters))
         }
         None => Ok(Step::Nothing),
@@ -199,7 +199,7 @@ fn leave(parts: &Parts, draft: &Draft, holding: Holding) -> Result<Step, Fault>
 // An item of `exit data`.
 #[tactic(auto, using(crate::proofs::Laws::plan_laws), unfolding(acc_base::specs::Steps::judge_row))]
 fn exit(
-    parts: &Parts,
+    view: &View<'_>,
     draft: &Draft,
     n: u64,
     finalize: bool,
@@ -207,20 +207,20 @@ fn exit(
     queue: Option<u64>,
     found: Found,
 ) -> Result<Step, Fault>
-    requires planned { IsPlanned parts.now.limits draft.now parts.now.state.records }
-    requires located { found ≡ where_is (section_of (Task.ExitData finalize item queue)) (records_after draft.now parts.now.state.records).ranges }
-    ensures { result ≡ judge_row parts.now.limits n (Task.ExitData finalize item queue) (records_after draft.now parts.now.state.records) }
+    requires planned { IsPlanned view.now.limits draft.now view.now.state.records }
+    requires located { found ≡ where_is (section_of (Task.ExitData finalize item queue)) (records_after draft.now view.now.state.records).ranges }
+    ensures { result ≡ judge_row view.now.limits n (Task.ExitData finalize item queue) (records_after draft.now view.now.state.records) }
 {
     let task = Task::ExitData {
         finalize,
         item,
         queue,
     };
-    checked(parts, n, task)?;
+    checked(view, n, task)?;
     match found {
         Found::Empty => Ok(Step::Nothing),
         Found::Inside { block, .. } => {
-            let counters = counters_after(parts, draft, block);
+            let counters = counters_after(view, draft, block);
             if counters.dynamic == 0 {
                 return Ok(Step::Nothing);
             }
@@ -234,15 +234,15 @@ fn exit(
 // An item of `update`.
 #[tactic(auto, unfolding(acc_base::specs::Steps::judge_row))]
 fn copy(
-    parts: &Parts,
+    view: &View<'_>,
     n: u64,
     if_present: bool,
     item: Item<UpdateClause>,
     found: Found,
 ) -> Result<Step, Fault>
-    ensures { (queue : Option ℕ) (w : Records) → found ≡ where_is item.section w.ranges → result ≡ judge_row parts.now.limits n (Task.Move if_present item queue) w }
+    ensures { (queue : Option ℕ) (w : Records) → found ≡ where_is item.section w.ranges → result ≡ judge_row view.now.limits n (Task.Move if_present item queue) w }
 {
-    in_host(parts, n, item.section)?;
+    in_host(view, n, item.section)?;
     match found {
         Found::Empty => Ok(Step::Nothing),
         Found::Inside { block, .. } => Ok(Step::Moved { block }),
@@ -260,49 +260,49 @@ fn copy(
 /// where its section lies then.
 #[tactic(auto, using(crate::proofs::Laws::kind_laws))]
 pub(crate) fn judge_row(
-    parts: &Parts,
+    view: &View<'_>,
     draft: &Draft,
     n: u64,
     task: Task,
     found: Found,
 ) -> Result<Step, Fault>
-    requires planned { IsPlanned parts.now.limits draft.now parts.now.state.records }
+    requires planned { IsPlanned view.now.limits draft.now view.now.state.records }
     requires unmixed { AreUnmixed (tasks_in draft.now ++ task ∷ []) }
-    requires births { parts.now.state.records.births < 2 ^ 48 }
-    requires located { found ≡ where_is (section_of task) (records_after draft.now parts.now.state.records).ranges }
-    ensures { result ≡ judge_row parts.now.limits n task (records_after draft.now parts.now.state.records) }
+    requires births { view.now.state.records.births < 2 ^ 48 }
+    requires located { found ≡ where_is (section_of task) (records_after draft.now view.now.state.records).ranges }
+    ensures { result ≡ judge_row view.now.limits n task (records_after draft.now view.now.state.records) }
 {
     match task {
         Task::Enter {
             counter,
             item,
             queue,
-        } => enter(parts, draft, n, counter, item, queue, found),
-        Task::ExitRegion { holding } => leave(parts, draft, holding),
+        } => enter(view, draft, n, counter, item, queue, found),
+        Task::ExitRegion { holding } => leave(view, draft, holding),
         Task::ExitData {
             finalize,
             item,
             queue,
-        } => exit(parts, draft, n, finalize, item, queue, found),
+        } => exit(view, draft, n, finalize, item, queue, found),
         Task::Move {
             if_present,
             item,
             ..
-        } => copy(parts, n, if_present, item, found),
+        } => copy(view, n, if_present, item, found),
     }
 }
 
 // The queue of a task has room for the transfer of its step.
 #[tactic(auto, using(crate::proofs::QueuesAfter::room_laws))]
-fn room_for(parts: &Parts, draft: &Draft, task: Task, step: Step) -> Result<(), Fault>
-    requires planned { IsPlanned parts.now.limits draft.now parts.now.state.records }
+fn room_for(view: &View<'_>, draft: &Draft, task: Task, step: Step) -> Result<(), Fault>
+    requires planned { IsPlanned view.now.limits draft.now view.now.state.records }
     requires known { queue_named (queue_of task) ≡ Ok tt }
-    ensures { let w = records_after draft.now parts.now.state.records in result ≡ room_for parts.now.limits.queue_cap (queue_of task) (transfer_of task step w.ranges) w.queues }
+    ensures { let w = records_after draft.now view.now.state.records in result ≡ room_for view.now.limits.queue_cap (queue_of task) (transfer_of task step w.ranges) w.queues }
 {
     let Some(q) = queue_of(task) else {
         return Ok(());
     };
-    if moves(task, step) && parts.queue_cap() <= queue_len_after(parts, draft, q) {
+    if moves(task, step) && view.queue_cap() <= queue_len_after(view, draft, q) {
         return Err(Fault::QueueFull { q });
     }
     Ok(())
@@ -335,17 +335,17 @@ fn block_aimed(aim: Aim) -> Option<u64>
 /// What the tables say of a task can be done. Neither the block in which it detaches a pointer before its step is lent,
 /// nor the one that the step needs. And its queue has room.
 pub(crate) fn step_free(
-    parts: &Parts,
+    view: &View<'_>,
     draft: &Draft,
     task: Task,
     step: Step,
     before: Aim,
 ) -> Result<(), Fault>
-    requires planned { IsPlanned parts.now.limits draft.now parts.now.state.records }
+    requires planned { IsPlanned view.now.limits draft.now view.now.state.records }
     requires known { queue_named (queue_of task) ≡ Ok tt }
-    ensures { let w = records_after draft.now parts.now.state.records in result ≡ step_free task step before parts.now.limits.queue_cap w }
+    ensures { let w = records_after draft.now view.now.state.records in result ≡ step_free task step before view.now.limits.queue_cap w }
 {
-    not_lent(parts, block_aimed(before))?;
-    not_lent(parts, block_needed(task, step))?;
-    room_for(parts, draft, task, step)
+    not_lent(view, block_aimed(before))?;
+    not_lent(view, block_needed(task, step))?;
+    room_for(view, draft, task, step)
 }

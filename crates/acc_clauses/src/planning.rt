@@ -13,14 +13,14 @@ use crate::drafts::Draft;
 use crate::items::judge;
 use crate::lending::transfers_free;
 use crate::notes::{note_births, note_holdings, note_written};
-use crate::parts::Parts;
 use crate::plans::Plan;
 use crate::tasks::{task_at, task_count};
+use crate::views::View;
 use acc_base::{Directive, Fault, Holding, QUEUE_COUNT};
 
 /// Judges each task of a directive as if those before it had acted, where the region that it leaves holds these.
 fn judge_all(
-    parts: &Parts,
+    view: &View<'_>,
     directive: &Directive,
     holdings: &[Holding],
     draft: &mut Draft,
@@ -28,15 +28,15 @@ fn judge_all(
     requires few { length (tasks_with directive.now holdings.now) ≤ 64 }
     requires unmixed { AreUnmixed (tasks_with directive.now holdings.now) }
     requires queues { AreQueuesNamed (tasks_with directive.now holdings.now) }
-    requires births { parts.now.state.records.births < 2 ^ 48 }
-    ensures judged { MatchResult result (λ _. judge_all parts.now.limits 0 (tasks_with directive.now holdings.now) parts.now.state ≡ Ok (dids_in draft.new)) (λ fault. judge_all parts.now.limits 0 (tasks_with directive.now holdings.now) parts.now.state ≡ Err fault) }
+    requires births { view.now.state.records.births < 2 ^ 48 }
+    ensures judged { MatchResult result (λ _. judge_all view.now.limits 0 (tasks_with directive.now holdings.now) view.now.state ≡ Ok (dids_in draft.new)) (λ fault. judge_all view.now.limits 0 (tasks_with directive.now holdings.now) view.now.state ≡ Err fault) }
     ensures asked { OnOk result (tasks_in draft.new ≡ tasks_with directive.now holdings.now) }
-    ensures planned { OnOk result (IsPlanned parts.now.limits draft.new parts.now.state.records) }
+    ensures planned { OnOk result (IsPlanned view.now.limits draft.new view.now.state.records) }
 {
-    parts.laws();
+    view.laws();
     draft.clear();
     for n in 0..task_count(directive, holdings) {
-        judge(parts, draft, n as u64, task_at(directive, holdings, n))?;
+        judge(view, draft, n as u64, task_at(directive, holdings, n))?;
     }
     Ok(())
 }
@@ -75,25 +75,25 @@ pub fn device_named(directive: &Directive) -> Option<u64>
     }
 }
 
-// The directive names no other device than that of the parts.
-fn check_device(parts: &Parts, directive: &Directive) -> Result<(), Fault>
-    ensures { result ≡ own_device parts.now.limits.number (device_named directive.now) }
+// The directive names no other device than that of the view.
+fn check_device(view: &View<'_>, directive: &Directive) -> Result<(), Fault>
+    ensures { result ≡ own_device view.now.limits.number (device_named directive.now) }
 {
     let Some(device) = device_named(directive) else {
         return Ok(());
     };
-    if device != parts.number() {
+    if device != view.number() {
         return Err(Fault::NoDevice { device });
     }
     Ok(())
 }
 
 // What the region holds that a directive leaves, which undoes it.
-fn holdings_left<'a>(parts: &'a Parts, directive: &Directive) -> Result<&'a [Holding], Fault>
-    ensures { let left = holdings_left directive.now parts.now.state.register in MatchResult result (λ holdings. left ≡ Ok holdings.now) (λ fault. left ≡ Err fault) }
+fn holdings_left<'a>(view: &'a View<'_>, directive: &Directive) -> Result<&'a [Holding], Fault>
+    ensures { let left = holdings_left directive.now view.now.state.register in MatchResult result (λ holdings. left ≡ Ok holdings.now) (λ fault. left ≡ Err fault) }
 {
     match directive {
-        Directive::Exit { number } => match parts.holdings(*number) {
+        Directive::Exit { number } => match view.holdings(*number) {
             Some(holdings) => Ok(holdings),
             None => Err(Fault::NoRegion { number: *number }),
         },
@@ -135,8 +135,8 @@ fn check_queue(queue: Option<u64>) -> Result<(), Fault>
     }
 }
 
-/// Judges a directive whole for the device of the parts: its first refusal, or what each of its items will do. It
-/// allocates nothing, and nothing of the parts changes.
+/// Judges a directive whole for the device that is seen: its first refusal, or what each of its items will do. It
+/// allocates nothing, and nothing that is seen changes.
 ///
 /// # Errors
 ///
@@ -147,21 +147,21 @@ fn check_queue(queue: Option<u64>) -> Result<(), Fault>
 /// [`Fault::CounterFull`], [`Fault::DeviceFull`], or without a place [`Fault::Lent`] or [`Fault::QueueFull`]. Of a wait
 /// or a step it is [`Fault::Lent`] at the first transfer whose block is lent.
 #[tactic(auto, using(crate::proofs::Asking::event_laws))]
-pub(crate) fn plan(parts: &Parts, directive: &Directive, plan: &mut Plan) -> Result<(), Fault>
-    requires births { parts.now.state.records.births < 2 ^ 48 }
-    requires register { AllByRecursion HasFewHoldings parts.now.state.register.regions }
-    ensures judged { let s = parts.now.state in MatchResult result (λ _. plan_of parts.now.limits directive.now s ≡ Ok (verdict_of parts.now.limits.number directive.now s plan.new.dids)) (λ fault. plan_of parts.now.limits directive.now s ≡ Err fault) }
-    ensures planned { OnOk result (IsPlanOf parts.now.limits directive.now parts.now.state plan.new) }
+pub(crate) fn plan(view: &View<'_>, directive: &Directive, plan: &mut Plan) -> Result<(), Fault>
+    requires births { view.now.state.records.births < 2 ^ 48 }
+    requires register { AllByRecursion HasFewHoldings view.now.state.register.regions }
+    ensures judged { let s = view.now.state in MatchResult result (λ _. plan_of view.now.limits directive.now s ≡ Ok (verdict_of view.now.limits.number directive.now s plan.new.dids)) (λ fault. plan_of view.now.limits directive.now s ≡ Err fault) }
+    ensures planned { OnOk result (IsPlanOf view.now.limits directive.now view.now.state plan.new) }
 {
     check_items(directive)?;
-    check_device(parts, directive)?;
-    let holdings = holdings_left(parts, directive)?;
+    check_device(view, directive)?;
+    let holdings = holdings_left(view, directive)?;
     check_queue(queue_in(directive))?;
-    let judged = judge_all(parts, directive, holdings, &mut plan.draft);
+    let judged = judge_all(view, directive, holdings, &mut plan.draft);
     let acts = plan.draft.acts();
     note_births(&mut plan.lens, acts);
     note_holdings(&mut plan.holdings, acts);
     note_written(&mut plan.written, directive, acts);
     judged?;
-    transfers_free(parts, directive)
+    transfers_free(view, directive)
 }

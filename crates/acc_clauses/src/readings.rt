@@ -13,60 +13,60 @@ ghost use Rattle.acc_clauses.specs.Overlays.{IsPlanned, AreUnmixed, tasks_in, re
 
 use crate::drafts::Draft;
 use crate::effects::{counters_over, found_over, puts_in};
-use crate::parts::Parts;
+use crate::views::View;
 use acc_base::{Counters, Found, Section};
 
 /// Where a section lies after the tasks.
 #[tactic(auto, using(crate::proofs::Laws::plan_laws))]
-pub(crate) fn found_after(parts: &Parts, draft: &Draft, section: Section) -> Found
-    requires planned { IsPlanned parts.now.limits draft.now parts.now.state.records }
+pub(crate) fn found_after(view: &View<'_>, draft: &Draft, section: Section) -> Found
+    requires planned { IsPlanned view.now.limits draft.now view.now.state.records }
     requires unmixed { AreUnmixed (tasks_in draft.now) }
-    ensures { result ≡ where_is section (records_after draft.now parts.now.state.records).ranges }
+    ensures { result ≡ where_is section (records_after draft.now view.now.state.records).ranges }
 {
-    let found = parts.find_apart(section, draft.ended());
+    let found = view.find_apart(section, draft.ended());
     found_over(section, found, draft.acts())
 }
 
 /// The counters of the range that is mapped to a block after the tasks; both are 0 where none is.
 #[tactic(auto, using(crate::proofs::Laws::plan_laws))]
-pub(crate) fn counters_after(parts: &Parts, draft: &Draft, block: u64) -> Counters
-    requires planned { IsPlanned parts.now.limits draft.now parts.now.state.records }
-    ensures value { result ≡ counters_at block (records_after draft.now parts.now.state.records).ranges }
+pub(crate) fn counters_after(view: &View<'_>, draft: &Draft, block: u64) -> Counters
+    requires planned { IsPlanned view.now.limits draft.now view.now.state.records }
+    ensures value { result ≡ counters_at block (records_after draft.now view.now.state.records).ranges }
     ensures structured { result.structured < 2 ^ 33 }
     ensures dynamic { result.dynamic < 2 ^ 33 }
 {
-    let counters = parts.counters(block);
+    let counters = view.counters(block);
     counters_over(block, counters, draft.acts())
 }
 
 /// Where a block of `len` bytes would be born after the tasks, which all enter.
 #[tactic(auto, using(crate::proofs::Laws::plan_laws))]
-pub(crate) fn place_after(parts: &Parts, draft: &Draft, len: u64) -> Option<u64>
-    requires planned { IsPlanned parts.now.limits draft.now parts.now.state.records }
+pub(crate) fn place_after(view: &View<'_>, draft: &Draft, len: u64) -> Option<u64>
+    requires planned { IsPlanned view.now.limits draft.now view.now.state.records }
     requires entering { list_all enters (tasks_in draft.now) ≡ true }
     requires len { IsFromOne MEMORY_MAX len }
-    ensures { result ≡ place_for (device_memory parts.now.limits) (records_after draft.now parts.now.state.records).blocks (rounded len) }
+    ensures { result ≡ place_for (device_memory view.now.limits) (records_after draft.now view.now.state.records).blocks (rounded len) }
 {
-    parts.would_take(draft.births(), len)
+    view.would_take(draft.births(), len)
 }
 
 /// The number of the next block after the tasks, which all enter.
 #[tactic(auto, using(crate::proofs::Laws::plan_laws))]
-pub(crate) fn number_after(parts: &Parts, draft: &Draft) -> u64
-    requires planned { IsPlanned parts.now.limits draft.now parts.now.state.records }
+pub(crate) fn number_after(view: &View<'_>, draft: &Draft) -> u64
+    requires planned { IsPlanned view.now.limits draft.now view.now.state.records }
     requires entering { list_all enters (tasks_in draft.now) ≡ true }
-    requires births { parts.now.state.records.births < 2 ^ 48 }
-    ensures { result ≡ (records_after draft.now parts.now.state.records).births + 1 }
+    requires births { view.now.state.records.births < 2 ^ 48 }
+    ensures { result ≡ (records_after draft.now view.now.state.records).births + 1 }
 {
-    parts.next_block() + draft.births().len() as u64
+    view.next_block() + draft.births().len() as u64
 }
 
 /// How many transfers wait in a queue after the tasks.
 #[tactic(auto, using(crate::proofs::QueuesAfter::queue_laws))]
-pub(crate) fn queue_len_after(parts: &Parts, draft: &Draft, q: u64) -> u64
-    requires planned { IsPlanned parts.now.limits draft.now parts.now.state.records }
+pub(crate) fn queue_len_after(view: &View<'_>, draft: &Draft, q: u64) -> u64
+    requires planned { IsPlanned view.now.limits draft.now view.now.state.records }
     requires known { q < QUEUE_COUNT }
-    ensures { result ≡ length (queue_at q (records_after draft.now parts.now.state.records).queues) }
+    ensures { result ≡ length (queue_at q (records_after draft.now view.now.state.records).queues) }
 {
-    parts.queue_len(q) + puts_in(q, draft.acts())
+    view.queue_len(q) + puts_in(q, draft.acts())
 }

@@ -5,9 +5,7 @@ ghost use Rattle.acc_base.specs.declared.faults.Fault.TheVariants.{Memory};
 ghost use Rattle.acc_base.specs.Devices.{new_device};
 ghost use Rattle.acc_base.specs.Limits.{limits_on};
 
-use crate::environments::{Apart, Environment};
-use crate::numbers::Numbers;
-use crate::views::View;
+use crate::devices::DeviceData;
 use acc_base::{Config, Fault};
 use std::alloc::Global;
 use std::marker::Model;
@@ -18,17 +16,19 @@ use std::marker::Model;
 /// Contracts see the limits of the device, what it has, and the numbers when it was set apart.
 #[derive(Drop)]
 pub struct Spare {
-    pub(crate) apart: Apart,
+    pub(crate) device: DeviceData,
+    pub(crate) next_region: u64,
+    pub(crate) next_serial: u64,
 }
 
 impl Model for Spare {
-    ghost use Rattle.acc_clauses.specs.Spares.{Parked, parked_of, IsSpareSound};
+    ghost use Rattle.acc_clauses.specs.Devices.{Parked, IsSpareSound};
 
     ghost Value = { Parked };
 
-    ghost view = { λ s. parked_of s.apart };
+    ghost view = { λ s. record { limits = s.device.limits; device = s.device.device; next = s.next_region; serial = s.next_serial } };
 
-    ghost invariant = { λ s. IsSpareSound s.apart };
+    ghost invariant = { λ s. IsSpareSound s.device (record { region = s.next_region; serial = s.next_serial }) };
 }
 
 impl Spare {
@@ -43,29 +43,11 @@ impl Spare {
         ensures only { IfErr result (λ fault. fault ≡ Memory) }
     {
         config.laws();
-        let environment = Environment::new(alloc, config, number)?;
+        let device = DeviceData::new(alloc, config, number)?;
         Ok(Spare {
-            apart: Apart {
-                config: *config,
-                number,
-                environment,
-                numbers: Numbers {
-                    region: 1,
-                    serial: 1,
-                    lent: 0,
-                },
-            },
+            device,
+            next_region: 1,
+            next_serial: 1,
         })
-    }
-
-    /// What the device has, to look at.
-    pub fn view(&self) -> View<'_>
-        ensures { result ≡ record { limits = self.now.limits; device = self.now.device } }
-    {
-        View {
-            config: &self.apart.config,
-            number: self.apart.number,
-            environment: &self.apart.environment,
-        }
     }
 }

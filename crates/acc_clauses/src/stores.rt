@@ -15,16 +15,15 @@ ghost use Rattle.acc_clauses.specs.Lending.{IsLoanPlanned};
 ghost use Rattle.acc_base.specs.Accounts.{IsSound};
 ghost use Rattle.acc_host.specs.Host.{bytes_in, IsRead, IsOutOfHost};
 ghost use Rattle.acc_clauses.specs.Contents.{AreNew};
-ghost use Rattle.acc_clauses.specs.Views.{device_in_view};
-ghost use Rattle.acc_clauses.specs.Spares.{in_use};
+ghost use Rattle.acc_clauses.specs.Devices.{device_in_view, in_use};
 ghost use Rattle.acc_clauses.specs.Planned.{IsPlanOf, state_by};
 ghost use Rattle.acc_clauses.specs.Acts.{CanWrite, HasPlanRoom, LacksPlanRoom};
 
+use crate::devices::DeviceData;
 use crate::effects::puts_in;
 use crate::finishing::finish;
 use crate::judging::in_host;
 use crate::lending::{check_lease, plan_loan};
-use crate::parts::Parts;
 use crate::planning::{self, queue_in, regions_entered};
 use crate::plans::Plan;
 use crate::pointers::pointers_in;
@@ -32,9 +31,11 @@ use crate::running::act_all;
 use crate::spares::Spare;
 use crate::views::View;
 use acc_base::{Config, Directive, Fault, Loan, Section};
+use acc_host::HostMem;
 use acc_lend::Lease;
 use std::alloc::Global;
 use std::marker::Model;
+use std::mem;
 
 /// Host memory, and what one device has. That is its blocks, mapped ranges with their counters, open data regions that
 /// were entered on it, and queues of transfers. What other devices of the table have stands apart ([`Spare`]).
@@ -42,18 +43,22 @@ use std::marker::Model;
 /// Contracts see the limits, the state, and the room that was made for more.
 #[derive(Drop)]
 pub struct Store {
-    parts: Parts,
+    host: HostMem,
+    next_region: u64,
+    next_serial: u64,
+    device: DeviceData,
 }
 
 impl Model for Store {
     ghost use Rattle.acc_clauses.specs.Contents.{Contents};
+    ghost use Rattle.acc_clauses.specs.Devices.{contents_beside};
     ghost use Rattle.acc_clauses.specs.Stored.{IsStoreSound};
 
     ghost Value = { Contents };
 
-    ghost view = { λ s. s.parts };
+    ghost view = { λ s. contents_beside s.device s.host (record { region = s.next_region; serial = s.next_serial }) };
 
-    ghost invariant = { λ s. IsStoreSound s.parts };
+    ghost invariant = { λ s. IsStoreSound (contents_beside s.device s.host (record { region = s.next_region; serial = s.next_serial })) };
 }
 
 impl Store {
@@ -68,8 +73,15 @@ impl Store {
         ensures ok { IfOk result (AreNew (limits_on number config.now)) }
         ensures only { IfErr result (λ fault. fault ≡ Memory) }
     {
-        let parts = Parts::new(alloc, config, number)?;
-        Ok(Store { parts })
+        config.laws();
+        let host = HostMem::new(alloc, config.host())?;
+        let device = DeviceData::new(alloc, config, number)?;
+        Ok(Store {
+            host,
+            next_region: 1,
+            next_serial: 1,
+            device,
+        })
     }
 
     /// Takes in another device in place of the one that the store has, which it returns. Host memory and the numbers of
@@ -83,8 +95,11 @@ impl Store {
         ensures state { self.new.state ≡ in_use spare.device self.old.state }
         ensures parked { result ≡ record { limits = self.old.limits; device = device_in_view self.old.state; next = self.old.state.register.next; serial = self.old.state.register.serial } }
     {
-        let apart = self.parts.exchange(spare.apart);
-        Spare { apart }
+        Spare {
+            device: mem::replace(&mut self.device, spare.device),
+            next_region: self.next_region,
+            next_serial: self.next_serial,
+        }
     }
 
     /// The state is sound, and the limits lie within their bounds. The blocks and the holes that [`Store::hole`]
@@ -94,7 +109,7 @@ impl Store {
         ensures limits { IsWithinBounds self.now.limits }
         ensures holes { IsDevice (device_memory self.now.limits) self.now.state.records.blocks }
     {
-        self.parts.laws();
+        self.device.laws();
     }
 
     /// Judges a directive whole. It returns the first refusal, or writes what each item will do over what the plan
@@ -115,7 +130,8 @@ impl Store {
         ensures judged { let s = self.now.state in MatchResult result (λ _. plan_of self.now.limits directive.now s ≡ Ok (verdict_of self.now.limits.number directive.now s plan.new.dids)) (λ fault. plan_of self.now.limits directive.now s ≡ Err fault) }
         ensures planned { OnOk result (IsPlanOf self.now.limits directive.now self.now.state plan.new) }
     {
-        planning::plan(&self.parts, directive, plan)
+        self.laws();
+        planning::plan(&self.view(), directive, plan)
     }
 
     /// Makes all room that a directive needs. This plan was made for it on this state of the store. Nothing else
@@ -133,14 +149,14 @@ impl Store {
         ensures only { IfErr result (λ fault. fault ≡ Memory) }
         ensures needed { OnErr result (LacksPlanRoom directive.now plan.now self.old.room) }
     {
-        self.parts.laws();
+        self.device.laws();
         let acts = plan.acts();
         let regions = regions_entered(directive);
         let holdings = plan.holdings().len() as u64;
-        self.parts
+        self.device
             .reserve(plan.lens(), regions, holdings, pointers_in(acts))?;
         match queue_in(directive) {
-            Some(q) => self.parts.reserve_puts(q, puts_in(q, acts)),
+            Some(q) => self.device.reserve_puts(q, puts_in(q, acts)),
             None => Ok(()),
         }
     }
@@ -157,10 +173,16 @@ impl Store {
         ensures limits { self.new.limits ≡ self.old.limits }
         ensures state { self.new.state ≡ state_by self.old.limits.full (verdict_of self.old.limits.number directive.now self.old.state plan.now.dids) self.old.state }
     {
-        self.parts.laws();
-        act_all(&mut self.parts, plan.acts());
-        finish(&mut self.parts, directive, plan);
-        self.parts.laws();
+        self.device.laws();
+        act_all(&mut self.device, &mut self.host, plan.acts());
+        finish(
+            &mut self.device,
+            &mut self.host,
+            &mut self.next_region,
+            directive,
+            plan,
+        );
+        self.device.laws();
     }
 
     /// What the item at place `n` of a list, or a write of the host with place 0, is refused for before all else.
@@ -171,7 +193,7 @@ impl Store {
     pub fn check_host(&self, n: u64, section: Section) -> Result<(), Fault>
         ensures { result ≡ in_host self.now.limits n section }
     {
-        in_host(&self.parts, n, section)
+        in_host(&self.view(), n, section)
     }
 
     /// Writes bytes into host memory from an address on. An empty write may stand anywhere; else each address that is
@@ -182,7 +204,9 @@ impl Store {
         ensures room { self.new.room ≡ self.old.room }
         ensures state { self.new.state ≡ record self.old.state { host = host_after_write addr (length bytes.now) bytes.now self.old.state.host } }
     {
-        self.parts.host_write(addr, bytes);
+        let Ok(()) = self.host.write(addr, bytes) else {
+            unreachable!()
+        };
     }
 
     /// Plans the loan of a section of host memory in a region that is open on this device (OpenACC 3.3, sections 2.5
@@ -196,7 +220,7 @@ impl Store {
     pub fn plan_loan(&self, region: u64, section: Section) -> Result<Loan, Fault>
         ensures { MatchResult result (λ loan. IsLoanPlanned self.now.limits region section self.now.state loan) (λ fault. lend_event self.now.limits self.now.limits.number region section self.now.state ≡ Err fault) }
     {
-        plan_loan(&self.parts, region, section)
+        plan_loan(&self.view(), region, section)
     }
 
     /// Lends the block of a loan that was planned on this state: its bytes are moved into the lease, which names this
@@ -215,9 +239,9 @@ impl Store {
         ensures same { OnErr result (self.new.state ≡ self.old.state) }
         ensures only { IfErr result (λ fault. (self.old.limits.full ≡ true) × (fault ≡ Memory)) }
     {
-        self.parts.laws();
-        let lease = self.parts.lend(loan)?;
-        self.parts.laws();
+        self.device.laws();
+        let lease = self.device.lend(loan)?;
+        self.next_serial += 1;
         Ok(lease)
     }
 
@@ -232,7 +256,7 @@ impl Store {
     pub fn check_lease(&self, lease: &Lease) -> Result<(), Fault>
         ensures { MatchResult result (λ _. gather_event self.now.limits lease.now self.now.state ≡ Ok (gathered self.now.limits.full lease.now)) (λ fault. gather_event self.now.limits lease.now self.now.state ≡ Err fault) }
     {
-        check_lease(&self.parts, lease)
+        check_lease(&self.view(), lease)
     }
 
     /// Takes a block back that is lent, by a lease that [`Store::check_lease`] does not refuse: its bytes are moved out
@@ -243,9 +267,8 @@ impl Store {
         ensures room { self.new.room ≡ self.old.room }
         ensures state { self.new.state ≡ after self.old.limits.full (gathered self.old.limits.full lease) lease.bytes self.old.state }
     {
-        self.parts.laws();
-        self.parts.gather(lease);
-        self.parts.laws();
+        self.device.laws();
+        self.device.gather(lease);
     }
 
     // ---- queries
@@ -255,28 +278,39 @@ impl Store {
     pub fn number(&self) -> u64
         ensures { result ≡ self.now.limits.number }
     {
-        self.parts.number()
+        self.view().number()
     }
 
-    /// What the device has, to look at.
+    /// What a directive of the device sees, to look at.
     pub fn view(&self) -> View<'_>
-        ensures { result ≡ record { limits = self.now.limits; device = device_in_view self.now.state } }
+        ensures { result ≡ record { limits = self.now.limits; state = self.now.state } }
     {
-        self.parts.view()
+        self.device
+            .view(&self.host, self.next_region, self.next_serial)
+    }
+
+    /// What a directive would see of a device that stands apart, to look at.
+    pub fn view_apart<'a>(&'a self, spare: &'a Spare) -> View<'a>
+        requires { spare.now.limits.host ≡ self.now.limits.host }
+        ensures { result ≡ record { limits = spare.now.limits; state = in_use spare.now.device self.now.state } }
+    {
+        spare
+            .device
+            .view(&self.host, self.next_region, self.next_serial)
     }
 
     /// The number that the next data region gets, of which [`Store::commit`] says how great it may be.
     pub fn next_region(&self) -> u64
         ensures { result ≡ self.now.state.register.next }
     {
-        self.parts.next_region()
+        self.next_region
     }
 
     /// The serial number that the next loan gets, of which [`Store::lend`] says how great it may be.
     pub fn next_serial(&self) -> u64
         ensures { result ≡ self.now.state.register.serial }
     {
-        self.parts.next_serial()
+        self.next_serial
     }
 
     /// The bytes of a section of host memory. `None` exactly where some address of it is outside of host memory.
@@ -285,7 +319,7 @@ impl Store {
         ensures part { IfSome result (λ bytes. bytes.now ≡ bytes_in self.now.state.host section) }
         ensures none { IfNone result (IsOutOfHost self.now.state.host section) }
     {
-        self.parts.host_read(section)
+        self.host.read(section)
     }
 
     /// The bytes of host memory, where traces are full; else none.
@@ -297,6 +331,10 @@ impl Store {
         ensures ok { IfOk result (λ bytes. bytes.items ≡ recorded self.now.limits.full self.now.state.host) }
         ensures only { IfErr result (λ fault. fault ≡ Memory) }
     {
-        self.parts.saved_host(alloc)
+        if self.device.is_full() {
+            self.host.copy(alloc)
+        } else {
+            Ok(Vec::new(alloc))
+        }
     }
 }

@@ -10,18 +10,18 @@ ghost use Rattle.acc_clauses.specs.Overlays.{IsPlanned, AreUnmixed, tasks_in, re
 
 use crate::aim_effects::{count_over, place_over, value_over};
 use crate::drafts::Draft;
-use crate::parts::Parts;
 use crate::readings::found_after;
 use crate::sections::pointer_at;
+use crate::views::View;
 use acc_base::{Found, Section};
 
 /// The block that holds a pointer after the tasks, if one does.
-pub(crate) fn block_after(parts: &Parts, draft: &Draft, pointer: u64) -> Option<u64>
-    requires planned { IsPlanned parts.now.limits draft.now parts.now.state.records }
+pub(crate) fn block_after(view: &View<'_>, draft: &Draft, pointer: u64) -> Option<u64>
+    requires planned { IsPlanned view.now.limits draft.now view.now.state.records }
     requires unmixed { AreUnmixed (tasks_in draft.now) }
-    ensures { result ≡ block_with pointer (records_after draft.now parts.now.state.records).ranges }
+    ensures { result ≡ block_with pointer (records_after draft.now view.now.state.records).ranges }
 {
-    match found_after(parts, draft, pointer_at(pointer)) {
+    match found_after(view, draft, pointer_at(pointer)) {
         Found::Inside { block, .. } => Some(block),
         Found::Empty | Found::Partly | Found::Absent => None,
     }
@@ -29,28 +29,28 @@ pub(crate) fn block_after(parts: &Parts, draft: &Draft, pointer: u64) -> Option<
 
 /// How often a pointer in a block is attached after the tasks, where the block holds it then.
 #[tactic(auto, using(crate::proofs::AimsCounted::count_laws))]
-pub(crate) fn count_after(parts: &Parts, draft: &Draft, block: u64, pointer: u64) -> u64
-    requires planned { IsPlanned parts.now.limits draft.now parts.now.state.records }
-    requires there { block_with pointer (records_after draft.now parts.now.state.records).ranges ≡ Some block }
-    ensures { result ≡ count_at block pointer (records_after draft.now parts.now.state.records).attached }
+pub(crate) fn count_after(view: &View<'_>, draft: &Draft, block: u64, pointer: u64) -> u64
+    requires planned { IsPlanned view.now.limits draft.now view.now.state.records }
+    requires there { block_with pointer (records_after draft.now view.now.state.records).ranges ≡ Some block }
+    ensures { result ≡ count_at block pointer (records_after draft.now view.now.state.records).attached }
 {
-    let count = parts.count(block, pointer);
+    let count = view.count(block, pointer);
     count_over(block, pointer, count, draft.acts())
 }
 
 /// The device address that a host address is mapped to after the tasks, of which each enters, if it is.
-pub(crate) fn address_after(parts: &Parts, draft: &Draft, address: u64) -> Option<u64>
-    requires planned { IsPlanned parts.now.limits draft.now parts.now.state.records }
+pub(crate) fn address_after(view: &View<'_>, draft: &Draft, address: u64) -> Option<u64>
+    requires planned { IsPlanned view.now.limits draft.now view.now.state.records }
     requires entering { list_all enters (tasks_in draft.now) ≡ true }
-    ensures { result ≡ device_address_of address (records_after draft.now parts.now.state.records) }
+    ensures { result ≡ device_address_of address (records_after draft.now view.now.state.records) }
 {
     let only = Section {
         start: address,
         len: 1,
     };
-    match found_after(parts, draft, only) {
+    match found_after(view, draft, only) {
         Found::Inside { block, offset } => {
-            let place = place_over(block, parts.place(block), draft.acts());
+            let place = place_over(block, view.place(block), draft.acts());
             Some(place + offset)
         }
         Found::Empty | Found::Partly | Found::Absent => None,
@@ -59,16 +59,16 @@ pub(crate) fn address_after(parts: &Parts, draft: &Draft, address: u64) -> Optio
 
 /// The address that an attached pointer holds on the device after the tasks, of which each enters, where its block is
 /// not lent.
-pub(crate) fn value_after(parts: &Parts, draft: &Draft, block: u64, pointer: u64) -> u64
-    requires planned { IsPlanned parts.now.limits draft.now parts.now.state.records }
+pub(crate) fn value_after(view: &View<'_>, draft: &Draft, block: u64, pointer: u64) -> u64
+    requires planned { IsPlanned view.now.limits draft.now view.now.state.records }
     requires entering { list_all enters (tasks_in draft.now) ≡ true }
     requires aligned { pointer % 8 ≡ 0 }
-    requires there { block_with pointer (records_after draft.now parts.now.state.records).ranges ≡ Some block }
-    requires free { is_lent block parts.now.state.records.loans ≡ false }
-    requires attached { 0 < count_at block pointer (records_after draft.now parts.now.state.records).attached }
-    ensures { result ≡ device_pointer block pointer (state_after draft.now parts.now.state) }
+    requires there { block_with pointer (records_after draft.now view.now.state.records).ranges ≡ Some block }
+    requires free { is_lent block view.now.state.records.loans ≡ false }
+    requires attached { 0 < count_at block pointer (records_after draft.now view.now.state.records).attached }
+    ensures { result ≡ device_pointer block pointer (state_after draft.now view.now.state) }
 {
-    parts.laws();
-    let value = parts.device_pointer(block, pointer);
+    view.laws();
+    let value = view.device_pointer(block, pointer);
     value_over(block, pointer, value, draft.acts())
 }

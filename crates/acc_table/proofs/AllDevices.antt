@@ -7,17 +7,17 @@ use Rattle.std.proofs.lemmas.List.{drop_more, length-map, append-nil}
 use Rattle.std.proofs.lemmas.List.Sums.{sum_by-drop_more, position_or_len_is}
 use Rattle.std.proofs.Math.ListN.{drop_of_length-le}
 use Rattle.acc_base.specs.Limits.{Limits, limits_on, recorded}
+use Rattle.acc_base.specs.Records.{State}
 use Rattle.acc_base.specs.Calls.{Base, base_of}
 use Rattle.acc_base.specs.Register.{region_at, newest_region}
-use Rattle.acc_base.specs.Devices.{OneDevice, Whole, device_at, new_device, open_regions, device_of_region, recorded_device}
+use Rattle.acc_base.specs.Devices.{OneDevice, Whole, view, device_at, new_device, open_regions, device_of_region, recorded_device}
 use Rattle.acc_base.proofs.Results.{equal, differ}
 use Rattle.acc_base.proofs.Views.{device_beyond}
-use Rattle.acc_clauses.specs.Views.{Seen, device_in_view}
-use Rattle.acc_clauses.specs.Spares.{Parked}
+use Rattle.acc_clauses.specs.Devices.{Seen, Parked, device_in_view, in_use}
 use Rattle.acc_table.specs.declared.devices.Devices.{Devices}
 use Rattle.acc_table.specs.Devices.{device_or, whole_of, AreSet}
 use Rattle.acc_table.specs.Queries.{later, newest_of}
-use Rattle.acc_table.proofs.DeviceLists.{device_used, device_apart}
+use Rattle.acc_table.proofs.DeviceLists.{view_used, device_apart}
 use Rattle.acc_table.proofs.Selecting.{is_apart}
 
 -- there are as many devices as places
@@ -27,25 +27,29 @@ devices_count x = length-map x.spares.items (device_or (device_in_view x.store.s
 -- ---- the view of one
 
 -- one that stands apart, and the one in use
-pub seen_apart : (l : Limits) (x : Devices) (d : ℕ) (p : Parked) (v : Seen) → AreSet l x → slice_index_or x.spares.items d None ≡ Some p → v ≡ record { limits = p.limits; device = p.device } → v ≡ record { limits = limits_on d l; device = device_at d (whole_of x).devices }
+pub seen_apart : (l : Limits) (x : Devices) (d : ℕ) (p : Parked) (v : Seen) → AreSet l x → slice_index_or x.spares.items d None ≡ Some p → v ≡ record { limits = p.limits; state = in_use p.device x.store.state } → v ≡ record { limits = limits_on d l; state = view d (whole_of x) }
 seen_apart l x d p v set at is =
     let limits : p.limits ≡ limits_on d l = (set.apart d p at).limits in
     let device : p.device ≡ device_at d (whole_of x).devices = sym (device_apart (device_in_view x.store.state) d x.spares.items p at) in
-    is ∙ rw (limits, device) refl
+    is ∙ (ap (λ (m : Limits). let v : Seen = record { limits = m; state = in_use p.device x.store.state } in v) limits ∙ ap (λ (y : OneDevice). let v : Seen = record { limits = limits_on d l; state = in_use y x.store.state } in v) device)
 
-pub seen_used : (l : Limits) (x : Devices) (d : ℕ) (v : Seen) → AreSet l x → d < length x.spares.items → slice_index_or x.spares.items d None ≡ None → v ≡ record { limits = x.store.limits; device = device_in_view x.store.state } → v ≡ record { limits = limits_on d l; device = device_at d (whole_of x).devices }
+-- all have host memory of one size
+pub apart_size : (l : Limits) (x : Devices) (d : ℕ) (p : Parked) → AreSet l x → slice_index_or x.spares.items d None ≡ Some p → p.limits.host ≡ x.store.limits.host
+apart_size l x d p set at = ap (λ (m : Limits). m.host) (set.apart d p at).limits ∙ sym (ap (λ (m : Limits). m.host) set.used)
+
+pub seen_used : (l : Limits) (x : Devices) (d : ℕ) (v : Seen) → AreSet l x → d < length x.spares.items → slice_index_or x.spares.items d None ≡ None → v ≡ record { limits = x.store.limits; state = x.store.state } → v ≡ record { limits = limits_on d l; state = view d (whole_of x) }
 seen_used l x d v set there at is = go (d == x.current) refl
   where
-    go : (b : Bool) → (d == x.current) ≡ b → v ≡ record { limits = limits_on d l; device = device_at d (whole_of x).devices }
+    go : (b : Bool) → (d == x.current) ≡ b → v ≡ record { limits = limits_on d l; state = view d (whole_of x) }
     go true same =
         let n : d ≡ x.current = equal d x.current same in
-        let device : device_in_view x.store.state ≡ device_at d (whole_of x).devices = sym (ap (λ m. device_at m (whole_of x).devices) n ∙ device_used (device_in_view x.store.state) x.current x.spares.items set.only) in
+        let state : x.store.state ≡ view d (whole_of x) = sym (ap (λ m. view m (whole_of x)) n ∙ view_used x.current x.spares.items x.store.state set.only) in
         let limits : x.store.limits ≡ limits_on d l = set.used ∙ ap (λ m. limits_on m l) (sym n) in
-        is ∙ (ap (λ (m : Limits). let v : Seen = record { limits = m; device = device_in_view x.store.state } in v) limits ∙ ap (λ (y : OneDevice). let v : Seen = record { limits = limits_on d l; device = y } in v) device)
+        is ∙ (ap (λ (m : Limits). let v : Seen = record { limits = m; state = x.store.state } in v) limits ∙ ap (λ (s : State). let v : Seen = record { limits = limits_on d l; state = s } in v) state)
     go false other = absurd (is_apart l x d set there (differ d x.current other) at)
 
 -- what is there is seen by the limits of the devices
-pub seen_some : (l : Limits) (x : Devices) (d : ℕ) (r : Option Seen) → AreSet l x → IfSome r (λ v. (m : Limits) → AreSet m x → v ≡ record { limits = limits_on d m; device = device_at d (whole_of x).devices }) → IfSome r (λ v. v ≡ record { limits = limits_on d l; device = device_at d (whole_of x).devices })
+pub seen_some : (l : Limits) (x : Devices) (d : ℕ) (r : Option Seen) → AreSet l x → IfSome r (λ v. (m : Limits) → AreSet m x → v ≡ record { limits = limits_on d m; state = view d (whole_of x) }) → IfSome r (λ v. v ≡ record { limits = limits_on d l; state = view d (whole_of x) })
 seen_some l x d (Some v) set h = h l set
 seen_some l x d None set h = tt
 

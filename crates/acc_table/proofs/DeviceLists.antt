@@ -4,8 +4,7 @@ use Rattle.std.specs.Prelude.{map, slice_index_or, slice_set, IsSome}
 use Rattle.std.specs.List.{AllByRecursion}
 use Rattle.acc_base.specs.Records.{State}
 use Rattle.acc_base.specs.Devices.{OneDevice, Whole, device_at, view, with_view}
-use Rattle.acc_clauses.specs.Views.{device_in_view}
-use Rattle.acc_clauses.specs.Spares.{Parked}
+use Rattle.acc_clauses.specs.Devices.{Parked, device_in_view}
 use Rattle.acc_table.specs.Devices.{device_or, whole_with, IsOnlyNone}
 
 -- ---- the one in use

@@ -7,7 +7,7 @@ use Rattle.acc_base.specs.Limits.{Limits, limits_on}
 use Rattle.acc_base.specs.Records.{State}
 use Rattle.acc_base.specs.Devices.{OneDevice, Whole, new_device, new_whole}
 use Rattle.acc_clauses.specs.Contents.{Contents, AreNew}
-use Rattle.acc_clauses.specs.Spares.{Parked}
+use Rattle.acc_clauses.specs.Devices.{Parked}
 use Rattle.acc_table.specs.declared.devices.Devices.{Devices}
 use Rattle.acc_table.specs.Devices.{device_or, whole_with, IsOnlyNone, AreSet, new_parked, AreNewUpTo}
 

@@ -7,8 +7,7 @@ use Rattle.acc_base.specs.Records.{State}
 use Rattle.acc_base.specs.Devices.{OneDevice, Whole}
 use Rattle.acc_base.proofs.Results.{equal, differ}
 use Rattle.acc_clauses.specs.Contents.{Contents}
-use Rattle.acc_clauses.specs.Views.{device_in_view}
-use Rattle.acc_clauses.specs.Spares.{Parked, in_use}
+use Rattle.acc_clauses.specs.Devices.{Parked, device_in_view, in_use}
 use Rattle.acc_table.specs.declared.devices.Devices.{Devices}
 use Rattle.acc_table.specs.Devices.{whole_with, whole_of, IsOnlyNone, IsParkedFor, AreSet}
 use Rattle.acc_table.proofs.DeviceLists.{used_there, other_apart, moved, only_moved, devices_moved}

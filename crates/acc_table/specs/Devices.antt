@@ -5,8 +5,7 @@ use Rattle.std.specs.List.{AllByRecursion}
 use Rattle.acc_base.specs.Limits.{Limits, limits_on}
 use Rattle.acc_base.specs.Records.{State}
 use Rattle.acc_base.specs.Devices.{OneDevice, Whole, new_device}
-use Rattle.acc_clauses.specs.Views.{device_in_view}
-use Rattle.acc_clauses.specs.Spares.{Parked}
+use Rattle.acc_clauses.specs.Devices.{Parked, device_in_view}
 use Rattle.acc_table.specs.declared.devices.Devices.{Devices}
 
 -- the device that stands apart, or the one in use in the place where none does

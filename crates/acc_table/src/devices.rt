@@ -5,7 +5,7 @@ ghost use Rattle.acc_base.specs.declared.faults.Fault.TheVariants.{Memory};
 ghost use Rattle.acc_base.specs.Limits.{Limits, limits_on};
 ghost use Rattle.acc_base.specs.Register.{region_at};
 ghost use Rattle.acc_base.specs.Calls.{base_of};
-ghost use Rattle.acc_base.specs.Devices.{device_at, new_whole, open_regions, device_of_region};
+ghost use Rattle.acc_base.specs.Devices.{device_at, view, new_whole, open_regions, device_of_region};
 ghost use Rattle.acc_table.specs.Devices.{whole_of, AreSet, AreNewUpTo};
 
 use acc_base::{Config, Fault};
@@ -78,12 +78,12 @@ impl Devices {
     /// What a device has, to look at. `None` exactly where there is no such device.
     pub(crate) fn view(&self, device: u64) -> Option<View<'_>>
         requires { (l : Limits) × AreSet l self.now }
-        ensures there { IfSome result (λ v. (l : Limits) → AreSet l self.now → v ≡ record { limits = limits_on device l; device = device_at device (whole_of self.now).devices }) }
+        ensures there { IfSome result (λ v. (l : Limits) → AreSet l self.now → v ≡ record { limits = limits_on device l; state = view device (whole_of self.now) }) }
         ensures known { IfSome result (λ _. device < length self.now.spares.items) }
         ensures none { IfNone result (length self.now.spares.items ≤ device) }
     {
         match self.spares.get(device as usize)? {
-            Some(spare) => Some(spare.view()),
+            Some(spare) => Some(self.store.view_apart(spare)),
             None => Some(self.store.view()),
         }
     }

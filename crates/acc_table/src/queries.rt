@@ -42,7 +42,7 @@ fn later(one: Option<u64>, other: Option<u64>) -> Option<u64>
 impl Table {
     /// What a device has, to look at. `None` exactly where there is no such device.
     fn on(&self, device: u64) -> Option<View<'_>>
-        ensures there { IfSome result (λ v. v ≡ record { limits = limits_on device self.now.limits; device = device_at device self.now.state.devices }) }
+        ensures there { IfSome result (λ v. v ≡ record { limits = limits_on device self.now.limits; state = view device self.now.state }) }
         ensures known { IfSome result (λ _. device < self.now.limits.devices) }
         ensures none { IfNone result (self.now.limits.devices ≤ device) }
         ensures new { IfNone result (device_at device self.now.state.devices ≡ new_device) }

@@ -8,24 +8,24 @@ use Rattle.acc_clauses.proofs.aims.attach.Goals.{then-count-eq0-via-then-count-e
 use Rattle.acc_clauses.proofs.aims.attach.Goals as goal
 
 pub value_after-requires-clause-aligned : goal.value_after-requires-clause-aligned
-value_after-requires-clause-aligned c = aligned c.args.parts.now.limits c.args.n c.args.pointer c.requires.checked
+value_after-requires-clause-aligned c = aligned c.args.view.now.limits c.args.n c.args.pointer c.requires.checked
 
 pub returns-in_default : goal.returns-in_default
-returns-in_default c = attach-absent c.args.parts.now.limits c.args.n c.args.pointer c.args.draft.now c.args.parts.now.state c.requires.planned c.requires.entering c.in_default.ensures
+returns-in_default c = attach-absent c.args.view.now.limits c.args.n c.args.pointer c.args.draft.now c.args.view.now.state c.requires.planned c.requires.entering c.in_default.ensures
 
 pub returns-in_default-address_after : goal.returns-in_default-address_after
 returns-in_default-address_after c =
-    attach-untargeted c.args.parts.now.limits c.args.n c.args.pointer c.args.draft.now c.args.parts.now.state c.requires.planned c.requires.entering c.host_pointer.result c.host_pointer.ensures c.in_default-address_after.ensures
+    attach-untargeted c.args.view.now.limits c.args.n c.args.pointer c.args.draft.now c.args.view.now.state c.requires.planned c.requires.entering c.host_pointer.result c.host_pointer.ensures c.in_default-address_after.ensures
 
 pub returns-in_err-not_lent : goal.returns-in_err-not_lent
 returns-in_err-not_lent c = grind (arith, attach-lent)
 
 pub value_after-requires-clause-free : goal.value_after-requires-clause-free
-value_after-requires-clause-free c = not_lent_says c.in-Some.block c.args.parts.now.state.records.loans (sym c.in_ok-not_lent.ensures)
+value_after-requires-clause-free c = not_lent_says c.in-Some.block c.args.view.now.state.records.loans (sym c.in_ok-not_lent.ensures)
 
 pub returns-then-count-eq0 : goal.returns-then-count-eq0
 returns-then-count-eq0 c =
-    let p = c.args.parts.now in
+    let p = c.args.view.now in
     let xs = c.args.draft.now in
     let block = c.in-Some.block in
     let target = c.in-Some-address_after.target in
@@ -40,7 +40,7 @@ returns-then-count-eq0 c =
 
 pub returns-then-counter_max-count : goal.returns-then-counter_max-count
 returns-then-counter_max-count c =
-    let p = c.args.parts.now in
+    let p = c.args.view.now in
     let xs = c.args.draft.now in
     let block = c.in-Some.block in
     let target = c.in-Some-address_after.target in
@@ -55,7 +55,7 @@ returns-then-counter_max-count c =
 
 pub returns : goal.returns
 returns c =
-    let p = c.args.parts.now in
+    let p = c.args.view.now in
     let xs = c.args.draft.now in
     let block = c.in-Some.block in
     let target = c.in-Some-address_after.target in

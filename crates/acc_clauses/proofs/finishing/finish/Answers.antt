@@ -1,24 +1,28 @@
-use Rattle.std.proofs.Common.{arith}
+use Rattle.std.proofs.Common.{◌≡◌, ◌+◌, ap, subst, length, arith}
 use Rattle.std.proofs.lemmas.Bool.Decides.{nat_tests}
+use Rattle.acc_base.specs.Devices.{OneDevice}
 use Rattle.acc_base.specs.Waits.{drained}
+use Rattle.acc_clauses.specs.Words.{Directive}
+use Rattle.acc_clauses.specs.Acts.{CanFinish}
+use Rattle.acc_clauses.specs.Contents.{Numbers}
+use Rattle.acc_clauses.specs.Devices.{state_beside}
 use Rattle.acc_clauses.proofs.Finished.{finished_enter, finished_exit, finished_wait, finished_step}
 use Rattle.acc_clauses.proofs.finishing.finish.Goals as goal
 
-pub enter-requires-clause-room : goal.enter-requires-clause-room
-enter-requires-clause-room c = grind (arith)
-
 pub returns-in-Enter-clause-state : goal.returns-in-Enter-clause-state
-returns-in-Enter-clause-state c = rw c.in-Enter.is (finished_enter c.in-Enter.device c.in-Enter.items c.args.plan.now c.args.parts.now.state c.enter.new.self.state c.holdings.result.now c.holdings.ensures c.enter.ensures.state)
+returns-in-Enter-clause-state c = λ serial. rw c.in-Enter.is (finished_enter c.in-Enter.device c.in-Enter.items c.args.plan.now _ _ c.holdings.result.now c.holdings.ensures (ap (λ (x : OneDevice). state_beside x c.args.host.now (record { region = c.args.next_region.now + 1; serial = serial })) c.enter.ensures.device))
 
 pub returns-in-Exit-clause-state : goal.returns-in-Exit-clause-state
-returns-in-Exit-clause-state c = rw c.in-Exit.is (finished_exit _ c.args.plan.now c.args.parts.now.state c.leave.new.self.state c.leave.ensures.state)
+returns-in-Exit-clause-state c = λ serial. rw c.in-Exit.is (finished_exit _ c.args.plan.now _ _ (ap (λ (x : OneDevice). state_beside x c.args.host.now (record { region = c.args.next_region.now; serial = serial })) c.leave.ensures.device))
 
 pub returns-in-Wait-clause-state : goal.returns-in-Wait-clause-state
-returns-in-Wait-clause-state c = rw c.in-Wait.is (finished_wait c.in-Wait.device _ c.args.plan.now c.args.parts.now.state c.drain.new.parts.state c.drain.ensures.state)
+returns-in-Wait-clause-state c = λ serial.
+    let n : Numbers = record { region = c.args.next_region.now; serial = serial } in
+    rw c.in-Wait.is (finished_wait c.in-Wait.device c.in-Wait.queue c.args.plan.now (state_beside c.args.device.now.device c.args.host.now n) (state_beside c.drain.new.device.device c.drain.new.host n) (c.drain.ensures.state n))
 
 pub returns-in-Step-clause-state : goal.returns-in-Step-clause-state
-returns-in-Step-clause-state c = rw c.in-Step.is (finished_step c.in-Step.device _ c.args.plan.now c.args.parts.now.state c.step.new.self.state c.step.ensures.state)
+returns-in-Step-clause-state c = λ serial. rw c.in-Step.is (finished_step c.in-Step.device _ c.args.plan.now _ _ (c.step.ensures.state (record { region = c.args.next_region.now; serial = serial })))
 
 pub returns-in_default-clause-state : goal.returns-in_default-clause-state
 unfolding drained
-returns-in_default-clause-state c = grind (arith, nat_tests)
+returns-in_default-clause-state c = λ serial. grind (arith, nat_tests)

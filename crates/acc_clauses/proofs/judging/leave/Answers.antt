@@ -17,4 +17,4 @@ unfolding judge_row
 left l n xs w holding b c p named is = rw named (rw is (rw (ends-planned l xs w (ExitRegion holding) b p)))
 
 pub returns-in-Some : goal.returns-in-Some
-returns-in-Some c = λ n. rw c.dropped.ensures (left c.args.parts.now.limits n c.args.draft.now c.args.parts.now.state.records c.args.holding c.in-Some.block c.counters_after-counters.result c.requires c.in-Some.is c.counters_after-counters.ensures.value)
+returns-in-Some c = λ n. rw c.dropped.ensures (left c.args.view.now.limits n c.args.draft.now c.args.view.now.state.records c.args.holding c.in-Some.block c.counters_after-counters.result c.requires c.in-Some.is c.counters_after-counters.ensures.value)

@@ -6,4 +6,4 @@ pub returns-in_err-not_lent : goal.returns-in_err-not_lent
 returns-in_err-not_lent c = grind (arith, place_lent)
 
 pub loop-place-preserved : goal.loop-place-preserved
-loop-place-preserved c = grind (arith, place_free c.loop-place.place _ (c.args.parts.now.state.records).loans _ c.waiting_block.result c.waiting_block.ensures c.loop-place.invariant _ c.in_ok-not_lent.ensures)
+loop-place-preserved c = grind (arith, place_free c.loop-place.place _ (c.args.view.now.state.records).loans _ c.waiting_block.result c.waiting_block.ensures c.loop-place.invariant _ c.in_ok-not_lent.ensures)

@@ -23,7 +23,7 @@ judge-requires-clause-queue c =
 pub returns-in_err-judge-clause-judged : goal.returns-in_err-judge-clause-judged
 returns-in_err-judge-clause-judged c =
     let within : c.loop-n.n < length (tasks_with c.args.directive.now c.args.holdings.now) = omega (arith, c.loop-n-test.true, c.task_count-n-end.ensures) in
-    let refused = turn_refused c.args.parts.now.limits c.loop-n.n c.loop-n.n c.loop-n.draft c.task_at.result (tasks_with c.args.directive.now c.args.holdings.now) c.task_at.result c.args.parts.now.state _ _ within (c.task_at.ensures c.task_at.result) c.in_err-judge.ensures c.loop-n.invariant.judged in
+    let refused = turn_refused c.args.view.now.limits c.loop-n.n c.loop-n.n c.loop-n.draft c.task_at.result (tasks_with c.args.directive.now c.args.holdings.now) c.task_at.result c.args.view.now.state _ _ within (c.task_at.ensures c.task_at.result) c.in_err-judge.ensures c.loop-n.invariant.judged in
     search rules
 
 pub loop-n-preserved : goal.loop-n-preserved
@@ -36,8 +36,8 @@ loop-n-preserved c =
     record {
       few = few_turn c.loop-n.n _ _ _ next.more r.few;
       asked = asked_turn c.loop-n.n c.loop-n.draft c.judge.new.draft _ tasks c.task_at.result within is next.more r.asked;
-      planned = IsPlanned-next c.args.parts.now.limits c.loop-n.n c.loop-n.draft c.judge.new.draft c.task_at.result c.args.parts.now.state (sym r.few) r.planned next;
-      judged = task_judged c.args.parts.now.limits c.loop-n.n c.loop-n.n c.loop-n.draft c.judge.new.draft c.task_at.result tasks c.task_at.result c.args.parts.now.state _ within is next r.judged;
+      planned = IsPlanned-next c.args.view.now.limits c.loop-n.n c.loop-n.draft c.judge.new.draft c.task_at.result c.args.view.now.state (sym r.few) r.planned next;
+      judged = task_judged c.args.view.now.limits c.loop-n.n c.loop-n.n c.loop-n.draft c.judge.new.draft c.task_at.result tasks c.task_at.result c.args.view.now.state _ within is next r.judged;
     }
 
 pub returns-clause-judged : goal.returns-clause-judged

@@ -10,6 +10,6 @@ abbrev pub invariant-loop-n : goal.invariant-loop-n
 invariant-loop-n l = let tasks = tasks_with l.directive l.holdings in record {
   few : length l.draft ≡ l.n;
   asked : tasks_in l.draft ++ drop l.n tasks ≡ tasks;
-  planned : IsPlanned l.parts.limits l.draft l.parts.state.records;
-  judged : prefixed (dids_in l.draft) (judge_all l.parts.limits l.n (drop l.n tasks) (state_after l.draft l.parts.state)) ≡ judge_all l.parts.limits 0 tasks l.parts.state;
+  planned : IsPlanned l.view.limits l.draft l.view.state.records;
+  judged : prefixed (dids_in l.draft) (judge_all l.view.limits l.n (drop l.n tasks) (state_after l.draft l.view.state)) ≡ judge_all l.view.limits 0 tasks l.view.state;
 }

@@ -1,5 +1,5 @@
 use Rattle.std.proofs.Common.{◌≡◌, ◌∙◌, sym, ap, subst, arith, List, [], ◌∷◌, ◌++◌, Option, None}
-use Rattle.acc_clauses.specs.Spares.{Parked}
+use Rattle.acc_clauses.specs.Devices.{Parked}
 use Rattle.acc_table.specs.Devices.{AreNewUpTo}
 use Rattle.acc_table.proofs.NewDevices.{new_first, new_more}
 use Rattle.acc_table.proofs.devices.new_spares.Goals as goal

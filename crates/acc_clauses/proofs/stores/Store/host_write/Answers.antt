@@ -1,5 +1,9 @@
+use Rattle.std.proofs.Common.{arith}
+use Rattle.acc_clauses.specs.Contents.{Contents, Numbers}
+use Rattle.acc_clauses.specs.Devices.{contents_beside}
+use Rattle.acc_clauses.proofs.Copying.{host_written}
 use Rattle.acc_clauses.proofs.Storing.{written_sound}
 use Rattle.acc_clauses.proofs.stores.Store.host_write.Goals as goal
 
-pub invariant_of-self : goal.invariant_of-self
-invariant_of-self c = written_sound c.self.inside.parts c.host_write.new.self c.args.addr c.args.bytes.now c.self.invariant c.host_write.ensures.limits c.host_write.ensures.state
+pub returns-clause-state : goal.returns-clause-state
+returns-clause-state c = grind (arith, host_written)

@@ -1,23 +1,52 @@
-use Rattle.std.proofs.Common.{sym, subst, arith}
-use Rattle.acc_clauses.specs.Contents.{Contents}
+use Rattle.std.proofs.Common.{◌≡◌, ◌+◌, ◌<◌, ◌^◌, ◌∙◌, sym, subst, arith, []}
+use Rattle.acc_base.specs.declared.events.Event.TheVariants.{Lent}
+use Rattle.acc_base.specs.Judge.{leased}
+use Rattle.acc_base.specs.Acting.{after}
+use Rattle.acc_clauses.specs.Contents.{Contents, Numbers}
+use Rattle.acc_clauses.specs.Devices.{state_beside, contents_beside}
 use Rattle.acc_clauses.specs.Lending.{IsLoanPlanned}
 use Rattle.acc_clauses.proofs.Lends.{planned_says, lent_after, lent_store}
 use Rattle.acc_clauses.proofs.stores.Store.lend.Goals as goal
 
 pub lend-requires-clause-free : goal.lend-requires-clause-free
 lend-requires-clause-free c =
-    let k : Contents = c.self.inside.parts in
-    let p = c.requires.planned in
-    (planned_says k.limits p.0 p.1 k.state c.args.loan c.self.invariant.sound.layout.records (subst (λ (x : Contents). IsLoanPlanned x.limits p.0 p.1 x.state c.args.loan) (sym c.self.view_is) p.2)).free
+    let x = c.self.inside in
+    let n : Numbers = record { region = x.next_region; serial = x.next_serial } in
+    let k : Contents = contents_beside x.device x.host n in
+    let q = c.requires.planned in
+    let says = planned_says k.limits q.0 q.1 k.state c.args.loan c.self.invariant.sound.layout.records (subst (λ (y : Contents). IsLoanPlanned y.limits q.0 q.1 y.state c.args.loan) (sym c.self.view_is) q.2) in
+    says.free
 
 pub lend-requires-clause-sound : goal.lend-requires-clause-sound
 lend-requires-clause-sound c =
-    let k : Contents = c.self.inside.parts in
-    let p = c.requires.planned in
-    (planned_says k.limits p.0 p.1 k.state c.args.loan c.self.invariant.sound.layout.records (subst (λ (x : Contents). IsLoanPlanned x.limits p.0 p.1 x.state c.args.loan) (sym c.self.view_is) p.2)).sound
+    let x = c.self.inside in
+    let n : Numbers = record { region = x.next_region; serial = x.next_serial } in
+    let k : Contents = contents_beside x.device x.host n in
+    let q = c.requires.planned in
+    let says = planned_says k.limits q.0 q.1 k.state c.args.loan c.self.invariant.sound.layout.records (subst (λ (y : Contents). IsLoanPlanned y.limits q.0 q.1 y.state c.args.loan) (sym c.self.view_is) q.2) in
+    says.sound
 
-pub invariant_of-self : goal.invariant_of-self
-invariant_of-self c = grind (arith, lent_store)
+pub lend-requires-clause-few : goal.lend-requires-clause-few
+lend-requires-clause-few c = let serial : c.self.inside.next_serial < 2 ^ 48 = subst (λ (y : Contents). y.state.register.serial < 2 ^ 48) (sym c.self.view_is) c.requires.serial in omega (arith, c.self.invariant.few, serial)
+
+pub invariant_of-self-2 : goal.invariant_of-self-2
+invariant_of-self-2 c =
+    let x = c.self.inside in
+    let n : Numbers = record { region = x.next_region; serial = x.next_serial } in
+    let k : Contents = contents_beside x.device x.host n in
+    let q = c.requires.planned in
+    let planned : IsLoanPlanned k.limits q.0 q.1 k.state c.args.loan = subst (λ (y : Contents). IsLoanPlanned y.limits q.0 q.1 y.state c.args.loan) (sym c.self.view_is) q.2 in
+    lent_store q.0 q.1 k (contents_beside c.lend.new.self x.host (record { region = n.region; serial = n.serial + 1 })) c.args.loan c.laws.ensures.limits c.self.invariant planned c.lend.ensures.limits (c.in_ok-lease.ensures.state x.host n)
+
+pub returns-clause-lease : goal.returns-clause-lease
+returns-clause-lease c =
+    let x = c.self.inside in
+    subst (λ (y : Contents). c.in_ok-lease.lease ≡ leased y.limits.number c.args.loan y.state) c.self.view_is (c.in_ok-lease.ensures.lease x.host (record { region = x.next_region; serial = x.next_serial }))
 
 pub returns-clause-state : goal.returns-clause-state
-returns-clause-state c region section p = grind (arith, lent_after)
+returns-clause-state c = λ region section.
+    let x = c.self.inside in
+    let n : Numbers = record { region = x.next_region; serial = x.next_serial } in
+    let k : Contents = contents_beside x.device x.host n in
+    subst (λ (y : Contents). IsLoanPlanned y.limits region section y.state c.args.loan → state_beside c.lend.new.self.device x.host (record { region = n.region; serial = n.serial + 1 }) ≡ after y.limits.full (Lent y.limits.number region section c.args.loan.block c.args.loan.serial) [] y.state) c.self.view_is
+    (λ p. c.in_ok-lease.ensures.state x.host n ∙ lent_after k.limits.full k.limits.number region section c.args.loan k.state p.loan_is)

@@ -6,6 +6,7 @@ use Rattle.acc_base.specs.Limits.{IsFromOne}
 use Rattle.acc_queues.specs.Queued.{spare_at}
 use Rattle.acc_clauses.specs.Overlays.{dids_in, puts_in}
 use Rattle.acc_clauses.specs.Contents.{Contents}
+use Rattle.acc_clauses.specs.Devices.{contents_beside}
 use Rattle.acc_clauses.specs.Planned.{IsPlanOf}
 use Rattle.acc_clauses.proofs.Events.{planned_judged}
 use Rattle.acc_clauses.proofs.Remaining.{lens_fit}
@@ -15,21 +16,23 @@ use Rattle.acc_clauses.proofs.stores.Store.reserve.Goals as goal
 pub reserve-requires-clause-lens : goal.reserve-requires-clause-lens
 reserve-requires-clause-lens c =
     let p = c.args.plan.now in
-    let k : Contents = c.self.inside.parts in
-    let planned : IsPlanOf k.limits c.args.directive.now k.state p = subst (λ (x : Contents). IsPlanOf x.limits c.args.directive.now x.state p) (sym c.self.view_is) c.requires.planned in
-    subst (λ ls. All (IsFromOne MEMORY_MAX) ls) (sym c.lens.ensures.lens) (lens_fit c.self.inside.parts.limits 0 p.tasks p.dids c.self.inside.parts.state.records c.laws.ensures.limits (planned_judged k.limits c.args.directive.now k.state p planned))
+    let x = c.self.inside in
+    let k : Contents = contents_beside x.device x.host (record { region = x.next_region; serial = x.next_serial }) in
+    let planned : IsPlanOf k.limits c.args.directive.now k.state p = subst (λ (y : Contents). IsPlanOf y.limits c.args.directive.now y.state p) (sym c.self.view_is) c.requires.planned in
+    subst (λ ls. All (IsFromOne MEMORY_MAX) ls) (sym c.lens.ensures.lens) (lens_fit k.limits 0 p.tasks p.dids k.state.records c.laws.ensures.limits (planned_judged k.limits c.args.directive.now k.state p planned))
 
 pub reserve_puts-requires-clause-known : goal.reserve_puts-requires-clause-known
 reserve_puts-requires-clause-known c = grind (arith)
 
 pub returns-in-Some-clause-room : goal.returns-in-Some-clause-room
 returns-in-Some-clause-room c =
-    let k : Contents = c.self.inside.parts in
+    let x = c.self.inside in
+    let k : Contents = contents_beside x.device x.host (record { region = x.next_region; serial = x.next_serial }) in
     let p = c.args.plan.now in
     let acts = c.acts-acts.result.now in
     let q = c.in-Some.q in
     let kept = c.reserve_puts.ensures in
-    let planned : IsPlanOf k.limits c.args.directive.now k.state p = subst (λ (x : Contents). IsPlanOf x.limits c.args.directive.now x.state p) (sym c.self.view_is) c.requires.planned in
+    let planned : IsPlanOf k.limits c.args.directive.now k.state p = subst (λ (y : Contents). IsPlanOf y.limits c.args.directive.now y.state p) (sym c.self.view_is) c.requires.planned in
     let count : c.puts_in.result ≡ puts_in q p.tasks p.dids = c.puts_in.ensures.value ∙ ap (λ ts. puts_in q ts (dids_in acts)) c.acts-acts.ensures.tasks ∙ ap (λ ds. puts_in q p.tasks ds) c.acts-acts.ensures.dids in
     on_ok_weaker c.reserve_puts.result (λ (enough : c.puts_in.result ≤ spare_at q c.reserve_puts.new.self.room.puts).
     plan_room c.args.directive.now p acts c.lens.result.now c.pointers_in.result c.reserve.new.self.room c.reserve_puts.new.self.room (record {

@@ -2,11 +2,11 @@ use Rattle.std.proofs.Common.{subst}
 use Rattle.acc_base.specs.declared.items.Section.{Section}
 use Rattle.acc_base.specs.Section.{device_memory}
 use Rattle.acc_base.specs.Holes.{IsNextHole}
-use Rattle.acc_clauses.specs.Views.{Seen}
+use Rattle.acc_clauses.specs.Devices.{Seen}
 use Rattle.acc_clauses.proofs.views.View.hole.Goals as goal
 
 pub returns : goal.returns
 returns c =
     let v = c.self.inside in
-    subst (λ (k : Seen). IsNextHole c.args.from (device_memory k.limits) k.device.records.blocks c.hole.result) c.self.view_is
+    subst (λ (k : Seen). IsNextHole c.args.from (device_memory k.limits) k.state.records.blocks c.hole.result) c.self.view_is
     (subst (λ (m : Section). IsNextHole c.args.from m v.environment.now.device.blocks c.hole.result) c.self.invariant.sized.device c.hole.ensures)

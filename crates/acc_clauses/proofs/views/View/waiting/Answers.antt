@@ -10,9 +10,9 @@ pub overflow_add-count : goal.overflow_add-count
 overflow_add-count c = omega (arith, c.loop-q.invariant.few, c.loop-q-test.true, c.queue_len-count.ensures.limit, c.queue_len-count.ensures.bound)
 
 pub loop-q-preserved : goal.loop-q-preserved
-loop-q-preserved c = grind (arith, more_wait c.loop-q.q c.loop-q.count c.queue_len-count.result _ c.args.self.now.device.records.queues c.queue_len-count.ensures.value c.loop-q.invariant.all)
+loop-q-preserved c = grind (arith, more_wait c.loop-q.q c.loop-q.count c.queue_len-count.result _ c.args.self.now.state.records.queues c.queue_len-count.ensures.value c.loop-q.invariant.all)
 
 pub returns-after-loop-q : goal.returns-after-loop-q
 returns-after-loop-q c =
-    all_wait c.loop-q.q c.loop-q.count _ c.args.self.now.device.records.queues (omega (arith, c.loop-q-test.false, c.laws.ensures.sound.queues.all)) c.loop-q.invariant.all
-    ∙ ap (λ o. length (steps_of o c.args.self.now.device.records.queues)) (sym c.in-None.is)
+    all_wait c.loop-q.q c.loop-q.count _ c.args.self.now.state.records.queues (omega (arith, c.loop-q-test.false, c.laws.ensures.sound.records.queues.all)) c.loop-q.invariant.all
+    ∙ ap (λ o. length (steps_of o c.args.self.now.state.records.queues)) (sym c.in-None.is)

@@ -2,7 +2,7 @@ use Rattle.std.proofs.Common.{◌≡◌, ◌<◌, ◌≤◌, ◌+◌, ◌∙◌,
 use Rattle.std.specs.Prelude.{map}
 use Rattle.acc_base.specs.Limits.{Limits, recorded}
 use Rattle.acc_base.specs.Devices.{OneDevice, Whole, device_at, recorded_device}
-use Rattle.acc_clauses.specs.Views.{Seen}
+use Rattle.acc_clauses.specs.Devices.{Seen, device_in_view}
 use Rattle.acc_table.specs.Devices.{whole_of}
 use Rattle.acc_table.proofs.AllDevices.{devices_count, saved_more, saved_all, base_saved}
 use Rattle.acc_table.proofs.devices.Devices.base.Goals.{in-Some+in_ok-saved+in_ok-push, in_default}
@@ -16,7 +16,7 @@ loop-device-preserved c =
     let there : d < length w.devices = omega (arith, c.loop-device-test.true, c.devices-device-end.ensures.value, c.requires.count, devices_count c.args.self.now) in
     elim c.match-view.branch [
       | in-Some+in_ok-saved+in_ok-push x ↦
-          let now : x.in_ok-saved.field-0 ≡ recorded_device l.full (device_at d w.devices) = x.in_ok-saved.ensures.ok ∙ ap (λ (v : Seen). recorded_device v.limits.full v.device) (x.in-Some.ensures.there l c.requires) in
+          let now : x.in_ok-saved.field-0 ≡ recorded_device l.full (device_at d w.devices) = x.in_ok-saved.ensures.ok ∙ ap (λ (v : Seen). recorded_device v.limits.full (device_in_view v.state)) (x.in-Some.ensures.there l c.requires) in
           let items : c.match-view.saved.items ≡ c.loop-device.saved.items ++ x.in_ok-saved.field-0 ∷ [] = ap (λ (v : Vec OneDevice Global). v.items) x.saved-is ∙ x.in_ok-push.ensures.items in
           subst (λ (ds : List OneDevice). ds ++ map (recorded_device l.full) (drop (d + 1) w.devices) ≡ map (recorded_device l.full) w.devices) (sym items) (saved_more l.full d w.devices c.loop-device.saved.items x.in_ok-saved.field-0 there c.loop-device.invariant now)
       | in_default x ↦ absurd (let none : length c.args.self.now.spares.items ≤ d = x.in_default.ensures.none in omega (arith, there, none, devices_count c.args.self.now))

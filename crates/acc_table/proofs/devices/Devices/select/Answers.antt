@@ -1,6 +1,6 @@
 use Rattle.std.proofs.Common.{◌≡◌, ◌<◌, ◌∙◌, refl, sym, ap, rules, length, Option, Some, None}
 use Rattle.std.specs.Prelude.{slice_index_or, slice_set}
-use Rattle.acc_clauses.specs.Spares.{Parked}
+use Rattle.acc_clauses.specs.Devices.{Parked}
 use Rattle.acc_table.specs.declared.devices.Devices.{Devices}
 use Rattle.acc_table.proofs.DeviceLists.{used_there, moved}
 use Rattle.acc_table.proofs.Selecting.{at_place, apart_host, is_apart, set_moved, whole_moved}

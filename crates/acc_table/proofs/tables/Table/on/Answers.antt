@@ -1,7 +1,7 @@
 use Rattle.std.proofs.Common.{◌≡◌, subst}
 use Rattle.std.specs.Prelude.{IfSome, IfNone, ◌<◌}
 use Rattle.acc_base.specs.Limits.{limits_on}
-use Rattle.acc_base.specs.Devices.{device_at, new_device}
+use Rattle.acc_base.specs.Devices.{device_at, view, new_device}
 use Rattle.acc_base.specs.Calls.{World}
 use Rattle.acc_table.proofs.Keeping.{opened}
 use Rattle.acc_table.proofs.AllDevices.{seen_some, seen_known, seen_none}
@@ -10,7 +10,7 @@ use Rattle.acc_table.proofs.tables.Table.on.Goals as goal
 pub returns-clause-there : goal.returns-clause-there
 returns-clause-there c =
     let o = opened c.self.inside.kept.value c.deref.result.now c.args.self.now c.deref.ensures c.self.invariant c.self.view_is in
-    subst (λ (w : World). IfSome c.view.result (λ v. v ≡ record { limits = limits_on c.args.device w.limits; device = device_at c.args.device w.state.devices })) o.same (seen_some c.deref.result.now.config c.deref.result.now.devices c.args.device c.view.result o.set c.view.ensures.there)
+    subst (λ (w : World). IfSome c.view.result (λ v. v ≡ record { limits = limits_on c.args.device w.limits; state = view c.args.device w.state })) o.same (seen_some c.deref.result.now.config c.deref.result.now.devices c.args.device c.view.result o.set c.view.ensures.there)
 
 pub returns-clause-known : goal.returns-clause-known
 returns-clause-known c =

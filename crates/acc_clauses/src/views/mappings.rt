@@ -1,14 +1,14 @@
 //! Where sections lie among the mapped ranges, and what those count.
 
 ghost use Rattle.std.specs.Prelude.{◌≡◌, ◌^◌, ◌<◌, ◌≤◌};
-ghost use Rattle.acc_base.specs.Ranges.{where_is, where_is_apart, range_of, structured_of, dynamic_of, start_of};
+ghost use Rattle.acc_base.specs.Ranges.{where_is, where_is_apart, range_from, range_of, structured_of, dynamic_of, start_of};
 
-use crate::parts::Parts;
+use crate::views::View;
 use acc_base::{Counters, Found, Range, Section};
 
-impl Parts {
+impl View<'_> {
     /// Where a section lies among the mapped ranges.
-    pub(crate) fn find(&self, section: Section) -> Found
+    pub fn find(&self, section: Section) -> Found
         ensures { result ≡ where_is section self.now.state.records.ranges }
     {
         self.environment.present.find(section)
@@ -21,6 +21,13 @@ impl Parts {
         self.environment.present.find_apart(section, blocks)
     }
 
+    /// The mapped range of least start at or above a host address, if there is one.
+    pub fn next_range(&self, from: u64) -> Option<Range>
+        ensures { result ≡ range_from from self.now.state.records.ranges }
+    {
+        self.environment.present.next_range(from)
+    }
+
     /// The range that is mapped to a block, if one is.
     pub(crate) fn range(&self, block: u64) -> Option<Range>
         ensures { result ≡ range_of block self.now.state.records.ranges }
@@ -29,7 +36,7 @@ impl Parts {
     }
 
     /// The reference counters of the range that is mapped to a block; both are 0 where none is.
-    pub(crate) fn counters(&self, block: u64) -> Counters
+    pub fn counters(&self, block: u64) -> Counters
         ensures structured { result.structured ≡ structured_of block self.now.state.records.ranges }
         ensures dynamic { result.dynamic ≡ dynamic_of block self.now.state.records.ranges }
         ensures structured_limit { result.structured ≤ self.now.limits.counter_max }

@@ -1,0 +1,265 @@
+//! What one device has, as one value, and how it changes.
+
+ghost use Rattle.std.specs.Prelude.{ℕ, ◌≡◌, ◌+◌, ◌^◌, ◌<◌, ◌≤◌, List, All, IfOk, IfErr, OnOk, OnErr, IsSome, None, Ok, length, take, true, false};
+ghost use Rattle.acc_base.specs.declared.faults.Fault.TheVariants.{Memory};
+ghost use Rattle.acc_base.specs.Limits.{IsFromOne, IsWithinBounds, limits_on};
+ghost use Rattle.acc_base.specs.Section.{device_memory};
+ghost use Rattle.acc_base.specs.Holes.{IsDevice};
+ghost use Rattle.acc_base.specs.declared.addresses.TheConstants.{MEMORY_MAX};
+ghost use Rattle.acc_base.specs.Loans.{is_lent, none_lent};
+ghost use Rattle.acc_base.specs.Leases.{is_returnable};
+ghost use Rattle.acc_base.specs.Register.{region_at, with_region, without_region};
+ghost use Rattle.acc_base.specs.Acting.{act_state};
+ghost use Rattle.acc_base.specs.declared.transfers.TheConstants.{QUEUE_COUNT};
+ghost use Rattle.acc_base.specs.Queues.{queue_at};
+ghost use Rattle.acc_base.specs.Waits.{stepped};
+ghost use Rattle.acc_base.specs.Blocks.{used_bytes};
+ghost use Rattle.acc_base.specs.Devices.{new_device};
+ghost use Rattle.acc_queues.specs.Queued.{spare_at};
+ghost use Rattle.acc_base.specs.Judge.{leased};
+ghost use Rattle.acc_base.specs.Accounts.{AreRecordsSound, IsLoanSound};
+ghost use Rattle.acc_clauses.specs.Contents.{Numbers};
+ghost use Rattle.acc_clauses.specs.Devices.{state_beside};
+ghost use Rattle.acc_clauses.specs.Overlays.{puts_by};
+ghost use Rattle.acc_clauses.specs.Lending.{lent_state, gathered_state};
+ghost use Rattle.acc_clauses.specs.Acts.{IsJudged, IsKnown, HasRoomFor, HasPutRoom, HasRegionRoom, LacksRoom, IsRoomLeft, birth_of, pointers_of};
+
+use crate::acting::act_on;
+use crate::environments::Environment;
+use crate::transfers::step;
+use crate::views::View;
+use acc_base::{Config, Did, Fault, Holding, Loan, Task};
+use acc_host::HostMem;
+use acc_lend::Lease;
+use std::alloc::Global;
+use std::marker::Model;
+
+/// What one device has, with its limits and its number. Its parts fit one another, whatever bytes host memory has.
+///
+/// Contracts see the limits, what the device has, and the room that was made for more.
+#[derive(Drop)]
+pub(crate) struct DeviceData {
+    config: Config,
+    number: u64,
+    environment: Environment,
+    // How many blocks are lent.
+    lent: u64,
+}
+
+impl Model for DeviceData {
+    ghost use Rattle.acc_base.specs.Limits.{limits_on};
+    ghost use Rattle.acc_clauses.specs.Devices.{DeviceContents, device_contents, IsDeviceSound};
+
+    ghost Value = { DeviceContents };
+
+    ghost view = { λ x. device_contents (limits_on x.number x.config) x.environment };
+
+    ghost invariant = { λ x. IsDeviceSound (limits_on x.number x.config) x.environment x.lent };
+}
+
+impl DeviceData {
+    /// The device of a number of a new table: nothing is mapped, no region is open, and the queues are empty.
+    ///
+    /// # Errors
+    ///
+    /// [`Fault::Memory`] alone.
+    pub(crate) fn new(alloc: Global, config: &Config, number: u64) -> Result<DeviceData, Fault>
+        requires { number < config.now.devices }
+        ensures limits { IfOk result (λ x. x.limits ≡ limits_on number config.now) }
+        ensures device { IfOk result (λ x. x.device ≡ new_device) }
+        ensures only { IfErr result (λ fault. fault ≡ Memory) }
+    {
+        config.laws();
+        let environment = Environment::new(alloc, config, number)?;
+        Ok(DeviceData {
+            config: *config,
+            number,
+            environment,
+            lent: 0,
+        })
+    }
+
+    /// The device beside host memory and the numbers of the next region and the next loan, to look at.
+    pub(crate) fn view<'a>(
+        &'a self,
+        host: &'a HostMem,
+        next_region: u64,
+        next_serial: u64,
+    ) -> View<'a>
+        requires { length host.now ≡ self.now.limits.host }
+        ensures { result ≡ record { limits = self.now.limits; state = state_beside self.now.device host.now (record { region = next_region; serial = next_serial }) } }
+    {
+        View {
+            config: &self.config,
+            number: self.number,
+            environment: &self.environment,
+            host,
+            next_region,
+            next_serial,
+            lent: self.lent,
+        }
+    }
+
+    /// Whether events store all bytes of this run.
+    pub(crate) fn is_full(&self) -> bool
+        ensures { result ≡ self.now.limits.full }
+    {
+        self.config.full()
+    }
+
+    /// The records are sound, and the limits lie within their bounds. The blocks and the holes between them are the
+    /// device, with no address in two of them. Nothing is done.
+    pub(crate) fn laws(&self)
+        ensures sound { AreRecordsSound self.now.limits self.now.device.records }
+        ensures limits { IsWithinBounds self.now.limits }
+        ensures used { used_bytes self.now.device.records.blocks ≤ self.now.limits.device }
+        ensures holes { IsDevice (device_memory self.now.limits) self.now.device.records.blocks }
+    {
+        self.environment.device.laws();
+    }
+
+    /// Does what a task is judged to do, where there is room for it. It allocates nothing and is never refused.
+    pub(crate) fn act(&mut self, host: &mut HostMem, task: Task, did: Did)
+        requires host { length host.old ≡ self.old.limits.host }
+        requires judged { IsJudged self.old.limits task did self.old.device.records }
+        requires known { IsKnown self.old.device.records task }
+        requires births { self.old.device.records.births < 2 ^ 48 }
+        requires room { HasRoomFor (birth_of task did.step) self.old.room }
+        requires pointers { pointers_of did.aim ≤ self.old.room.attachments }
+        requires puts { HasPutRoom (λ q. puts_by q task did.step) self.old.room }
+        ensures limits { self.new.limits ≡ self.old.limits }
+        ensures state { (n : Numbers) → state_beside self.new.device host.new n ≡ act_state task did (state_beside self.old.device host.old n) }
+        ensures host { length host.new ≡ length host.old }
+        ensures room { IsRoomLeft (birth_of task did.step) (pointers_of did.aim) (λ q. puts_by q task did.step) self.old.room self.new.room }
+    {
+        act_on(&mut self.environment, host, task, did);
+    }
+
+    /// Makes the first transfer of a queue, if it has one; its block is not lent. It allocates nothing and is never
+    /// refused.
+    pub(crate) fn step(&mut self, host: &mut HostMem, q: u64)
+        requires host { length host.old ≡ self.old.limits.host }
+        requires free { none_lent (take 1 (queue_at q self.old.device.records.queues)) self.old.device.records.loans ≡ Ok tt }
+        ensures limits { self.new.limits ≡ self.old.limits }
+        ensures state { (n : Numbers) → state_beside self.new.device host.new n ≡ stepped q (state_beside self.old.device host.old n) }
+        ensures host { length host.new ≡ length host.old }
+    {
+        step(&mut self.environment, host, q);
+    }
+
+    /// Makes room for births of blocks of these lengths, in this order. It also makes room for so many regions, the
+    /// next of which has so many holdings, and for so many attachment counters. Nothing else changes, also where it is
+    /// refused.
+    ///
+    /// # Errors
+    ///
+    /// [`Fault::Memory`] alone, where some of that room was missing. The bytes of a birth are always made anew.
+    pub(crate) fn reserve(
+        &mut self,
+        lens: &[u64],
+        regions: u64,
+        holdings: u64,
+        pointers: u64,
+    ) -> Result<(), Fault>
+        requires few { length lens.now ≤ 64 }
+        requires lens { All (IsFromOne MEMORY_MAX) lens.now }
+        ensures limits { self.new.limits ≡ self.old.limits }
+        ensures device { self.new.device ≡ self.old.device }
+        ensures room { OnOk result (HasRoomFor lens.now self.new.room) }
+        ensures room_region { OnOk result (HasRegionRoom regions holdings self.new.room) }
+        ensures room_pointers { OnOk result (pointers ≤ self.new.room.attachments) }
+        ensures puts { self.new.room.puts ≡ self.old.room.puts }
+        ensures only { IfErr result (λ fault. fault ≡ Memory) }
+        ensures needed { OnErr result (LacksRoom lens.now regions holdings pointers self.old.room) }
+    {
+        self.environment.device.reserve(lens)?;
+        self.environment
+            .present
+            .reserve(lens.len() as u64, regions, holdings)?;
+        self.environment.attached.reserve(pointers)?;
+        Ok(())
+    }
+
+    /// Makes room for so many transfers in a queue. Nothing else changes, also where it is refused.
+    ///
+    /// # Errors
+    ///
+    /// [`Fault::Memory`] alone, where that room was missing.
+    pub(crate) fn reserve_puts(&mut self, q: u64, puts: u64) -> Result<(), Fault>
+        requires known { q < QUEUE_COUNT }
+        requires few { puts ≤ 64 }
+        ensures limits { self.new.limits ≡ self.old.limits }
+        ensures device { self.new.device ≡ self.old.device }
+        ensures room { OnOk result (puts ≤ spare_at q self.new.room.puts) }
+        ensures births { self.new.room.births ≡ self.old.room.births }
+        ensures ranges { self.new.room.ranges ≡ self.old.room.ranges }
+        ensures regions { self.new.room.regions ≡ self.old.room.regions }
+        ensures holdings { self.new.room.holdings ≡ self.old.room.holdings }
+        ensures attachments { self.new.room.attachments ≡ self.old.room.attachments }
+        ensures only { IfErr result (λ fault. fault ≡ Memory) }
+        ensures needed { OnErr result (spare_at q self.old.room.puts < puts) }
+    {
+        self.environment.queues.reserve(q, puts)
+    }
+
+    /// Opens a region of a number with these holdings, where there is room for them. It allocates nothing.
+    pub(crate) fn enter(&mut self, number: u64, holdings: &[Holding])
+        requires new { region_at number self.old.device.regions ≡ None }
+        requires room { HasRegionRoom 1 (length holdings.now) self.old.room }
+        ensures limits { self.new.limits ≡ self.old.limits }
+        ensures device { self.new.device ≡ record self.old.device { regions = with_region (record { number = number; holdings = holdings.now }) self.old.device.regions } }
+    {
+        self.environment.present.enter_reserved(number, holdings);
+    }
+
+    /// Closes an open region.
+    pub(crate) fn leave(&mut self, number: u64)
+        requires { IsSome (region_at number self.old.device.regions) }
+        ensures limits { self.new.limits ≡ self.old.limits }
+        ensures device { self.new.device ≡ record self.old.device { regions = without_region number self.old.device.regions } }
+    {
+        self.environment.present.leave(number);
+    }
+
+    /// Moves the bytes of a block that is not lent into a lease, for a loan. Its section lies in the range of the block. The
+    /// lease has the number of the device. With full traces a copy of the bytes stays.
+    ///
+    /// # Errors
+    ///
+    /// [`Fault::Memory`], and with full traces alone. Nothing changed.
+    pub(crate) fn lend(&mut self, loan: Loan) -> Result<Lease, Fault>
+        requires free { is_lent loan.block self.old.device.records.loans ≡ false }
+        requires sound { IsLoanSound self.old.device.records.ranges loan }
+        requires few { length self.old.device.records.loans < 2 ^ 48 }
+        ensures lease { IfOk result (λ lease. (host : List ℕ) (n : Numbers) → lease ≡ leased self.old.limits.number loan (state_beside self.old.device host n)) }
+        ensures limits { self.new.limits ≡ self.old.limits }
+        ensures room { self.new.room ≡ self.old.room }
+        ensures state { OnOk result ((host : List ℕ) (n : Numbers) → state_beside self.new.device host (record { region = n.region; serial = n.serial + 1 }) ≡ lent_state self.old.limits.full loan (state_beside self.old.device host n)) }
+        ensures same { OnErr result (self.new.device ≡ self.old.device) }
+        ensures only { IfErr result (λ fault. (self.old.limits.full ≡ true) × (fault ≡ Memory)) }
+    {
+        self.environment.device.laws();
+        let keep = self.config.full();
+        let lease = self
+            .environment
+            .device
+            .take_out(loan.block, loan.serial, loan.offset, loan.len, keep)?;
+        self.lent += 1;
+        Ok(lease)
+    }
+
+    /// Moves the bytes of a lease back into its block. It allocates nothing and is never refused.
+    pub(crate) fn gather(&mut self, lease: Lease)
+        requires { is_returnable self.old.limits.full self.old.limits.number lease self.old.device.records.blocks self.old.device.records.loans self.old.device.memories ≡ true }
+        ensures limits { self.new.limits ≡ self.old.limits }
+        ensures room { self.new.room ≡ self.old.room }
+        ensures state { (host : List ℕ) (n : Numbers) → state_beside self.new.device host n ≡ gathered_state lease (state_beside self.old.device host n) }
+    {
+        self.lent = self.lent.saturating_sub(1);
+        let kept = self.config.full();
+        match self.environment.device.put_back(lease, kept) {
+            Ok(()) => {}
+            Err((lease, _)) => lease.abandon(),
+        }
+    }
+}

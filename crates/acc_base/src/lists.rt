@@ -3,10 +3,11 @@
 ghost use Rattle.std.specs.Prelude.{◌≡◌, [], ◌∷◌, IfOk, IfErr, IsOk, length};
 
 use std::alloc::{AllocError, Global};
+use std::fmt::{self, Debug};
 use std::marker::Model;
 
 /// Where the elements of a list are.
-#[derive(Debug, Drop)]
+#[derive(Drop)]
 enum Kept<T> {
     /// One element, in the list itself.
     One([T; 1]),
@@ -15,7 +16,7 @@ enum Kept<T> {
 }
 
 /// A list of elements. One that was made from a single element keeps it in itself. Contracts see the elements in order.
-#[derive(Debug, Drop)]
+#[derive(Drop)]
 pub struct List<T> {
     kept: Kept<T>,
 }
@@ -27,6 +28,15 @@ impl<T> Model for List<T> {
     ghost Value = { Items T };
 
     ghost view = { λ list. items_in list.kept };
+}
+
+impl<T: Debug> Debug for List<T> {
+    // Wherever the elements are, they are written alike.
+    fn fmt<W: fmt::Write>(&self, f: &mut fmt::Formatter<W>) -> fmt::Result {
+        f.debug_struct("List")
+            .field("items", &self.as_slice())
+            .finish()
+    }
 }
 
 impl<T> List<T> {

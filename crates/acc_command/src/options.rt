@@ -215,6 +215,7 @@ fn flag<'a>(alloc: Global, name: &'a str, help: &'a str) -> Arg<'a> {
 pub fn parsed_words<'a>(alloc: Global, words: &'a [String]) -> Result<ArgMatches<'a>, Error> {
     let command = with_views(alloc, with_limits(alloc, bare(alloc))?)?;
     let command = with_programs(alloc, command)?;
+    let command = with_scripts(alloc, command)?;
     command.try_get_matches_from(words)
 }
 
@@ -250,21 +251,29 @@ fn with_views<'a>(alloc: Global, command: Command<'a>) -> Result<Command<'a>, Al
     ]?)
 }
 
-fn program_options<'a>(alloc: Global) -> Result<Vec<Arg<'a>>, Error> {
+fn emit_options<'a>(alloc: Global) -> Result<Vec<Arg<'a>>, Error> {
     let emit = emit_option(alloc)?;
     let until = flag(alloc, "until-refusal", "End it with the first refusal").requires_arg("emit")?;
-    let rows = rows_option(alloc)?;
-    let random = random_option(alloc)?;
-    let lines = lines_option(alloc)?;
-    Ok(vec![in alloc; emit, until, rows, random, lines]?)
+    Ok(vec![in alloc; emit, until]?)
 }
 
 fn with_programs<'a>(alloc: Global, command: Command<'a>) -> Result<Command<'a>, Error> {
-    Ok(command.args(program_options(alloc)?)?)
+    Ok(command.args(emit_options(alloc)?)?)
+}
+
+fn script_options<'a>(alloc: Global) -> Result<Vec<Arg<'a>>, Error> {
+    let rows = rows_option(alloc)?;
+    let random = random_option(alloc)?;
+    let lines = lines_option(alloc)?;
+    Ok(vec![in alloc; rows, random, lines]?)
+}
+
+fn with_scripts<'a>(alloc: Global, command: Command<'a>) -> Result<Command<'a>, Error> {
+    Ok(command.args(script_options(alloc)?)?)
 }
 
 /// What a command line asks for.
-pub fn options_of<'a>(matches: &'a ArgMatches<'a>) -> Options<'a> {
+pub fn options_of<'a>(matches: &'a ArgMatches<'_>) -> Options<'a> {
     Options {
         file: matches.get_str("FILE"),
         expect: matches.get_str("expect"),

@@ -77,11 +77,20 @@ pub fn tool<R: Threads + Wait + Sync + AllocGlobal, S: Source, O: Sink, E: Sink,
     err: &mut E,
     files: &D,
 ) -> u8 {
-    let matches = match parsed_words(rt.alloc(), &words) {
-        Ok(matches) => matches,
-        Err(error) => return tell_usage(rt, out, err, &error),
-    };
-    let options = options_of(&matches);
+    match parsed_words(rt.alloc(), &words) {
+        Ok(matches) => do_asked(rt, options_of(&matches), reader, out, err, files),
+        Err(error) => tell_usage(rt, out, err, &error),
+    }
+}
+
+fn do_asked<R: Threads + Wait + Sync + AllocGlobal, S: Source, O: Sink, E: Sink, D: FileStore>(
+    rt: &R,
+    options: Options<'_>,
+    reader: &mut S,
+    out: &mut O,
+    err: &mut E,
+    files: &D,
+) -> u8 {
     let mut reason = Page::new(rt.alloc());
     let ends = Ends {
         out: &mut *out,

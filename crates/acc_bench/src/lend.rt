@@ -103,9 +103,17 @@ fn measure<R: Print + Clock + Threads + Wait + Sync + AllocGlobal>(rt: &R, len: 
     requires { IsFromOne MEMORY_MAX len }
 {
     let mut loans = Loans::new(rt.alloc(), len)?;
+    measure_each(rt, &mut loans, len)
+}
+
+fn measure_each<R: Print + Clock + Threads + Wait + Sync + AllocGlobal>(
+    rt: &R,
+    loans: &mut Loans,
+    len: u64,
+) -> Result<()> {
     for (name, work) in &ROWS {
         let start = Instant::now(rt)?;
-        let found = repeat(rt, &mut loans, work)?;
+        let found = repeat(rt, loans, work)?;
         tell_since(rt, ("lend: bytes", len, name), start, ROUNDS, found)?;
     }
     Ok(())

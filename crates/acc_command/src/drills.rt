@@ -3,7 +3,8 @@
 ghost use Rattle.std.specs.Prelude.{◌≡◌, ◌<◌, ◌≤◌};
 
 use acc_base::{Config, Fault};
-use acc_runtime::{Blanks, Drilled, Open, Runtime, blanks, drill};
+use acc_drill::{Drilled, drill};
+use acc_runtime::{Blanks, Open, Runtime, blanks};
 use acc_script::{Sink, write_all};
 use arrayvec::ArrayString;
 use std::fmt::{self, Write};

@@ -1,5 +1,4 @@
 pub mod Crossing
 pub mod Sharing
 pub mod Settling
-pub mod Faults
 pub mod Lengths

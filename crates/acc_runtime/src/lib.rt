@@ -121,7 +121,6 @@
 
 mod callers;
 mod calls;
-mod drilling;
 pub mod laws;
 mod ledgers;
 mod lock;
@@ -133,7 +132,6 @@ mod serving;
 
 pub use acc_lend::{Gate, Lease, Open};
 pub use callers::Caller;
-pub use drilling::{Drilled, drill};
 pub use ledgers::Blanks;
 pub use lock::Runtime;
 pub use regions::Region;

@@ -1,6 +1,6 @@
 use Rattle.std.proofs.Common.{◌≡◌, ◌+◌, ◌*◌, ◌≤◌, All, vec_len, vec_capacity}
-use Rattle.acc_runtime.specs.Drills.{HasRounds}
-use Rattle.acc_runtime.proofs.drilling.split_all.Given as goal
+use Rattle.acc_drill.specs.Drills.{HasRounds}
+use Rattle.acc_drill.proofs.drilling.split_all.Given as goal
 
 abbrev pub invariant-loop-i : goal.invariant-loop-i
 invariant-loop-i g l = record {

@@ -1,7 +1,7 @@
 use Rattle.std.proofs.Common.{◌≡◌, ◌+◌, ◌*◌, ◌≤◌, All, map, vec_len, None}
 use Rattle.std.specs.Option.{option_or}
-use Rattle.acc_runtime.specs.Drills.{IsWorked, first_fault}
-use Rattle.acc_runtime.proofs.drilling.merge_all.Given as goal
+use Rattle.acc_drill.specs.Drills.{IsWorked, first_fault}
+use Rattle.acc_drill.proofs.drilling.merge_all.Given as goal
 
 abbrev pub invariant-loop-worker : goal.invariant-loop-worker
 invariant-loop-worker g l = record {

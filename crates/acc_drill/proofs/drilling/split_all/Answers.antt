@@ -1,7 +1,7 @@
 use Rattle.std.proofs.Common.{rules, arith, ◌*◌, ap, vec_len, ◌≡◌, ◌+◌}
 use Rattle.std.proofs.lemmas.List.Elements.{All-push}
-use Rattle.acc_runtime.specs.Drills.{HasRounds}
-use Rattle.acc_runtime.proofs.drilling.split_all.Goals as goal
+use Rattle.acc_drill.specs.Drills.{HasRounds}
+use Rattle.acc_drill.proofs.drilling.split_all.Goals as goal
 
 pub loop-i-preserved : goal.loop-i-preserved
 loop-i-preserved g c =

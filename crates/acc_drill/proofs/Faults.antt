@@ -5,7 +5,7 @@ use Rattle.std.specs.Result.{result_err}
 use Rattle.std.specs.Option.{option_or}
 use Rattle.acc_base.specs.declared.faults.Fault.{Fault}
 use Rattle.acc_runtime.specs.Shares.{Shares}
-use Rattle.acc_runtime.specs.Drills.{HasRounds, HasStopped, IsWorked, first_fault}
+use Rattle.acc_drill.specs.Drills.{HasRounds, HasStopped, IsWorked, first_fault}
 
 or_either : (a b c : Option Fault) → option_or (option_or a b) c ≡ option_or a (option_or b c)
 or_either None b c = refl

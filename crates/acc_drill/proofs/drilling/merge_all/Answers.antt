@@ -1,9 +1,9 @@
 use Rattle.std.proofs.Common.{rules, arith, ◌*◌, ap, vec_len, Some, ◌≡◌, ◌+◌, sym, ◌∙◌, map}
 use Rattle.std.specs.Option.{option_or}
 use Rattle.std.proofs.lemmas.List.Elements.{All-pop}
-use Rattle.acc_runtime.specs.Drills.{IsWorked, first_fault}
-use Rattle.acc_runtime.proofs.Faults.{first_behind, or_none_both, stopped_with}
-use Rattle.acc_runtime.proofs.drilling.merge_all.Goals as goal
+use Rattle.acc_drill.specs.Drills.{IsWorked, first_fault}
+use Rattle.acc_drill.proofs.Faults.{first_behind, or_none_both, stopped_with}
+use Rattle.acc_drill.proofs.drilling.merge_all.Goals as goal
 
 pub loop-worker-preserved : goal.loop-worker-preserved
 loop-worker-preserved g c =

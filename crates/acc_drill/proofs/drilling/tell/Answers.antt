@@ -7,8 +7,8 @@ use Rattle.acc_base.specs.Records.{Records}
 use Rattle.acc_base.specs.Devices.{view}
 use Rattle.acc_table.specs.Queries.{counters_of_section}
 use Rattle.acc_table.proofs.Tallied.{none_told}
-use Rattle.acc_runtime.specs.declared.drilling.TheConstants.{ARRAY}
-use Rattle.acc_runtime.proofs.drilling.tell.Goals as goal
+use Rattle.acc_drill.specs.declared.drilling.TheConstants.{ARRAY}
+use Rattle.acc_drill.proofs.drilling.tell.Goals as goal
 
 pub returns-clause-structured : goal.returns-clause-structured
 returns-clause-structured c = λ none. ap (λ (x : Counters). x.structured) c.unwrap_or-counters.ensures ∙ go (view 0 c.args.table.now.state).records none c.counters-told.result c.counters-told.ensures

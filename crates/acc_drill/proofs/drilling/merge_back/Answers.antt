@@ -1,7 +1,7 @@
 use Rattle.std.proofs.Common.{rules, arith, ◌*◌, ap, vec_len, Some, ◌≡◌, ◌+◌}
 use Rattle.std.proofs.lemmas.List.Elements.{All-pop}
-use Rattle.acc_runtime.specs.Drills.{HasRounds}
-use Rattle.acc_runtime.proofs.drilling.merge_back.Goals as goal
+use Rattle.acc_drill.specs.Drills.{HasRounds}
+use Rattle.acc_drill.proofs.drilling.merge_back.Goals as goal
 
 pub loop-worker-preserved : goal.loop-worker-preserved
 loop-worker-preserved g c =

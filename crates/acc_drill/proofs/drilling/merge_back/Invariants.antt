@@ -1,6 +1,6 @@
 use Rattle.std.proofs.Common.{◌≡◌, ◌+◌, ◌*◌, All, vec_len}
-use Rattle.acc_runtime.specs.Drills.{HasRounds}
-use Rattle.acc_runtime.proofs.drilling.merge_back.Given as goal
+use Rattle.acc_drill.specs.Drills.{HasRounds}
+use Rattle.acc_drill.proofs.drilling.merge_back.Given as goal
 
 abbrev pub invariant-loop-worker : goal.invariant-loop-worker
 invariant-loop-worker g l = record {

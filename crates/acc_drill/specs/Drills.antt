@@ -16,7 +16,7 @@ use Rattle.acc_base.specs.Devices.{view}
 use Rattle.acc_base.specs.Calls.{World, event_count}
 use Rattle.acc_table.specs.declared.calls.Reply.TheVariants.{Done, Entered}
 use Rattle.acc_table.specs.Queries.{counters_of_section}
-use Rattle.acc_runtime.specs.declared.drilling.Drilled.{Drilled}
+use Rattle.acc_drill.specs.declared.drilling.Drilled.{Drilled}
 use Rattle.acc_runtime.specs.Shares.{Shares}
 use Rattle.acc_runtime.specs.Books.{IsSettled}
 use Rattle.acc_runtime.specs.Shared.{WasAccepted}

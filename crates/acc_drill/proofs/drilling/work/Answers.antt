@@ -1,6 +1,6 @@
 use Rattle.std.proofs.Common.{rules}
-use Rattle.acc_runtime.proofs.Faults.{worked}
-use Rattle.acc_runtime.proofs.drilling.work.Goals as goal
+use Rattle.acc_drill.proofs.Faults.{worked}
+use Rattle.acc_drill.proofs.drilling.work.Goals as goal
 
 pub returns : goal.returns
 returns g c = worked c.args.rounds c.args.worker.now.caller c.make_rounds.new.caller c.make_rounds.result c.err-worker.result c.err-worker.ensures.value (search rules)

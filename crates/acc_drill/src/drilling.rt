@@ -7,12 +7,11 @@ ghost use Rattle.acc_base.specs.Devices.{view};
 ghost use Rattle.acc_table.specs.declared.calls.Reply.TheVariants.{Done};
 ghost use Rattle.acc_runtime.specs.Shares.{Shares};
 ghost use Rattle.acc_runtime.specs.Shared.{WasAccepted};
-ghost use Rattle.acc_runtime.specs.Drills.{array_in, mapping, WasRound, HasStopped, HasRounds, IsWorked, first_fault, IsTold, WasTold};
+ghost use Rattle.acc_drill.specs.Drills.{array_in, mapping, WasRound, HasStopped, HasRounds, IsWorked, first_fault, IsTold, WasTold};
 
-use crate::callers::Caller;
-use crate::lock::Runtime;
 use acc_base::{Counters, EnterClause, Fault, HOST_BASE, Item, RegionClause, Section};
 use acc_lend::Gate;
+use acc_runtime::{Caller, Runtime};
 use acc_table::Table;
 use std::alloc::{AllocError, Global};
 use std::sync::Wait;

@@ -9,12 +9,12 @@ use acc_base::RegionClause::{self, Copy, Present};
 use acc_base::UpdateClause::{ToDevice, ToSelf};
 use acc_base::{Event, Fault, HOST_BASE, Section};
 use acc_table::{Lease, Table, abandon_all};
-use acc_table_tests::language::Ask::{
+use acc_turns::language::Ask::{
     self, Back, Enter, EnterData, EnterDataVia, EnterVia, Exit, ExitData, ExitDataLater, Finalize,
     FinalizeVia, Lend, Update, UpdateIfPresent, UpdateLater, Wait, Write,
 };
-use acc_table_tests::language::{Limits, WIDE};
-use acc_table_tests::turns::{table_of, turn_of};
+use acc_turns::language::{Limits, WIDE};
+use acc_turns::turns::{table_of, turn_of};
 use std::alloc::{AllocError, Global};
 use std::process::Abort;
 use std::test::Fail;

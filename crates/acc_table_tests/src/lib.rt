@@ -1,12 +1,10 @@
 //! Tests of `acc_table`, and through it of `acc_clauses`: what no clause says, that calls succeed, and that the
 //! definitions say what is meant. They stand in a crate of their own, so that those crates are proved once and not
-//! twice. What a row says, and how a turn is made of it, `acc_replay` uses too.
+//! twice.
 #![tactic(auto)]
 
-pub mod language;
 #[cfg(test)]
 mod tests;
-pub mod turns;
 
 #[cfg(test)]
 use std::fmt::Debug;

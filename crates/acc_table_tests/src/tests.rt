@@ -1,8 +1,8 @@
 //! Rows, in each way to play them.
 
-use crate::language::Row;
 use crate::same;
 use acc_base::{Config, Fault};
+use acc_turns::language::Row;
 use listing::play_in_lists;
 use playing::play_alone;
 use rows::{SUBJECTS, Subject, rows_of};

@@ -1,10 +1,10 @@
 //! What a table says, beside what a row says.
 
-use crate::language::{At, Check};
 use crate::tests::playing::Play;
-use crate::turns::section;
 use acc_base::{Aim, Counters, Did, Event, Step};
 use acc_table::{DeviceBase, Table};
+use acc_turns::language::{At, Check};
+use acc_turns::turns::section;
 use std::process::Abort;
 
 fn did_at(table: &Table, number: usize) -> &[Did] {

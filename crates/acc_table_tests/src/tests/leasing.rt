@@ -1,12 +1,12 @@
 //! Leases of a row: kernels work on them, and they are brought back. A lease of another table is brought too.
 
-use crate::language::{Ask, Limits};
 use crate::same;
 use crate::tests::playing::{Play, apply_twice};
-use crate::turns::{table_of, turn_of};
 use acc_base::Fault;
 use acc_lend::{Add, run_one};
 use acc_table::{Answer, Call, Lease, Table, Turn, abandon, abandon_all};
+use acc_turns::language::{Ask, Limits};
+use acc_turns::turns::{table_of, turn_of};
 use std::alloc::{AllocError, Global};
 use std::process::Abort;
 

@@ -1,11 +1,11 @@
 //! How a row is played with lists of turns: those that stand one behind the other are one list.
 
-use crate::language::{Line, Row};
 use crate::same;
 use crate::tests::playing::{Play, asked, play_other};
-use crate::turns::turn_of;
 use acc_base::Fault;
 use acc_table::{Answer, Turn};
+use acc_turns::language::{Line, Row};
+use acc_turns::turns::turn_of;
 use std::alloc::{AllocError, Global};
 use std::process::Abort;
 

@@ -1,13 +1,13 @@
 //! How a row is played, each call by itself: with ample memory, and where a growth is refused.
 
-use crate::language::{Ask, Check, Limits, Line, Row, WIDE};
 use crate::same;
 use crate::tests::checks::{check, is_of_trace};
 use crate::tests::leasing::{adds, brings, gathers};
 use crate::tests::rows::A;
-use crate::turns::{call_of, table_of, turn_of};
 use acc_base::{Ended, Fault, Hole, Section};
 use acc_table::{Answer, Call, Lease, Mapped, Reply, Table, Turn, abandon, abandon_all};
+use acc_turns::language::{Ask, Check, Limits, Line, Row, WIDE};
+use acc_turns::turns::{call_of, table_of, turn_of};
 use std::alloc::{AllocError, Global};
 use std::process::Abort;
 

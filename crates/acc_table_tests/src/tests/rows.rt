@@ -1,8 +1,8 @@
 //! Rows: calls and queries of a new table with their answers, by their subject. Each value is worked out by hand from
 //! OpenACC 3.3, sections 2.6 and 2.7, and the documents of this project.
 
-use crate::language::{Limits, Row, WIDE};
 use acc_base::{DEVICE_BASE, Fault, HOST_BASE, Step};
+use acc_turns::language::{Limits, Row, WIDE};
 
 mod arrays;
 mod bytes;

@@ -1,18 +1,18 @@
 //! The life of an array, and what the queries return of it.
 
-use crate::language::Ask::{EnterData, ExitData, Update, UpdateIfPresent, Write};
-use crate::language::Check::{
-    Address, Counted, Device, Events, Host, MappedFrom, Present, RegionBook, Regions, Steps,
-    TicketBook, Used,
-};
-use crate::language::Line::{Does, Refuses, Says};
-use crate::language::{Check, Row, WIDE};
 use crate::tests::rows::{A, BORN_1, COUNTED_1, DEVICE, DROPPED_1, ENDED_1};
 use acc_base::EnterClause::{Copyin, Create};
 use acc_base::ExitClause::{Copyout, Delete};
 use acc_base::UpdateClause::{ToDevice, ToSelf};
 use acc_base::{Fault, Found, Step};
 use acc_table::Mapped;
+use acc_turns::language::Ask::{EnterData, ExitData, Update, UpdateIfPresent, Write};
+use acc_turns::language::Check::{
+    Address, Counted, Device, Events, Host, MappedFrom, Present, RegionBook, Regions, Steps,
+    TicketBook, Used,
+};
+use acc_turns::language::Line::{Does, Refuses, Says};
+use acc_turns::language::{Check, Row, WIDE};
 
 /// Each shows one part of the life of an array.
 pub const ROWS: &[Row] = &[

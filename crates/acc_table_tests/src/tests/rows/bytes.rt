@@ -1,13 +1,13 @@
 //! What full and counted traces store, and what stays of a lent block.
 
-use crate::language::Ask::{Back, Enter, EnterData, Lend, Update, Write};
-use crate::language::Check::{Bytes, Device, Events, Host};
-use crate::language::Line::{Adds, Does, Gathers, Gives, Refuses, Says};
-use crate::language::{Row, WIDE};
 use crate::tests::rows::{A, FULL, LENT_1};
 use acc_base::EnterClause::Copyin;
 use acc_base::RegionClause;
 use acc_base::UpdateClause::ToSelf;
+use acc_turns::language::Ask::{Back, Enter, EnterData, Lend, Update, Write};
+use acc_turns::language::Check::{Bytes, Device, Events, Host};
+use acc_turns::language::Line::{Adds, Does, Gathers, Gives, Refuses, Says};
+use acc_turns::language::{Row, WIDE};
 
 /// Each shows what one kind of trace stores.
 pub const ROWS: &[Row] = &[

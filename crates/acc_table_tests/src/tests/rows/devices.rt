@@ -1,20 +1,20 @@
 //! Several devices: each has a memory, mapped ranges, counters and queues of its own, and regions know their device.
 
-use crate::language::Ask::{
-    Back, Enter, EnterData, EnterDataVia, Exit, ExitData, Lend, Step, Update, UpdateLater, Wait,
-    Write,
-};
-use crate::language::Check::{
-    Address, Attached, Counted, Device, EndedFrom, Events, HoleFrom, Host, MappedFrom, Newest,
-    Present, Queue, RegionBook, Regions, Used,
-};
-use crate::language::Line::{Brings, Does, Drains, Gives, Idles, On, Refuses, Says};
-use crate::language::{Ask, Check, Limits, Row, WIDE};
 use crate::tests::rows::{A, DEVICE, LENT_1, TO_HOST};
 use acc_base::EnterClause::{Copyin, Create};
 use acc_base::ExitClause::Delete;
 use acc_base::UpdateClause::{ToDevice, ToSelf};
 use acc_base::{EnterClause, Fault, Found, Hole, RegionClause};
+use acc_turns::language::Ask::{
+    Back, Enter, EnterData, EnterDataVia, Exit, ExitData, Lend, Step, Update, UpdateLater, Wait,
+    Write,
+};
+use acc_turns::language::Check::{
+    Address, Attached, Counted, Device, EndedFrom, Events, HoleFrom, Host, MappedFrom, Newest,
+    Present, Queue, RegionBook, Regions, Used,
+};
+use acc_turns::language::Line::{Brings, Does, Drains, Gives, Idles, On, Refuses, Says};
+use acc_turns::language::{Ask, Check, Limits, Row, WIDE};
 
 /// Two devices.
 const TWO: Limits = Limits { devices: 2, ..WIDE };

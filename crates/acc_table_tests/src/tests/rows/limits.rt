@@ -1,14 +1,14 @@
 //! Limits: each holds to the last, and its refusal comes in its turn.
 
-use crate::language::Ask::{Back, Enter, EnterData, Exit, ExitData, Lend, Update, Write};
-use crate::language::Check::{Counted, Events, Host, Present, TicketBook, Used};
-use crate::language::Line::{Does, Gives, Refuses, Says};
-use crate::language::{Limits, Row, WIDE};
 use crate::tests::rows::A;
 use acc_base::EnterClause::{Copyin, Create};
 use acc_base::ExitClause::Delete;
 use acc_base::UpdateClause::ToSelf;
 use acc_base::{Fault, RegionClause};
+use acc_turns::language::Ask::{Back, Enter, EnterData, Exit, ExitData, Lend, Update, Write};
+use acc_turns::language::Check::{Counted, Events, Host, Present, TicketBook, Used};
+use acc_turns::language::Line::{Does, Gives, Refuses, Says};
+use acc_turns::language::{Limits, Row, WIDE};
 
 const NO_TICKET: Fault = Fault::NoTickets { left: 0 };
 

@@ -1,18 +1,20 @@
 //! Loans: what a lent block is refused, and how it comes back.
 
-use crate::language::Ask::{
-    Back, Enter, EnterData, Exit, ExitData, ExitDataLater, Finalize, Lend, Step, Update,
-    UpdateIfPresent, UpdateLater, Wait, Write,
-};
-use crate::language::Check::{Address, Counted, Device, Events, Host, MappedFrom, Present, Queue};
-use crate::language::Line::{Adds, Brings, Does, Drains, Gathers, Gives, Idles, Refuses, Says};
-use crate::language::{Ask, Row, WIDE};
 use crate::tests::rows::{A, DEVICE, FULL, LENT_1};
 use acc_base::EnterClause::{Copyin, Create};
 use acc_base::ExitClause::{Copyout, Delete};
 use acc_base::UpdateClause::{ToDevice, ToSelf};
 use acc_base::{EnterClause, Fault, RegionClause};
 use acc_table::Mapped;
+use acc_turns::language::Ask::{
+    Back, Enter, EnterData, Exit, ExitData, ExitDataLater, Finalize, Lend, Step, Update,
+    UpdateIfPresent, UpdateLater, Wait, Write,
+};
+use acc_turns::language::Check::{
+    Address, Counted, Device, Events, Host, MappedFrom, Present, Queue,
+};
+use acc_turns::language::Line::{Adds, Brings, Does, Drains, Gathers, Gives, Idles, Refuses, Says};
+use acc_turns::language::{Ask, Row, WIDE};
 
 /// What a kernel left of 16 bytes.
 const LEFT: &[u8] = &[9, 8, 7, 6, 5, 4, 3, 2, 1, 0, 1, 2, 3, 4, 5, 6];

@@ -1,14 +1,16 @@
 //! Sizes and numbers that are not small: each call is done where memory is ample.
 
-use crate::language::Ask::{Enter, EnterData, EnterEach, Exit, ExitData, Lend, UpdateLater, Write};
-use crate::language::Check::{Address, Bytes, Counted, Device, Host, Present, Queue, Used};
-use crate::language::Line::{Adds, Does, Drains, Gathers, Gives, On, Refuses, Says};
-use crate::language::{Limits, Row, WIDE};
 use crate::tests::rows::{A, DEVICE};
 use acc_base::EnterClause::{Attach, Copyin, Create};
 use acc_base::ExitClause::{Copyout, Delete, Detach};
 use acc_base::UpdateClause::ToSelf;
 use acc_base::{Fault, RegionClause};
+use acc_turns::language::Ask::{
+    Enter, EnterData, EnterEach, Exit, ExitData, Lend, UpdateLater, Write,
+};
+use acc_turns::language::Check::{Address, Bytes, Counted, Device, Host, Present, Queue, Used};
+use acc_turns::language::Line::{Adds, Does, Drains, Gathers, Gives, On, Refuses, Says};
+use acc_turns::language::{Limits, Row, WIDE};
 
 /// Room for blocks and bytes that are not small, in counted traces.
 const LARGE: Limits = Limits {

@@ -1,16 +1,16 @@
 //! Pointers: where they are attached and detached, what that leaves of bytes, and what it is refused for.
 
-use crate::language::Ask::{
-    Enter, EnterData, EnterDataVia, EnterVia, Exit, ExitData, FinalizeVia, Update, Write,
-};
-use crate::language::Check::{Aims, Attached, Device, Events, Used};
-use crate::language::Line::{Does, Gives, Refuses, Says};
-use crate::language::{Ask, Limits, Row, WIDE};
 use crate::tests::rows::{A, DEVICE, TO_HOST};
 use acc_base::EnterClause::Copyin;
 use acc_base::ExitClause::{Delete, Detach};
 use acc_base::UpdateClause::ToDevice;
 use acc_base::{Aim, EnterClause, Fault, RegionClause};
+use acc_turns::language::Ask::{
+    Enter, EnterData, EnterDataVia, EnterVia, Exit, ExitData, FinalizeVia, Update, Write,
+};
+use acc_turns::language::Check::{Aims, Attached, Device, Events, Used};
+use acc_turns::language::Line::{Does, Gives, Refuses, Says};
+use acc_turns::language::{Ask, Limits, Row, WIDE};
 
 /// A pointer in the first array.
 const P: u64 = A + 8;

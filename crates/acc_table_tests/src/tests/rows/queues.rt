@@ -1,16 +1,16 @@
 //! Queues: transfers that wait, and what makes them.
 
-use crate::language::Ask::{EnterData, ExitDataLater, Step, UpdateLater, Wait, Write};
-use crate::language::Check::{
-    Address, Device, EndedFrom, Events, HoleFrom, Host, Queue, TicketBook, Used,
-};
-use crate::language::Line::{Does, Drains, Idles, Refuses, Says};
-use crate::language::{Limits, Row, WIDE};
 use crate::tests::rows::{A, DEVICE};
 use acc_base::EnterClause::{Copyin, Create};
 use acc_base::ExitClause::Copyout;
 use acc_base::UpdateClause::{ToDevice, ToSelf};
 use acc_base::{Ended, Fault, Hole};
+use acc_turns::language::Ask::{EnterData, ExitDataLater, Step, UpdateLater, Wait, Write};
+use acc_turns::language::Check::{
+    Address, Device, EndedFrom, Events, HoleFrom, Host, Queue, TicketBook, Used,
+};
+use acc_turns::language::Line::{Does, Drains, Idles, Refuses, Says};
+use acc_turns::language::{Limits, Row, WIDE};
 
 /// Each shows transfers that wait or are made.
 pub const ROWS: &[Row] = &[

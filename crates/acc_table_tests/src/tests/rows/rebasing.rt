@@ -1,16 +1,16 @@
 //! Events that are folded into the base, and the room that the trace has then.
 
-use crate::language::Ask::{
-    Enter, EnterData, Exit, ExitData, ExitDataLater, Lend, UpdateLater, Wait, Write,
-};
-use crate::language::Check::{Based, BasedNumbers, Events, Host, Present, Stored, Used};
-use crate::language::Line::{Does, Drains, Gives, On, Rebases, Refuses, Says, Spares};
-use crate::language::{Ask, Limits, Row, WIDE};
 use crate::tests::rows::{A, FULL, TO_HOST};
 use acc_base::EnterClause::{Attach, Copyin};
 use acc_base::ExitClause::{Copyout, Delete};
 use acc_base::UpdateClause::ToSelf;
 use acc_base::{Fault, RegionClause};
+use acc_turns::language::Ask::{
+    Enter, EnterData, Exit, ExitData, ExitDataLater, Lend, UpdateLater, Wait, Write,
+};
+use acc_turns::language::Check::{Based, BasedNumbers, Events, Host, Present, Stored, Used};
+use acc_turns::language::Line::{Does, Drains, Gives, On, Rebases, Refuses, Says, Spares};
+use acc_turns::language::{Ask, Limits, Row, WIDE};
 
 /// Room in the trace for two events.
 const SHORT: Limits = Limits {

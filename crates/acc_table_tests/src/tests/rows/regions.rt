@@ -1,15 +1,15 @@
 //! Regions: their numbers, and what holds a mapping.
 
-use crate::language::Ask::{Enter, EnterData, Exit, Finalize};
-use crate::language::Check::{
-    Counted, Events, Host, Newest, Present, RegionBook, Regions, Steps, TicketBook, Used,
-};
-use crate::language::Line::{Does, Gives, Refuses, Says};
-use crate::language::{Limits, Row, WIDE};
 use crate::tests::rows::{A, BORN_1, BORN_2, COUNTED_1, DROPPED_1, ENDED_1, ENDED_2};
 use acc_base::EnterClause::Copyin;
 use acc_base::ExitClause::Copyout;
 use acc_base::{Fault, RegionClause, Step};
+use acc_turns::language::Ask::{Enter, EnterData, Exit, Finalize};
+use acc_turns::language::Check::{
+    Counted, Events, Host, Newest, Present, RegionBook, Regions, Steps, TicketBook, Used,
+};
+use acc_turns::language::Line::{Does, Gives, Refuses, Says};
+use acc_turns::language::{Limits, Row, WIDE};
 
 /// Each shows what an open region holds.
 pub const ROWS: &[Row] = &[

@@ -17,7 +17,7 @@ const PROGRAMS: [Row; 4] = [
         "",
         "array a 8\narray b 40 # not mapped\nwrite a[1] 0aFF\ndata copy(a)\n  kernel add 3 a[0:4]\n\
             peek a\npresent b\nreport\nend data\nshow b[4:36]\nshow a[0:0]\n",
-        "static _Alignas(16) unsigned char a_[8];\nstatic _Alignas(16) unsigned char b_[40];\n\n#define LONGEST 36\n",
+        "static _Alignas(16) unsigned char a_[8];\nstatic _Alignas(16) unsigned char b_[40];\n\n#define LONGEST 40\n",
         r#"int main(void)
 {
     ask_for_discrete_device();
@@ -45,6 +45,15 @@ const PROGRAMS: [Row; 4] = [
              map 0x1000 8 at 0x100000000 structured 1 dynamic 0
              regions 1 events 4
         */
+        present(8, a_, 8, "yes");
+        show(8, a_, 8,
+            "000aff0000000000");
+        present(8, b_, 40, "no");
+        show(8, b_, 40,
+            "0000000000000000000000000000000000000000000000000000000000000000"
+            "0000000000000000");
+        peek(8, a_, 8,
+            "030d020300000000");
         /* 9: end data */
     }
     /* 10: show b[4:36] */
@@ -100,9 +109,7 @@ const PROGRAMS: [Row; 4] = [
     /* 14: peek a */
     peek(14, a_, 4, "none");
     /* 15: step(0) */
-    /* no program can see this; the table says:
-         idle
-    */
+    /* a copy of the queue may be made now, or later */
     return 0;
 }
 "#,
@@ -153,6 +160,7 @@ const PROGRAMS: [Row; 4] = [
     /* 8: show s */
     show(8, s_, 16,
         "0000000000000000????????????????");
+    show_pointer(8, s_ + 8, (void *)(t_ + 4));
     /* 9: exit data copyout(t via s[8]) finalize */
     acc_detach_finalize((void **)(s_ + 8));
     #pragma acc exit data copyout(t_) finalize

@@ -1,0 +1,124 @@
+//! Bytes: a large array that is mapped, updated and worked on, and full traces, whose events store all bytes.
+
+use crate::desks::{Desk, limits};
+use crate::items::{Row, one, section};
+use crate::tallies::Tally;
+use acc_base::{EnterClause, ExitClause, Fault, HOST_BASE, List, RegionClause, UpdateClause};
+use acc_lend::{Add, run_one};
+use acc_table::Call;
+use std::alloc::Global;
+
+/// The length of the large array.
+const LARGE: u64 = 16_777_216;
+
+/// Arrays of 4 KiB.
+const PAGES: Row = Row {
+    first: 0,
+    apart: 4_096,
+    len: 4_096,
+    count: 256,
+};
+
+/// Works on the large array, and then on pages with full traces, so many times.
+pub fn run(alloc: Global, seed: u64, rounds: u64) -> Result<Tally, Fault> {
+    let tally = run_large(alloc, seed, rounds)?;
+    run_full(alloc, seed, rounds, tally)
+}
+
+fn run_large(alloc: Global, seed: u64, rounds: u64) -> Result<Tally, Fault> {
+    let config = limits(LARGE, LARGE)?;
+    let mut desk = Desk::new(alloc, config, seed, Tally::new())?;
+    for _ in 0..rounds {
+        large(&mut desk)?;
+    }
+    Ok(desk.finish())
+}
+
+/// Maps the large array, changes it on both sides, updates it both ways and copies it back.
+fn large(desk: &mut Desk) -> Result<(), Fault> {
+    let all = section(0, LARGE);
+    desk.enter_data(one(EnterClause::Copyin, all));
+    let at = desk.below(LARGE - 4_096);
+    write(desk, at)?;
+    desk.update(one(UpdateClause::ToDevice, all), None);
+    let region = desk.enter(one(RegionClause::Present, all));
+    for _ in 0..64u64 {
+        let at = desk.below(LARGE - 4_096);
+        work(desk, region, at);
+    }
+    desk.exit(region);
+    desk.update(one(UpdateClause::ToSelf, all), None);
+    let at = desk.below(LARGE - 4_096);
+    desk.note_host(section(at, 4_096));
+    desk.exit_data(one(ExitClause::Copyout, all));
+    Ok(())
+}
+
+/// The host writes 4 KiB.
+fn write(desk: &mut Desk, at: u64) -> Result<(), Fault> {
+    let byte = (desk.below(256) & 0xFF) as u8;
+    let bytes = vec![in desk.alloc; byte; 4_096]?;
+    desk.call(Call::HostWrite {
+        addr: HOST_BASE.wrapping_add(at),
+        bytes: List::from_vec(bytes),
+    });
+    Ok(())
+}
+
+/// A kernel over 4 KiB in a region.
+fn work(desk: &mut Desk, region: u64, at: u64) {
+    if let Some(mut lease) = desk.lend(region, section(at, 4_096)) {
+        run_one(&mut lease, &Add(3), &[]);
+        desk.call(Call::Gather(lease));
+    }
+}
+
+fn run_full(alloc: Global, seed: u64, rounds: u64, tally: Tally) -> Result<Tally, Fault> {
+    let config = limits(1_048_576, 1_048_576)?.with_full_trace();
+    let mut desk = Desk::new(alloc, config, seed, tally)?;
+    play_full(&mut desk, rounds)
+}
+
+/// All pages are mapped in a region. They are written, updated and worked on, and the trace is folded behind each 500
+/// events.
+fn play_full(desk: &mut Desk, rounds: u64) -> Result<Tally, Fault> {
+    for part in 0..4u64 {
+        let items = PAGES.list(
+            desk.alloc,
+            EnterClause::Copyin,
+            part.wrapping_mul(64),
+            1,
+            64,
+        )?;
+        desk.enter_data(items);
+    }
+    let region = desk.enter(one(RegionClause::Present, PAGES.at(0)));
+    for _ in 0..rounds {
+        full(desk, region)?;
+    }
+    desk.exit(region);
+    for part in 0..4u64 {
+        let items = PAGES.list(
+            desk.alloc,
+            ExitClause::Copyout,
+            part.wrapping_mul(64),
+            1,
+            64,
+        )?;
+        desk.exit_data(items);
+    }
+    desk.note_host(section(0, 1_048_576));
+    Ok(desk.finish())
+}
+
+/// A hundred rounds of five events, and a fold.
+fn full(desk: &mut Desk, region: u64) -> Result<(), Fault> {
+    for _ in 0..100u64 {
+        let page = PAGES.at(desk.chance.number());
+        write(desk, page.start.wrapping_sub(HOST_BASE))?;
+        desk.update(one(UpdateClause::ToDevice, page), None);
+        work(desk, region, page.start.wrapping_sub(HOST_BASE));
+        desk.update(one(UpdateClause::ToSelf, page), None);
+    }
+    desk.fold()
+}

@@ -1,0 +1,79 @@
+//! Items of directives.
+
+use acc_base::{HOST_BASE, Item, List, Section};
+use std::alloc::{AllocError, Global};
+
+/// The section of so many bytes at a place of host memory.
+pub fn section(at: u64, len: u64) -> Section {
+    Section {
+        start: HOST_BASE.wrapping_add(at),
+        len,
+    }
+}
+
+/// An item of a clause, without a pointer.
+pub fn item<C>(clause: C, section: Section) -> Item<C> {
+    Item {
+        clause,
+        section,
+        pointer: None,
+    }
+}
+
+/// A list of one item.
+pub fn one<C>(clause: C, section: Section) -> List<Item<C>> {
+    List::one(item(clause, section))
+}
+
+/// Sections of one length, as they lie side by side: so far apart, from a place on.
+#[derive(Clone, Copy)]
+pub struct Row {
+    /// The place of the first.
+    pub first: u64,
+    /// From the start of one to the start of the next.
+    pub apart: u64,
+    /// The length of each.
+    pub len: u64,
+    /// How many there are, one at least.
+    pub count: u64,
+}
+
+impl Row {
+    /// The section of a number, counted from 0; behind the last comes the first again.
+    pub fn at(self, number: u64) -> Section {
+        let nth = number % self.count.max(1);
+        section(
+            self.first.wrapping_add(nth.wrapping_mul(self.apart)),
+            self.len,
+        )
+    }
+
+    /// Items of a clause for so many sections from a number on, each so many numbers behind the one before it.
+    pub fn items<C: Copy + Drop>(
+        self,
+        alloc: Global,
+        clause: C,
+        first: u64,
+        stride: u64,
+        count: u64,
+    ) -> Result<Vec<Item<C>>, AllocError> {
+        let mut items = Vec::with_capacity(alloc, 64)?;
+        for nth in 0..count {
+            let number = first.wrapping_add(nth.wrapping_mul(stride));
+            items.push(item(clause, self.at(number)))?;
+        }
+        Ok(items)
+    }
+
+    /// The same as a list.
+    pub fn list<C: Copy + Drop>(
+        self,
+        alloc: Global,
+        clause: C,
+        first: u64,
+        stride: u64,
+        count: u64,
+    ) -> Result<List<Item<C>>, AllocError> {
+        Ok(List::from_vec(self.items(alloc, clause, first, stride, count)?))
+    }
+}

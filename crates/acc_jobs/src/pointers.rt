@@ -1,0 +1,111 @@
+//! Deep copies: structs with a pointer each, which is attached, updated and detached.
+
+use crate::desks::{Desk, limits};
+use crate::items::{Row, one, section};
+use crate::tallies::Tally;
+use acc_base::{EnterClause, ExitClause, Fault, HOST_BASE, Item, List, Section, UpdateClause};
+use acc_table::Call;
+use std::alloc::{AllocError, Global};
+
+/// How many structs there are, of 16 bytes each. A pointer is its first eight bytes.
+const STRUCTS: u64 = 20_000;
+
+/// The targets of the pointers.
+const TARGETS: Row = Row {
+    first: 320_000,
+    apart: 48,
+    len: 32,
+    count: STRUCTS,
+};
+
+/// Deep copies of all structs, so many times.
+pub fn run(alloc: Global, seed: u64, rounds: u64) -> Result<Tally, Fault> {
+    let config = limits(2_097_152, 2_097_152)?;
+    let mut desk = Desk::new(alloc, config, seed, Tally::new())?;
+    play(&mut desk, rounds)
+}
+
+fn play(desk: &mut Desk, rounds: u64) -> Result<Tally, Fault> {
+    for _ in 0..rounds {
+        copy_all(desk)?;
+    }
+    Ok(desk.finish())
+}
+
+/// The section of the struct of a number.
+fn structure(nth: u64) -> Section {
+    section((nth % STRUCTS).wrapping_mul(16), 16)
+}
+
+/// An order of all structs that no one foresees: each is so far behind the one before it.
+fn stride(desk: &mut Desk) -> u64 {
+    desk.below(2_500).wrapping_mul(8).wrapping_add(7_919)
+}
+
+fn copy_all(desk: &mut Desk) -> Result<(), Fault> {
+    let all = section(0, STRUCTS.wrapping_mul(16));
+    desk.enter_data(one(EnterClause::Copyin, all));
+    let step = stride(desk);
+    for nth in 0..STRUCTS {
+        attach(desk, nth.wrapping_mul(step))?;
+    }
+    desk.update(one(UpdateClause::ToSelf, all), None);
+    desk.update(one(UpdateClause::ToDevice, all), None);
+    for nth in 0..STRUCTS {
+        detach(desk, nth.wrapping_mul(step))?;
+    }
+    desk.note_host(section(0, 4_096));
+    desk.exit_data(one(ExitClause::Copyout, all));
+    end_all(desk)?;
+    desk.fold()
+}
+
+/// Points a struct at its target, maps the target, attaches the pointer and updates the struct.
+fn attach(desk: &mut Desk, nth: u64) -> Result<(), Fault> {
+    point(desk, nth)?;
+    let pointer = structure(nth).start;
+    let item = Item {
+        clause: EnterClause::Copyin,
+        section: TARGETS.at(nth),
+        pointer: Some(pointer),
+    };
+    desk.enter_data(List::one(item));
+    desk.update(one(UpdateClause::ToDevice, structure(nth)), None);
+    let count = desk.table.attachment(0, pointer);
+    desk.tally.note(count);
+    desk.fold_when_due()
+}
+
+/// The host writes the address of the target into the struct.
+fn point(desk: &mut Desk, nth: u64) -> Result<(), AllocError> {
+    let target = TARGETS.at(nth).start;
+    let bytes = Vec::from_slice(desk.alloc, &target.to_le_bytes())?;
+    desk.call(Call::HostWrite {
+        addr: HOST_BASE.wrapping_add((nth % STRUCTS).wrapping_mul(16)),
+        bytes: List::from_vec(bytes),
+    });
+    Ok(())
+}
+
+/// Updates a target, and detaches the pointer to it with its item.
+fn detach(desk: &mut Desk, nth: u64) -> Result<(), Fault> {
+    desk.update(one(UpdateClause::ToSelf, TARGETS.at(nth)), None);
+    let item = Item {
+        clause: ExitClause::Copyout,
+        section: TARGETS.at(nth),
+        pointer: Some(structure(nth).start),
+    };
+    desk.exit_data(List::one(item));
+    desk.fold_when_due()
+}
+
+/// Ends the mappings of all targets that are left.
+fn end_all(desk: &mut Desk) -> Result<(), Fault> {
+    for part in 0..STRUCTS.div_ceil(64) {
+        let first = part.wrapping_mul(64);
+        let count = STRUCTS.saturating_sub(first).min(64);
+        let items = TARGETS.list(desk.alloc, ExitClause::Delete, first, 1, count)?;
+        desk.exit_data(items);
+    }
+    Ok(())
+}

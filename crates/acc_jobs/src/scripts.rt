@@ -1,0 +1,131 @@
+//! Scripts of tens of thousands of lines: plain, with a log, and copied line by line with reports as JSON.
+
+use crate::desks::limits;
+use crate::tallies::Tally;
+use crate::texts::{many, nested};
+use acc_base::Fault;
+use acc_follow::{Beside, Frame, Page, PictureSink, Setting, Stop, Views, follow};
+use acc_script::{MemorySink, MemorySource, Status};
+use std::alloc::Global;
+use std::sync::Wait;
+use std::thread::Threads;
+
+/// Nothing but what a script prints.
+const PLAIN: Views = Views {
+    echo: false,
+    json: false,
+    log: false,
+    explain: false,
+    picture: false,
+    pictures: false,
+};
+
+/// A log of what each call did, and why lines are refused.
+const LOG: Views = Views {
+    echo: false,
+    json: false,
+    log: true,
+    explain: true,
+    picture: false,
+    pictures: false,
+};
+
+/// Each statement before what it prints, and reports as JSON.
+const JSON: Views = Views {
+    echo: true,
+    json: true,
+    log: false,
+    explain: false,
+    picture: false,
+    pictures: false,
+};
+
+/// Keeps no picture.
+struct NoPictures;
+
+impl PictureSink for NoPictures {
+    fn keep(&self, _frame: Frame, _picture: &[u8]) -> Result<(), Stop> {
+        Ok(())
+    }
+}
+
+/// Plays scripts of each kind, so many times, each with another seed.
+pub fn run<R: Threads + Wait + Sync + AllocGlobal>(
+    rt: &R,
+    seed: u64,
+    rounds: u64,
+) -> Result<Tally, Fault> {
+    let mut tally = Tally::new();
+    for round in 0..rounds {
+        let mut sink = MemorySink::new(rt.alloc());
+        play_all(rt, seed.wrapping_add(round.wrapping_mul(1_000)), &mut sink)?;
+        tally.note_bytes(sink.as_slice());
+    }
+    Ok(tally)
+}
+
+/// A script of each kind.
+fn play_all<R: Threads + Wait + Sync + AllocGlobal>(
+    rt: &R,
+    seed: u64,
+    sink: &mut MemorySink,
+) -> Result<(), Fault> {
+    let alloc = rt.alloc();
+    play_text(rt, &many(alloc, seed, 10_000, 20_000, 0)?, PLAIN, sink)?;
+    play_text(rt, &many(alloc, seed, 4, 20_000, 0)?, PLAIN, sink)?;
+    play_text(rt, &many(alloc, seed, 1_000, 10_000, 100)?, PLAIN, sink)?;
+    play_more(rt, alloc, seed, sink)
+}
+
+fn play_more<R: Threads + Wait + Sync + AllocGlobal>(
+    rt: &R,
+    alloc: Global,
+    seed: u64,
+    sink: &mut MemorySink,
+) -> Result<(), Fault> {
+    play_text(rt, &nested(alloc, seed, 40, 100)?, PLAIN, sink)?;
+    play_text(rt, &many(alloc, seed, 4_000, 10_000, 0)?, LOG, sink)?;
+    play_text(rt, &many(alloc, seed, 500, 5_000, 50)?, JSON, sink)
+}
+
+/// Plays a script, and adds what it prints, what is shown beside it, and how it ended.
+pub fn play_text<R: Threads + Wait + Sync + AllocGlobal>(
+    rt: &R,
+    text: &str,
+    views: Views,
+    sink: &mut MemorySink,
+) -> Result<(), Fault> {
+    let mut err = MemorySink::new(rt.alloc());
+    let ending = follow_text(rt, text, views, sink, &mut err)?;
+    acc_script::write_all(sink, err.as_slice());
+    acc_script::write_all(sink, ending.as_bytes());
+    Ok(())
+}
+
+fn follow_text<R: Threads + Wait + Sync + AllocGlobal>(
+    rt: &R,
+    text: &str,
+    views: Views,
+    out: &mut MemorySink,
+    err: &mut MemorySink,
+) -> Result<&'static str, Fault> {
+    let setting = Setting {
+        config: limits(2_097_152, 2_097_152)?,
+        parts: 1,
+        views,
+    };
+    let mut reader = MemorySource::new(text.as_bytes());
+    let mut reason = Page::new(rt.alloc());
+    let beside = Beside {
+        err,
+        pictures: &NoPictures,
+        reason: &mut reason,
+    };
+    match follow(rt, setting, &mut reader, out, beside) {
+        Ok(Status::Clean) => Ok("clean\n"),
+        Ok(Status::Refused) => Ok("refused\n"),
+        Err(Stop::Fault(Fault::Script { .. })) => Ok("at fault\n"),
+        Err(Stop::Fault(fault)) => Err(fault),
+        Err(Stop::Picture(_)) => Ok("no picture\n"),
+    }
+}

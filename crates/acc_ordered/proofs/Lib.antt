@@ -1,4 +1,5 @@
 pub mod Halving
+pub mod Counting
 pub mod Tall
 pub mod Steps
 pub mod Ends

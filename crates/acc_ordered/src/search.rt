@@ -1,28 +1,53 @@
-//! A search by halves in a row.
-ghost use Rattle.std.specs.Prelude.{◌≡◌, ℕ, ◌+◌, ◌^◌, ◌<◌, ◌≤◌, length, nat_lt};
+//! A search in a row.
+ghost use Rattle.std.specs.Prelude.{◌≡◌, ℕ, ◌+◌, ◌-◌, ◌^◌, ◌<◌, ◌≤◌, length, nat_lt, if◌then◌else◌, slice_index};
 ghost use Rattle.acc_base.specs.Splits.{IsSplitBy};
 ghost use Rattle.acc_base.specs.Accounts.{EachPair};
 
 use acc_base::Steps;
 
-/// How many keys lie below `key`, by at most one comparison for each binary digit of their number.
+/// One where a number lies below a key, and else none. It is a number, so that what adds it up takes no branch.
+#[inline]
+fn one_if_below(number: u64, key: u64) -> usize
+    ensures { result ≡ (if nat_lt number key then 1 else 0) }
+{
+    if number < key { 1 } else { 0 }
+}
+
+/// How many keys lie below `key` in the eighths of a row that do so whole, by one comparison for each eighth.
+#[inline]
+fn count_eighths(keys: &[u64], key: u64, comparisons: &mut Steps) -> usize
+    requires rising { EachPair (λ (a : ℕ) (b : ℕ). a < b) keys.now }
+    requires few { length keys.now ≤ 64 }
+    requires limit { comparisons.old ≤ 2 ^ 32 }
+    ensures comparisons { comparisons.new ≤ comparisons.old + 8 }
+    ensures passed { 0 < result → slice_index keys.now (result - 1) < key }
+    ensures failed { result + 7 < length keys.now → key ≤ slice_index keys.now (result + 7) }
+    ensures bound { result ≤ length keys.now }
+{
+    let mut low = 0;
+    for eighth in 0..keys.len() / 8 {
+        comparisons.tick();
+        low += 8 * one_if_below(keys[8 * eighth + 7], key);
+    }
+    low
+}
+
+/// How many keys of a row lie below `key`, by at most sixteen comparisons. No branch is taken by any of them: which one
+/// a search takes in the end cannot be foreseen.
 #[inline]
 pub fn count_below(keys: &[u64], key: u64, comparisons: &mut Steps) -> usize
     requires rising { EachPair (λ (a : ℕ) (b : ℕ). a < b) keys.now }
+    requires few { length keys.now ≤ 64 }
     requires limit { comparisons.old ≤ 2 ^ 32 }
     ensures split { IsSplitBy (λ k. nat_lt k key) keys.now result }
-    ensures comparisons { (d : ℕ) → length keys.now < 2 ^ d → comparisons.new ≤ comparisons.old + d }
+    ensures comparisons { comparisons.new ≤ comparisons.old + 16 }
 {
-    let mut low = 0;
-    let mut high = keys.len();
-    while low < high {
+    let low = count_eighths(keys, key, comparisons);
+    let high = keys.len().min(low + 8);
+    let mut place = low;
+    for nth in low..high {
         comparisons.tick();
-        let middle = low + (high - low) / 2;
-        if keys[middle] < key {
-            low = middle + 1;
-        } else {
-            high = middle;
-        }
+        place += one_if_below(keys[nth], key);
     }
-    low
+    place
 }

@@ -24,8 +24,8 @@ use std::marker::Model;
 /// or 8 entries, that row is joined with one beside it, if they have at most 32 together, and a node waits again. So does
 /// one whose row becomes empty.
 ///
-/// A search comes to at most two nodes for each binary digit of the number of entries. It then makes at most seven
-/// comparisons in one row.
+/// A search comes to at most two nodes for each binary digit of the number of entries. It then makes at most sixteen
+/// comparisons in one row, none of which is a branch.
 pub struct Tree<T: Copy> {
     alloc: Global,
     // What stands in nodes that wait.

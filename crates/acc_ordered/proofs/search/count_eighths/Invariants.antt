@@ -1,0 +1,11 @@
+use Rattle.std.proofs.Common.{◌+◌, ◌*◌, ◌<◌, ◌≤◌, length}
+use Rattle.acc_ordered.proofs.Counting.{IsEighths}
+use Rattle.acc_ordered.proofs.search.count_eighths.Given as goal
+
+abbrev pub invariant-loop-eighth : goal.invariant-loop-eighth
+invariant-loop-eighth l = record {
+  whole : 8 * l.eighth-end ≤ length l.keys;
+  rest : length l.keys < 8 * l.eighth-end + 8;
+  comparisons : l.comparisons ≤ l.initial.comparisons + l.eighth;
+  eighths : IsEighths l.keys l.key l.eighth l.low;
+}

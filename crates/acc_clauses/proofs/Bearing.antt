@@ -48,12 +48,6 @@ born_state counter item queue copied k place s = record s {
   memories = s.memories ++ record { block = k; bytes = bytes_made copied (section_of (Enter counter item queue)) item.clause s.host } ∷ [];
 }
 
--- a new range with one count
-born_ranges : (counter : Counter) (item : Item RegionClause) (queue : Option ℕ) (k : ℕ) (p q r : PresentState) → AllByRecursion (λ x. x.block ≡ k → ⊥) p.table.ranges
-    → q.table ≡ with_ranges p.table (with_range (bare_range (section_of (Enter counter item queue)) k) p.table.ranges) → r.table ≡ with_ranges q.table (changed_at k (risen counter) q.table.ranges)
-    → r.table.ranges ≡ with_range (born_range counter item queue k) p.table.ranges
-born_ranges counter item queue k p q r new put raised = grind (arith, nat_tests, changed-with, recounted-section)
-
 one_value : (a b : ℕ) (o : Option ℕ) → o ≡ Some a → o ≡ Some b → a ≡ b
 one_value a b o e h = cc
 
@@ -72,27 +66,26 @@ born_marked counter item queue k births x number unpinned zip born marked =
     (marks_born new x.present.table.ranges x.queues.queues x.device.marks (subst (λ n. AllByRecursion (λ m. m.block ≡ n → ⊥) x.device.marks) (sym (own ∙ number)) (marks_old births x.device.marks x.device.blocks zip born))
     (ap (λ n. pins_of n x.queues.queues) own ∙ unpinned) marked)
 
-pub born_changes : (counter : Counter) (item : Item RegionClause) (queue : Option ℕ) (copied : Bool) (k place : ℕ) (x : WithHost) (q r : PresentState) (e : DeviceState)
+pub born_changes : (counter : Counter) (item : Item RegionClause) (queue : Option ℕ) (copied : Bool) (k place : ℕ) (x : WithHost) (r : PresentState) (e : DeviceState)
     → CanBear x.present.table.counter_max x.device.memory (section_of (Enter counter item queue)) k place (bare_state x) → IsMade x.device e copied (section_of (Enter counter item queue)) item.clause x.host
-    → q.table ≡ with_ranges x.present.table (with_range (bare_range (section_of (Enter counter item queue)) k) x.present.table.ranges) → x.present.room.ranges ≤ q.room.ranges + 1 → x.present.room.regions ≤ q.room.regions → x.present.room.holdings ≤ q.room.holdings
-    → r.table ≡ with_ranges q.table (changed_at k (risen counter) q.table.ranges) → present.IsRoomKept q.room r.room
+    → r.table ≡ with_ranges x.present.table (with_range (risen counter (bare_range (section_of (Enter counter item queue)) k)) x.present.table.ranges) → x.present.room.ranges ≤ r.room.ranges + 1 → x.present.room.regions ≤ r.room.regions → x.present.room.holdings ≤ r.room.holdings
     → AllZip IsMarkOf x.device.marks x.device.blocks → AllByRecursion (λ b. b.number ≤ x.device.births) x.device.blocks → AreMarked x
     → IsChangedBy (born_state counter item queue copied k place) ((section_of (Enter counter item queue)).len ∷ []) 0 (λ n. 0) x (record x { present = r; device = e })
 unfolding records_after_birth
-born_changes counter item queue copied k place x q r e can made put ranges regions holdings raised room zip born marked =
+born_changes counter item queue copied k place x r e can made put ranges regions holdings zip born marked =
     let new : WithHost = record x { present = r; device = e } in
     let where_it_is : place ≡ made.place = one_value place made.place _ can.place_is made.place_is in
-    let all : r.table.ranges ≡ with_range (born_range counter item queue k) x.present.table.ranges = born_ranges counter item queue k x.present q r can.no_range put raised in
+    let all : r.table.ranges ≡ with_range (born_range counter item queue k) x.present.table.ranges = ap (λ t. t.ranges) put in
     let blocks : e.blocks ≡ (records_after_birth (born_range counter item queue k) place (bare_state x).records).blocks = made.blocks ∙ ap (λ b. x.device.blocks ++ b ∷ []) (born_as_named counter item queue k (x.device.births + 1) place made.place can.number where_it_is) in
     let memories : e.memories ≡ x.device.memories ++ record { block = k; bytes = bytes_made copied (section_of (Enter counter item queue)) item.clause x.host } ∷ [] =
     made.memories ∙ ap (λ n. x.device.memories ++ record { block = n; bytes = bytes_made copied (section_of (Enter counter item queue)) item.clause x.host } ∷ []) (sym can.number) in
     record {
-      state = λ next. state_from_parts new next (born_state counter item queue copied k place (state_of x next)) all blocks refl made.births refl made.loans (ap (λ t. t.regions) raised ∙ ap (λ t. t.regions) put) refl refl refl memories;
-      counter_max = ap (λ t. t.counter_max) raised ∙ ap (λ t. t.counter_max) put;
+      state = λ next. state_from_parts new next (born_state counter item queue copied k place (state_of x next)) all blocks refl made.births refl made.loans (ap (λ t. t.regions) put) refl refl refl memories;
+      counter_max = ap (λ t. t.counter_max) put;
       memory = made.memory;
       pointer_max = refl;
       queue_cap = refl;
-      room = record { births_are = made.room; ranges = omega (arith, ranges, room.ranges); regions = omega (arith, regions, room.regions); holdings = omega (arith, holdings, room.holdings); attachments = omega arith; puts = λ n. omega arith };
+      room = record { births_are = made.room; ranges = ranges; regions = regions; holdings = holdings; attachments = omega arith; puts = λ n. omega arith };
       marked = rw (all, made.marks) (born_marked counter item queue k x.device.births x can.number can.no_transfer zip born marked);
     }
 

@@ -88,20 +88,14 @@ unmapped k y = record (bare_state y).records { ranges = without_range k y.presen
 gone_range : (k : ℕ) (y : WithHost) → is_none (range_of k (unmapped k y).ranges) ≡ true
 gone_range k y = ap is_none (at-without_same (λ (x : Range). x.block) k y.present.table.ranges)
 
--- the ranges after its counters fell and it was removed
-ranges_gone : (task : Task) (k : ℕ) (y : WithHost) (q r : PresentState) → q.table ≡ with_ranges y.present.table (changed_at k (recounted task) y.present.table.ranges) → r.table ≡ with_ranges q.table (without_range k q.table.ranges)
-    → r.table ≡ with_ranges y.present.table (without_range k y.present.table.ranges)
-ranges_gone task k y q r counted removed = removed ∙ (ap (λ t. with_ranges t (without_range k t.ranges)) counted ∙ ap (with_ranges y.present.table) (without-changed k (recounted task) y.present.table.ranges (recounted-block task)))
-
 -- the block is given back, with its attachment counters
-pub gone_changes : (task : Task) (k : ℕ) (y : WithHost) (q r : PresentState) (e : DeviceState) (b : AttachedState) → AreMarked y → AllZip (IsMemoryOf y.device.loans) y.device.memories y.device.blocks → IsMarkAt y.present.table.ranges y.queues.queues y.device.marks k
-    → q.table ≡ with_ranges y.present.table (changed_at k (recounted task) y.present.table.ranges) → present.IsRoomKept y.present.room q.room → r.table ≡ with_ranges q.table (without_range k q.table.ranges) → present.IsRoomKept q.room r.room
+pub gone_changes : (k : ℕ) (y : WithHost) (r : PresentState) (e : DeviceState) (b : AttachedState) → AreMarked y → AllZip (IsMemoryOf y.device.loans) y.device.memories y.device.blocks → IsMarkAt y.present.table.ranges y.queues.queues y.device.marks k
+    → r.table ≡ with_ranges y.present.table (without_range k y.present.table.ranges) → present.IsRoomKept y.present.room r.room
     → pins_at k y.device.marks ≡ 0 → IsRetired y.device e k → b.attached ≡ without_attachments k y.attached.attached → b.counter_max ≡ y.attached.counter_max → y.attached.spare ≤ b.spare
     → IsChangedBy (ended_state k) [] 0 (λ n. 0) y (record y { present = r; device = e; attached = b })
 unfolding records_after_end released
-gone_changes task k y q r e b marked sized mark counted room1 removed room2 free retired forgot limit spare =
+gone_changes k y r e b marked sized mark table kept free retired forgot limit spare =
     let new : WithHost = record y { present = r; device = e; attached = b } in
-    let table : r.table ≡ with_ranges y.present.table (without_range k y.present.table.ranges) = ranges_gone task k y q r counted removed in
     let ranges : r.table.ranges ≡ without_range k y.present.table.ranges = ap (λ t. t.ranges) table in
     let idle : is_in_use k (unmapped k y) ≡ false = unused k (unmapped k y) (gone_range k y) (sym mark.pins ∙ free) in
     let memories : e.memories ≡ _ = retired.memories ∙ (ap (λ bs. memories_kept bs y.device.memories) retired.blocks ∙ memories_kept-without y.device.loans k y.device.memories y.device.blocks sized) in
@@ -111,16 +105,16 @@ gone_changes task k y q r e b marked sized mark counted room1 removed room2 free
       memory = retired.memory;
       pointer_max = limit;
       queue_cap = refl;
-      room = room_same (λ n. 0) y new (kept_twice y.present.room q.room r.room room1 room2) retired.room spare (λ n. omega arith);
+      room = room_same (λ n. 0) y new kept retired.room spare (λ n. omega arith);
       marked = rw (ranges, retired.marks) (marks_gone y.present.table.ranges k y.queues.queues y.device.marks marked);
     }
 
 -- the block is kept by a transfer
-pub kept_changes : (task : Task) (k : ℕ) (y : WithHost) (q r : PresentState) (e : DeviceState) → AreMarked y → IsMarkAt y.present.table.ranges y.queues.queues y.device.marks k
-    → q.table ≡ with_ranges y.present.table (changed_at k (recounted task) y.present.table.ranges) → present.IsRoomKept y.present.room q.room → r.table ≡ with_ranges q.table (without_range k q.table.ranges) → present.IsRoomKept q.room r.room
+pub kept_changes : (k : ℕ) (y : WithHost) (r : PresentState) (e : DeviceState) → AreMarked y → IsMarkAt y.present.table.ranges y.queues.queues y.device.marks k
+    → r.table ≡ with_ranges y.present.table (without_range k y.present.table.ranges) → present.IsRoomKept y.present.room r.room
     → (pins_at k y.device.marks ≡ 0 → ⊥) → IsEnded y.device e k → IsChangedBy (ended_state k) [] 0 (λ n. 0) y (record y { present = r; device = e })
 unfolding records_after_end released
-kept_changes task k y q r e marked mark counted room1 removed room2 some ended = grind (arith, nat_tests, ranges_gone task k y q r counted removed, used_pinned, state_from_parts, room_same, kept_twice y.present.room q.room r.room room1 room2, marks_ended)
+kept_changes k y r e marked mark table kept some ended = grind (arith, nat_tests, used_pinned, state_from_parts, room_same, marks_ended)
 
 -- ---- both are the step
 

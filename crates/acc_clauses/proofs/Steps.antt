@@ -101,27 +101,7 @@ moved_table t task k if_present item queue e = rw e (ap (with_ranges t) (sym (ch
 pub new_absent : (k : ℕ) (ranges : List Range) → AllByRecursion (λ r. r.block ≡ k → ⊥) ranges → range_of k ranges ≡ None
 new_absent k ranges h = at-none (λ (r : Range). r.block) k ranges h
 
--- the new range is there, and nothing has counted it
-pub new_there : (section : Section) (k : ℕ) (t u : PresentTable) → u ≡ with_ranges t (with_range (bare_range section k) t.ranges) → IsSome (range_of k u.ranges)
-new_there section k t u e = subst (λ (x : PresentTable). IsSome (range_of k x.ranges)) (sym e) (with_new (bare_range section k) t.ranges)
-
-pub new_below : (counter : Counter) (section : Section) (k : ℕ) (t u : PresentTable) → AllByRecursion (λ r. r.block ≡ k → ⊥) t.ranges → 0 < t.counter_max → u ≡ with_ranges t (with_range (bare_range section k) t.ranges)
-    → counter_of counter k u.ranges < u.counter_max
-new_below counter section k t u h some e = grind (arith, nat_tests, with_same (counter_in counter) (bare_range section k) t.ranges (new_absent k t.ranges h))
-
-found_block : (k : ℕ) (ranges : List Range) (r : Range) → range_of k ranges ≡ Some r → (r.block == k) ≡ true
+-- the range of a block has the block
+pub found_block : (k : ℕ) (ranges : List Range) (r : Range) → range_of k ranges ≡ Some r → (r.block == k) ≡ true
 found_block k [] r e = cc
 found_block k (x ∷ xs) r e = grind (arith, nat_tests, found_block k xs r)
-
--- the range of a block after a change of it
-found_changed : (task : Task) (k : ℕ) (ranges : List Range) (r : Range) → range_of k ranges ≡ Some r → range_of k (changed_at k (recounted task) ranges) ≡ Some (recounted task r)
-found_changed task k ranges r e = grind (arith, nat_tests, found_block k ranges r e, at-changed (λ (x : Range). x.block) k k (recounted task) ranges (recounted-block task), recounted-block task)
-
--- the range of a block that is counted is there still
-pub changed_there : (task : Task) (k : ℕ) (t u : PresentTable) (r : Range) → u ≡ with_ranges t (changed_at k (recounted task) t.ranges) → range_of k t.ranges ≡ Some r → IsSome (range_of k u.ranges)
-changed_there task k t u r e is = subst (λ (x : PresentTable). IsSome (range_of k x.ranges)) (sym e) (is_some (range_of k (changed_at k (recounted task) t.ranges)) (recounted task r) (found_changed task k t.ranges r is))
-
--- both counters are zero after a change that leaves the range unused
-pub changed_zero : (counter : Counter) (task : Task) (k : ℕ) (t u : PresentTable) (r : Range) → u ≡ with_ranges t (changed_at k (recounted task) t.ranges) → range_of k t.ranges ≡ Some r → ends_by (recounted task) k t.ranges ≡ true
-    → counter_of counter k u.ranges ≡ 0
-changed_zero counter task k t u r e is ends = grind (arith, nat_tests, found_changed)

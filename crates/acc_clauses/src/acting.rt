@@ -21,18 +21,16 @@ use acc_dev::Device;
 use acc_host::HostMem;
 use acc_present::Present;
 
-/// Raises a counter of the range that is mapped to a block.
-fn raise(present: &mut Present, counter: Counter, block: u64)
+/// Raises a counter of the range that is mapped to a block, which lies near an address.
+fn raise(present: &mut Present, counter: Counter, block: u64, at: u64)
     requires there { HasRange present.old.table block }
     requires below { counter_of counter block present.old.table.ranges < present.old.table.counter_max }
     ensures table { present.new.table ≡ with_ranges present.old.table (changed_at block (risen counter) present.old.table.ranges) }
     ensures room { IsRoomKept present.old.room present.new.room }
 {
-    let raised = match counter {
-        Counter::Structured => present.count_structured(block),
-        Counter::Dynamic => present.count_dynamic(block),
+    let Ok(()) = present.count_near(counter, block, at) else {
+        unreachable!()
     };
-    let Ok(()) = raised else { unreachable!() };
 }
 
 /// Changes the counters of the range that is mapped to a block as the task does (OpenACC 3.3, section 2.6.7).
@@ -41,14 +39,15 @@ fn recount(present: &mut Present, task: Task, block: u64)
     ensures table { present.new.table ≡ with_ranges present.old.table (changed_at block (recounted task) present.old.table.ranges) }
     ensures room { IsRoomKept present.old.room present.new.room }
 {
+    let at = section_of(task).start;
     match task {
-        Task::Enter { counter, .. } => raise(present, counter, block),
-        Task::ExitRegion { .. } => present.drop_structured(block),
-        Task::ExitData { finalize: true, .. } => present.clear_dynamic(block),
+        Task::Enter { counter, .. } => raise(present, counter, block, at),
+        Task::ExitRegion { .. } => present.drop_near(Counter::Structured, block, at),
+        Task::ExitData { finalize: true, .. } => present.clear_near(block, at),
         Task::ExitData {
             finalize: false,
             ..
-        } => present.drop_dynamic(block),
+        } => present.drop_near(Counter::Dynamic, block, at),
         Task::Move { .. } => {}
     }
 }
@@ -134,8 +133,9 @@ fn bear(
     let copied = is_copied_now(item.clause, queue);
     environment.device.laws();
     make_block(&mut environment.device, host, copied, section, item.clause);
-    environment.present.add_reserved(section, block);
-    raise(&mut environment.present, counter, block);
+    environment
+        .present
+        .add_counted_reserved(section, block, counter);
     fill_later(environment, host, queue, item, block);
 }
 
@@ -165,8 +165,8 @@ fn end(environment: &mut Environment, host: &mut HostMem, task: Task, block: u64
 {
     give_bytes(environment, host, task, block);
     environment.device.laws();
-    recount(&mut environment.present, task, block);
-    environment.present.remove(block);
+    let at = section_of(task).start;
+    environment.present.end_near(block, at);
     if environment.device.retire(block) {
         environment.attached.forget(block);
     }

@@ -1,10 +1,10 @@
 //! The clause tables: what a task does after those that were judged before it, or why it is refused.
 
-ghost use Rattle.std.specs.Prelude.{ℕ, ◌≡◌, ◌+◌, ◌++◌, ◌∷◌, [], ◌<◌, ◌≤◌, ◌^◌, ◌&&◌, not, Option, Ok, true};
+ghost use Rattle.std.specs.Prelude.{ℕ, ◌≡◌, ◌+◌, ◌++◌, ◌∷◌, [], ◌<◌, ◌≤◌, ◌^◌, ◌&&◌, not, Option, Ok, Some, IfSome, true};
 ghost use Rattle.std.specs.List.{list_all};
 ghost use Rattle.acc_base.specs.declared.addresses.TheConstants.{MEMORY_MAX};
 ghost use Rattle.acc_base.specs.Limits.{IsFromOne};
-ghost use Rattle.acc_base.specs.Ranges.{where_is, ends_by};
+ghost use Rattle.acc_base.specs.Ranges.{where_is, range_of, ends_by};
 ghost use Rattle.acc_base.specs.Records.{Records};
 ghost use Rattle.acc_base.specs.Clauses.{in_host, pointer_checked, born, enter_absent, counted, enter_row, leave_row, exit_row, move_row};
 ghost use Rattle.acc_base.specs.Tasks.{section_of, queue_of, recounted, checked};
@@ -19,13 +19,13 @@ ghost use Rattle.acc_clauses.specs.Overlays.{IsPlanned, AreUnmixed, tasks_in, re
 use crate::drafts::Draft;
 use crate::effects::{are_zero, recount};
 use crate::lending::not_lent;
-use crate::readings::{counters_after, number_after, place_after, queue_len_after};
+use crate::readings::{Located, counters_after, number_after, place_after, queue_len_after};
 use crate::rows::{moves, pointer_of, queue_of, section_of};
 use crate::sections::{POINTER_LEN, pointer_at};
 use crate::views::View;
 use acc_base::{
-    Aim, Counter, Counters, ExitClause, Fault, Found, HOST_BASE, Holding, Item, RegionClause,
-    Section, Step, Task, UpdateClause,
+    Aim, Counter, Counters, ExitClause, Fault, Found, HOST_BASE, Holding, Item, Range,
+    RegionClause, Section, Step, Task, UpdateClause,
 };
 use acc_placement::rounded;
 
@@ -124,11 +124,13 @@ fn counted(
     n: u64,
     counter: Counter,
     block: u64,
+    known: Option<Range>,
 ) -> Result<Step, Fault>
-    requires { IsPlanned view.now.limits draft.now view.now.state.records }
+    requires known { IfSome known (λ range. range_of range.block view.now.state.records.ranges ≡ Some range) }
+    requires planned { IsPlanned view.now.limits draft.now view.now.state.records }
     ensures { result ≡ counted view.now.limits counter n block (records_after draft.now view.now.state.records) }
 {
-    let counters = counters_after(view, draft, block);
+    let counters = counters_after(view, draft, block, known);
     let count = match counter {
         Counter::Structured => counters.structured,
         Counter::Dynamic => counters.dynamic,
@@ -148,12 +150,13 @@ fn enter(
     counter: Counter,
     item: Item<RegionClause>,
     queue: Option<u64>,
-    found: Found,
+    located: Located,
 ) -> Result<Step, Fault>
     requires planned { IsPlanned view.now.limits draft.now view.now.state.records }
     requires entering { list_all enters (tasks_in draft.now) ≡ true }
     requires births { view.now.state.records.births < 2 ^ 48 }
-    requires located { found ≡ where_is (section_of (Task.Enter counter item queue)) (records_after draft.now view.now.state.records).ranges }
+    requires located { located.found ≡ where_is (section_of (Task.Enter counter item queue)) (records_after draft.now view.now.state.records).ranges }
+    requires known { IfSome located.known (λ range. range_of range.block view.now.state.records.ranges ≡ Some range) }
     ensures { result ≡ judge_row view.now.limits n (Task.Enter counter item queue) (records_after draft.now view.now.state.records) }
 {
     let task = Task::Enter {
@@ -162,9 +165,9 @@ fn enter(
         queue,
     };
     checked(view, n, task)?;
-    match found {
+    match located.found {
         Found::Empty => Ok(Step::Nothing),
-        Found::Inside { block, .. } => counted(view, draft, n, counter, block),
+        Found::Inside { block, .. } => counted(view, draft, n, counter, block, located.known),
         Found::Absent => enter_absent(view, draft, n, item.clause, section_of(task)),
         Found::Partly => Err(Fault::PartlyPresent { item: n }),
     }
@@ -189,7 +192,8 @@ fn leave(view: &View<'_>, draft: &Draft, holding: Holding) -> Result<Step, Fault
 {
     match holding.block {
         Some(block) => {
-            let counters = counters_after(view, draft, block);
+            let known = view.range_near(block, holding.item.section.start);
+            let counters = counters_after(view, draft, block, known);
             Ok(dropped(Task::ExitRegion { holding }, block, counters))
         }
         None => Ok(Step::Nothing),
@@ -205,10 +209,11 @@ fn exit(
     finalize: bool,
     item: Item<ExitClause>,
     queue: Option<u64>,
-    found: Found,
+    located: Located,
 ) -> Result<Step, Fault>
     requires planned { IsPlanned view.now.limits draft.now view.now.state.records }
-    requires located { found ≡ where_is (section_of (Task.ExitData finalize item queue)) (records_after draft.now view.now.state.records).ranges }
+    requires located { located.found ≡ where_is (section_of (Task.ExitData finalize item queue)) (records_after draft.now view.now.state.records).ranges }
+    requires known { IfSome located.known (λ range. range_of range.block view.now.state.records.ranges ≡ Some range) }
     ensures { result ≡ judge_row view.now.limits n (Task.ExitData finalize item queue) (records_after draft.now view.now.state.records) }
 {
     let task = Task::ExitData {
@@ -217,10 +222,10 @@ fn exit(
         queue,
     };
     checked(view, n, task)?;
-    match found {
+    match located.found {
         Found::Empty => Ok(Step::Nothing),
         Found::Inside { block, .. } => {
-            let counters = counters_after(view, draft, block);
+            let counters = counters_after(view, draft, block, located.known);
             if counters.dynamic == 0 {
                 return Ok(Step::Nothing);
             }
@@ -256,20 +261,21 @@ fn copy(
     }
 }
 
-/// What the clause tables say of the task of the item at place `n` after those that were judged before it. `found` is
-/// where its section lies then.
+/// What the clause tables say of the task of the item at place `n` after those that were judged before it. Its section
+/// is located then.
 #[tactic(auto, using(crate::proofs::Laws::kind_laws))]
 pub(crate) fn judge_row(
     view: &View<'_>,
     draft: &Draft,
     n: u64,
     task: Task,
-    found: Found,
+    located: Located,
 ) -> Result<Step, Fault>
     requires planned { IsPlanned view.now.limits draft.now view.now.state.records }
     requires unmixed { AreUnmixed (tasks_in draft.now ++ task ∷ []) }
     requires births { view.now.state.records.births < 2 ^ 48 }
-    requires located { found ≡ where_is (section_of task) (records_after draft.now view.now.state.records).ranges }
+    requires located { located.found ≡ where_is (section_of task) (records_after draft.now view.now.state.records).ranges }
+    requires known { IfSome located.known (λ range. range_of range.block view.now.state.records.ranges ≡ Some range) }
     ensures { result ≡ judge_row view.now.limits n task (records_after draft.now view.now.state.records) }
 {
     match task {
@@ -277,18 +283,18 @@ pub(crate) fn judge_row(
             counter,
             item,
             queue,
-        } => enter(view, draft, n, counter, item, queue, found),
+        } => enter(view, draft, n, counter, item, queue, located),
         Task::ExitRegion { holding } => leave(view, draft, holding),
         Task::ExitData {
             finalize,
             item,
             queue,
-        } => exit(view, draft, n, finalize, item, queue, found),
+        } => exit(view, draft, n, finalize, item, queue, located),
         Task::Move {
             if_present,
             item,
             ..
-        } => copy(view, n, if_present, item, found),
+        } => copy(view, n, if_present, item, located.found),
     }
 }
 

@@ -1,20 +1,29 @@
 //! What look-ups return in the records that the tasks judged so far will leave.
 
-ghost use Rattle.std.specs.Prelude.{◌≡◌, ◌+◌, ◌<◌, ◌^◌, length, true};
+ghost use Rattle.std.specs.Prelude.{◌≡◌, ◌+◌, ◌<◌, ◌^◌, length, true, Some, IfSome};
 ghost use Rattle.std.specs.List.{list_all};
 ghost use Rattle.acc_base.specs.Section.{device_memory};
 ghost use Rattle.acc_base.specs.declared.addresses.TheConstants.{MEMORY_MAX};
 ghost use Rattle.acc_base.specs.declared.transfers.TheConstants.{QUEUE_COUNT};
 ghost use Rattle.acc_base.specs.Queues.{queue_at};
 ghost use Rattle.acc_base.specs.Limits.{IsFromOne};
-ghost use Rattle.acc_base.specs.Ranges.{where_is};
+ghost use Rattle.acc_base.specs.Ranges.{where_is, range_of};
 ghost use Rattle.acc_base.specs.Blocks.{rounded, place_for};
 ghost use Rattle.acc_clauses.specs.Overlays.{IsPlanned, AreUnmixed, tasks_in, records_after, enters, counters_at};
 
 use crate::drafts::Draft;
 use crate::effects::{counters_over, found_over, puts_in};
 use crate::views::View;
-use acc_base::{Counters, Found, Section};
+use acc_base::{Counters, Found, Range, Section};
+
+/// Where a section lies after the tasks.
+#[derive(Clone, Copy)]
+pub(crate) struct Located {
+    /// Where it lies.
+    pub(crate) found: Found,
+    /// A range that is mapped before the tasks and says so, if one does.
+    pub(crate) known: Option<Range>,
+}
 
 /// Where a section lies after the tasks.
 #[tactic(auto, using(crate::proofs::Laws::plan_laws))]
@@ -23,19 +32,38 @@ pub(crate) fn found_after(view: &View<'_>, draft: &Draft, section: Section) -> F
     requires unmixed { AreUnmixed (tasks_in draft.now) }
     ensures { result ≡ where_is section (records_after draft.now view.now.state.records).ranges }
 {
-    let found = view.find_apart(section, draft.ended());
-    found_over(section, found, draft.acts())
+    locate_after(view, draft, section).found
 }
 
-/// The counters of the range that is mapped to a block after the tasks; both are 0 where none is.
+/// Where a section lies after the tasks, and the range that was found on the way.
 #[tactic(auto, using(crate::proofs::Laws::plan_laws))]
-pub(crate) fn counters_after(view: &View<'_>, draft: &Draft, block: u64) -> Counters
+pub(crate) fn locate_after(view: &View<'_>, draft: &Draft, section: Section) -> Located
+    requires planned { IsPlanned view.now.limits draft.now view.now.state.records }
+    requires unmixed { AreUnmixed (tasks_in draft.now) }
+    ensures found { result.found ≡ where_is section (records_after draft.now view.now.state.records).ranges }
+    ensures known { IfSome result.known (λ range. range_of range.block view.now.state.records.ranges ≡ Some range) }
+{
+    let (found, known) = view.find_apart(section, draft.ended());
+    let found = found_over(section, found, draft.acts());
+    Located { found, known }
+}
+
+/// The counters of the range that is mapped to a block after the tasks; both are 0 where none is. Before them it is not
+/// searched for where it is the one that is known.
+#[tactic(auto, using(crate::proofs::Laws::plan_laws))]
+pub(crate) fn counters_after(
+    view: &View<'_>,
+    draft: &Draft,
+    block: u64,
+    known: Option<Range>,
+) -> Counters
+    requires known { IfSome known (λ range. range_of range.block view.now.state.records.ranges ≡ Some range) }
     requires planned { IsPlanned view.now.limits draft.now view.now.state.records }
     ensures value { result ≡ counters_at block (records_after draft.now view.now.state.records).ranges }
     ensures structured { result.structured < 2 ^ 33 }
     ensures dynamic { result.dynamic < 2 ^ 33 }
 {
-    let counters = view.counters(block);
+    let counters = view.counters_known(block, known);
     counters_over(block, counters, draft.acts())
 }
 

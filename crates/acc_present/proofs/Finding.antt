@@ -10,10 +10,12 @@ use Rattle.acc_base.specs.declared.mappings.Range.{Range}
 use Rattle.acc_base.specs.declared.mappings.Found.{Found}
 use Rattle.acc_base.specs.declared.mappings.Found.TheVariants.{Inside, Partly, Absent}
 use Rattle.acc_base.specs.Section.{is_empty, is_within, is_apart, end_of}
-use Rattle.acc_base.specs.Ranges.{where_is, where_is_apart, without_ranges, range_around, range_from, found_in}
+use Rattle.acc_base.specs.Ranges.{where_is, where_is_apart, without_ranges, range_around, range_from, range_of, found_in}
 use Rattle.acc_base.specs.Accounts.{EachPair, IsBelow}
 use Rattle.acc_base.proofs.Elements.{IfSome-weaker, find_passes, AllByRecursion-weaker, AllByRecursion-both, AllByRecursion-filter, EachPair-filter, find-none, find_none, filter-kept, filter-none, found_has, list_all-from, list_all-to}
 use Rattle.acc_base.proofs.Where.{absent_says}
+use Rattle.acc_base.proofs.Lookups.{at-own}
+use Rattle.acc_base.proofs.RangeChanges.{block_of}
 use Rattle.acc_ordered.proofs.Steps.{all_behind}
 use Rattle.acc_present.specs.Present.{AreMapped}
 use Rattle.acc_present.specs.Kept.{ranges_from, IsNext}
@@ -164,6 +166,23 @@ last_is k (x ∷ rs) r m e = go (last_is k rs r (mapped_rest x rs m)) (last_belo
     go rest None none false t h = cc
     go rest (Some y) is b t h = later (rest (is ∙ h))
 
+-- what holds of all ranges holds of the last one below an address
+last_has : (P : Range → Type 0) (k : ℕ) (rs : List Range) (r : Range) → AllByRecursion P rs → last_below k rs ≡ Some r → P r
+last_has P k [] r all e = cc
+last_has P k (x ∷ rs) r all e = go (last_has P k rs r all.1) (last_below k rs) refl (nat_lt x.section.start k) e
+  where
+    go : (last_below k rs ≡ Some r → P r) → (o : Option Range) → last_below k rs ≡ o → (b : Bool) → option_or o (cond b (Some x) None) ≡ Some r → P r
+    go rest None none true h = subst P (same_Some x r h) all.0
+    go rest None none false h = cc
+    go rest (Some y) is b h = rest (is ∙ h)
+
+-- and it is the range of its block
+pub last_own : (k : ℕ) (rs : List Range) (r : Range) → AreMapped rs → last_below k rs ≡ Some r → range_of r.block rs ≡ Some r
+last_own k rs r m e = last_has (λ (t : Range). range_of t.block rs ≡ Some t) k rs r (at-own block_of rs m.own_block) e
+
+pub last_of_block : (k block : ℕ) (rs : List Range) (r : Range) → AreMapped rs → last_below k rs ≡ Some r → r.block ≡ block → range_of block rs ≡ Some r
+last_of_block k block rs r m e is = subst (λ (n : ℕ). range_of n rs ≡ Some r) is (last_own k rs r m e)
+
 -- ranges that end before a section say nothing of it
 skip_all : (s : Section) (blocks : List ℕ) (front rs : List Range) → 0 < s.len → AllByRecursion (λ (r : Range). 0 < r.section.len) (front ++ rs) → AllByRecursion (λ (r : Range). end_of r.section ≤ s.start) front → where_is_apart s blocks (front ++ rs) ≡ where_is_apart s blocks rs
 skip_all s blocks [] rs some lens ends = refl
@@ -263,6 +282,10 @@ silent_next s blocks rs r some m n silent = next_is s blocks rs (r.section.start
 
 pub next_filled : (s : Section) (blocks : List ℕ) (rs : List Range) (r : Range) → AreMapped rs → IsNext s blocks rs (Some r) → 0 < r.section.len
 next_filled s blocks rs r m n = (found_has (λ (t : Range). 0 < t.section.len) (λ t. nat_le r.section.start t.section.start) rs r m.some n.0).0
+
+-- the next one is the range of its block
+pub next_own : (s : Section) (blocks : List ℕ) (rs : List Range) (r : Range) → AreMapped rs → IsNext s blocks rs (Some r) → range_of r.block rs ≡ Some r
+next_own s blocks rs r m n = (found_has (λ (t : Range). range_of t.block rs ≡ Some t) (λ t. nat_le r.section.start t.section.start) rs r (at-own block_of rs m.own_block) n.0).0
 
 -- how many are left
 abbrev pub ranges_left : Option Range → List Range → ℕ

@@ -6,7 +6,7 @@ ghost use Rattle.acc_base.specs.declared.mappings.Found.TheVariants.{Absent};
 ghost use Rattle.acc_base.specs.Ranges.{where_is, where_is_apart, range_of, range_from, structured_of, dynamic_of, counter_of, with_range, without_range, changed_at, bare_range, risen, fallen, cleared};
 ghost use Rattle.acc_base.specs.Register.{region_at, newest_region, holdings_at, with_region, without_region};
 ghost use Rattle.acc_ordered.specs.Listing.{seen};
-ghost use Rattle.acc_present.specs.Present.{new_table, with_ranges, with_regions, HasRange, HasRegion, IsRoomKept, IsRangeRoomTaken, IsRegionRoomTaken, IsRoomMissing, IsLawful, region_of};
+ghost use Rattle.acc_present.specs.Present.{IsWithinLimit, new_table, with_ranges, with_regions, HasRange, HasRegion, IsRoomKept, IsRangeRoomTaken, IsRegionRoomTaken, IsRoomMissing, IsLawful, region_of};
 ghost use Rattle.acc_present.specs.Kept.{IsNext, IsChangeable, changed_by};
 
 use crate::ranges::{Change, changed, told_by, value_of};
@@ -55,6 +55,22 @@ fn range_if(found: Option<InTree<'_, Range>>) -> Option<Range>
     ensures { result ≡ option_map (λ e. e.value) (seen found.entry) }
 {
     Some(*found?.value)
+}
+
+/// A range of a section that is mapped to a block, with one of its counters at 1.
+fn counted_range(section: Section, block: u64, counter: Counter) -> Range
+    ensures { result ≡ risen counter (bare_range section block) }
+{
+    let (structured, dynamic) = match counter {
+        Counter::Structured => (1, 0),
+        Counter::Dynamic => (0, 1),
+    };
+    Range {
+        section,
+        block,
+        structured,
+        dynamic,
+    }
 }
 
 impl Present {
@@ -109,7 +125,7 @@ impl Present {
     {
         self.laws();
         match self.locate(section, &[], steps) {
-            Ok(found) => found,
+            Ok((found, _)) => found,
             Err(None) => Found::Absent,
             Err(Some(range)) => told_by(range, section, &[]).unwrap_or(Found::Absent),
         }
@@ -120,31 +136,41 @@ impl Present {
     pub fn find_apart(&self, section: Section, blocks: &[u64]) -> Found
         ensures { result ≡ where_is_apart section blocks.now self.now.table.ranges }
     {
+        self.find_range_apart(section, blocks).0
+    }
+
+    /// Where a section would lie, as [`Present::find_apart`] says, and a mapped range that says so, if one does. So its
+    /// counters need no search of their own.
+    pub fn find_range_apart(&self, section: Section, blocks: &[u64]) -> (Found, Option<Range>)
+        ensures found { result.0 ≡ where_is_apart section blocks.now self.now.table.ranges }
+        ensures range { IfSome result.1 (λ range. range_of range.block self.now.table.ranges ≡ Some range) }
+    {
         self.laws();
         let mut next = match self.locate(section, blocks, &mut Steps::new()) {
-            Ok(found) => return found,
+            Ok(told) => return told,
             Err(next) => next,
         };
         while let Some(range) = next {
             if let Some(found) = told_by(range, section, blocks) {
-                return found;
+                return (found, Some(range));
             }
             next = self.behind(range);
         }
-        Found::Absent
+        (Found::Absent, None)
     }
 
     /// Where a section lies among the ranges without those of the listed blocks, as far as the last range says that does
-    /// not begin behind the section's start. Else the first range that does.
+    /// not begin behind the section's start, with that range. Else the first range that does.
     #[inline]
     fn locate(
         &self,
         section: Section,
         blocks: &[u64],
         steps: &mut Steps,
-    ) -> Result<Found, Option<Range>>
+    ) -> Result<(Found, Option<Range>), Option<Range>>
         requires limit { steps.old ≤ 2 ^ 32 }
-        ensures found { IfOk result (λ found. found ≡ where_is_apart section blocks.now self.now.table.ranges) }
+        ensures found { IfOk result (λ told. told.0 ≡ where_is_apart section blocks.now self.now.table.ranges) }
+        ensures range { IfOk result (λ told. IfSome told.1 (λ range. range_of range.block self.now.table.ranges ≡ Some range)) }
         ensures next { IfErr result (λ next. IsNext section blocks.now self.now.table.ranges next) }
         ensures some { OnErr result (0 < section.len) }
         ensures behind { IfErr result (λ next. IfSome next (λ range. section.start ≤ range.section.start)) }
@@ -153,14 +179,14 @@ impl Present {
         ensures steps { (d : ℕ) → length self.now.table.ranges < 2 ^ d → steps.new ≤ steps.old + 2 * d }
     {
         if section.len == 0 {
-            return Ok(Found::Empty);
+            return Ok((Found::Empty, None));
         }
         let around = self
             .ranges
             .around_counted(section.start.saturating_add(1), steps);
         if let Some(range) = range_if(around.before) {
             if let Some(found) = told_by(range, section, blocks) {
-                return Ok(found);
+                return Ok((found, Some(range)));
             }
         }
         Err(range_if(around.from))
@@ -180,6 +206,29 @@ impl Present {
     {
         let start = self.starts.get(block)?.value;
         range_if(self.ranges.get(*start))
+    }
+
+    /// The range that is mapped to a block, if one is, as [`Present::range`] returns it. It is found by one search where
+    /// it is the last one that begins at or before the address `at`, and else by three.
+    pub fn range_near(&self, block: u64, at: u64) -> Option<Range>
+        ensures { result ≡ range_of block self.now.table.ranges }
+    {
+        match range_if(self.ranges.around(at.saturating_add(1)).before) {
+            Some(range) if range.block == block => Some(range),
+            Some(_) | None => self.range(block),
+        }
+    }
+
+    /// The range that is mapped to a block, which is looked for near an address first. One is.
+    fn mapped_near(&self, block: u64, at: u64) -> Range
+        requires { HasRange self.now.table block }
+        ensures range { range_of block self.now.table.ranges ≡ Some result }
+        ensures block { result.block ≡ block }
+    {
+        let Some(range) = self.range_near(block, at) else {
+            unreachable!()
+        };
+        range
     }
 
     /// The range that is mapped to a block. One is.
@@ -234,19 +283,47 @@ impl Present {
         ensures room_regions { self.old.room.regions ≤ self.new.room.regions }
         ensures room_holdings { self.old.room.holdings ≤ self.new.room.holdings }
     {
-        let range = Range {
+        self.put(Range {
             section,
             block,
             structured: 0,
             dynamic: 0,
-        };
+        });
+    }
+
+    /// As [`Present::add_reserved`], with one of the counters at 1. It needs no search for the new range.
+    pub fn add_counted_reserved(&mut self, section: Section, block: u64, counter: Counter)
+        requires room { 1 ≤ self.old.room.ranges }
+        requires absent { where_is section self.old.table.ranges ≡ Absent }
+        requires new { range_of block self.old.table.ranges ≡ None }
+        requires some { 0 < self.old.table.counter_max }
+        ensures table { self.new.table ≡ with_ranges self.old.table (with_range (risen counter (bare_range section block)) self.old.table.ranges) }
+        ensures room_ranges { self.old.room.ranges ≤ self.new.room.ranges + 1 }
+        ensures room_regions { self.old.room.regions ≤ self.new.room.regions }
+        ensures room_holdings { self.old.room.holdings ≤ self.new.room.holdings }
+    {
+        self.put(counted_range(section, block, counter));
+    }
+
+    /// Puts a range to those that are mapped, where there is room for it.
+    fn put(&mut self, range: Range)
+        requires room { 1 ≤ self.old.room.ranges }
+        requires absent { where_is range.section self.old.table.ranges ≡ Absent }
+        requires new { range_of range.block self.old.table.ranges ≡ None }
+        requires within { IsWithinLimit self.old.table.counter_max range }
+        ensures table { self.new.table ≡ with_ranges self.old.table (with_range range self.old.table.ranges) }
+        ensures room_ranges { self.old.room.ranges ≤ self.new.room.ranges + 1 }
+        ensures room_regions { self.old.room.regions ≤ self.new.room.regions }
+        ensures room_holdings { self.old.room.holdings ≤ self.new.room.holdings }
+    {
+        let start = range.section.start;
         self.ranges.insert(Entry {
-            key: section.start,
+            key: start,
             value: range,
         });
         self.starts.insert(Entry {
-            key: block,
-            value: section.start,
+            key: range.block,
+            value: start,
         });
     }
 
@@ -258,9 +335,27 @@ impl Present {
         ensures table { self.new.table ≡ with_ranges self.old.table (without_range block self.old.table.ranges) }
         ensures room { IsRoomKept self.old.room self.new.room }
     {
-        let range = self.mapped(block);
+        self.take_out(self.mapped(block));
+    }
+
+    /// Ends the mapping to a block, whatever its counters are. A range is mapped to it. It is looked for near the address
+    /// `at` first, as by [`Present::range_near`].
+    pub fn end_near(&mut self, block: u64, at: u64)
+        requires there { HasRange self.old.table block }
+        ensures table { self.new.table ≡ with_ranges self.old.table (without_range block self.old.table.ranges) }
+        ensures room { IsRoomKept self.old.room self.new.room }
+    {
+        self.take_out(self.mapped_near(block, at));
+    }
+
+    /// Takes a range out of those that are mapped.
+    fn take_out(&mut self, range: Range)
+        requires there { range_of range.block self.old.table.ranges ≡ Some range }
+        ensures table { self.new.table ≡ with_ranges self.old.table (without_range range.block self.old.table.ranges) }
+        ensures room { IsRoomKept self.old.room self.new.room }
+    {
         self.ranges.remove(range.section.start);
-        self.starts.remove(block);
+        self.starts.remove(range.block);
     }
 
     // ---- reference counters
@@ -292,7 +387,8 @@ impl Present {
         ensures unchanged { OnErr result (self.new.table ≡ self.old.table) }
         ensures room { IsRoomKept self.old.room self.new.room }
     {
-        self.count(Counter::Structured, block)
+        let range = self.mapped(block);
+        self.count(Counter::Structured, range)
     }
 
     /// Raises the dynamic counter of the range that is mapped to a block. One is.
@@ -309,11 +405,19 @@ impl Present {
         ensures unchanged { OnErr result (self.new.table ≡ self.old.table) }
         ensures room { IsRoomKept self.old.room self.new.room }
     {
-        self.count(Counter::Dynamic, block)
+        let range = self.mapped(block);
+        self.count(Counter::Dynamic, range)
     }
 
-    /// Raises one of the counters of the range that is mapped to a block.
-    fn count(&mut self, counter: Counter, block: u64) -> Result<(), Fault>
+    /// Raises a counter of the range that is mapped to a block, as [`Present::count_structured`] and
+    /// [`Present::count_dynamic`] do. One is. It is looked for near the address `at` first, as by
+    /// [`Present::range_near`].
+    ///
+    /// # Errors
+    ///
+    /// [`Fault::CounterFull`] with item 0, exactly where the counter has its greatest value. The table is then as
+    /// before.
+    pub fn count_near(&mut self, counter: Counter, block: u64, at: u64) -> Result<(), Fault>
         requires { HasRange self.old.table block }
         ensures ok { OnOk result (self.new.table ≡ with_ranges self.old.table (changed_at block (risen counter) self.old.table.ranges)) }
         ensures below { OnOk result (counter_of counter block self.old.table.ranges < self.old.table.counter_max) }
@@ -322,7 +426,20 @@ impl Present {
         ensures unchanged { OnErr result (self.new.table ≡ self.old.table) }
         ensures room { IsRoomKept self.old.room self.new.room }
     {
-        let range = self.mapped(block);
+        let range = self.mapped_near(block, at);
+        self.count(counter, range)
+    }
+
+    /// Raises a counter of a mapped range.
+    fn count(&mut self, counter: Counter, range: Range) -> Result<(), Fault>
+        requires { range_of range.block self.old.table.ranges ≡ Some range }
+        ensures ok { OnOk result (self.new.table ≡ with_ranges self.old.table (changed_at range.block (risen counter) self.old.table.ranges)) }
+        ensures below { OnOk result (counter_of counter range.block self.old.table.ranges < self.old.table.counter_max) }
+        ensures full { OnErr result (counter_of counter range.block self.old.table.ranges ≡ self.old.table.counter_max) }
+        ensures only { IfErr result (λ fault. fault ≡ Fault.CounterFull 0) }
+        ensures unchanged { OnErr result (self.new.table ≡ self.old.table) }
+        ensures room { IsRoomKept self.old.room self.new.room }
+    {
         if self.counter_max <= value_of(counter, range) {
             return Err(Fault::CounterFull { item: 0 });
         }
@@ -365,6 +482,27 @@ impl Present {
         ensures room { IsRoomKept self.old.room self.new.room }
     {
         self.change(Change::Clear, self.mapped(block));
+    }
+
+    /// Lowers a counter of the range that is mapped to a block, as [`Present::drop_structured`] and
+    /// [`Present::drop_dynamic`] do. One is. It is looked for near the address `at` first, as by
+    /// [`Present::range_near`]. Zero stays zero.
+    pub fn drop_near(&mut self, counter: Counter, block: u64, at: u64)
+        requires { HasRange self.old.table block }
+        ensures table { self.new.table ≡ with_ranges self.old.table (changed_at block (fallen counter) self.old.table.ranges) }
+        ensures room { IsRoomKept self.old.room self.new.room }
+    {
+        self.change(Change::Lower(counter), self.mapped_near(block, at));
+    }
+
+    /// Sets the dynamic counter of the range that is mapped to a block to 0, as [`Present::clear_dynamic`] does. One is.
+    /// It is looked for near the address `at` first, as by [`Present::range_near`].
+    pub fn clear_near(&mut self, block: u64, at: u64)
+        requires { HasRange self.old.table block }
+        ensures table { self.new.table ≡ with_ranges self.old.table (changed_at block cleared self.old.table.ranges) }
+        ensures room { IsRoomKept self.old.room self.new.room }
+    {
+        self.change(Change::Clear, self.mapped_near(block, at));
     }
 
     // ---- open data regions

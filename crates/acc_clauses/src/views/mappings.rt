@@ -1,6 +1,6 @@
 //! Where sections lie among the mapped ranges, and what those count.
 
-ghost use Rattle.std.specs.Prelude.{◌≡◌, ◌^◌, ◌<◌, ◌≤◌};
+ghost use Rattle.std.specs.Prelude.{◌≡◌, ◌^◌, ◌<◌, ◌≤◌, Some, IfSome};
 ghost use Rattle.acc_base.specs.Ranges.{where_is, where_is_apart, range_from, range_of, structured_of, dynamic_of, start_of};
 
 use crate::views::View;
@@ -14,11 +14,12 @@ impl View<'_> {
         self.environment.present.find(section)
     }
 
-    /// Where a section lies once the mappings to these blocks have ended.
-    pub(crate) fn find_apart(&self, section: Section, blocks: &[u64]) -> Found
-        ensures { result ≡ where_is_apart section blocks.now self.now.state.records.ranges }
+    /// Where a section lies once the mappings to these blocks have ended, and a mapped range that says so, if one does.
+    pub(crate) fn find_apart(&self, section: Section, blocks: &[u64]) -> (Found, Option<Range>)
+        ensures found { result.0 ≡ where_is_apart section blocks.now self.now.state.records.ranges }
+        ensures range { IfSome result.1 (λ range. range_of range.block self.now.state.records.ranges ≡ Some range) }
     {
-        self.environment.present.find_apart(section, blocks)
+        self.environment.present.find_range_apart(section, blocks)
     }
 
     /// The mapped range of least start at or above a host address, if there is one.
@@ -35,6 +36,24 @@ impl View<'_> {
         self.environment.present.range(block)
     }
 
+    /// The range that is mapped to a block, if one is, which lies near an address.
+    pub(crate) fn range_near(&self, block: u64, at: u64) -> Option<Range>
+        ensures { result ≡ range_of block self.now.state.records.ranges }
+    {
+        self.environment.present.range_near(block, at)
+    }
+
+    /// The range that is mapped to a block, if one is. It is not searched for where it is the one that is known.
+    fn range_known(&self, block: u64, known: Option<Range>) -> Option<Range>
+        requires { IfSome known (λ range. range_of range.block self.now.state.records.ranges ≡ Some range) }
+        ensures { result ≡ range_of block self.now.state.records.ranges }
+    {
+        match known {
+            Some(range) if range.block == block => Some(range),
+            Some(_) | None => self.range(block),
+        }
+    }
+
     /// The reference counters of the range that is mapped to a block; both are 0 where none is.
     pub fn counters(&self, block: u64) -> Counters
         ensures structured { result.structured ≡ structured_of block self.now.state.records.ranges }
@@ -43,8 +62,21 @@ impl View<'_> {
         ensures dynamic_limit { result.dynamic ≤ self.now.limits.counter_max }
         ensures bound { self.now.limits.counter_max < 2 ^ 32 }
     {
+        self.counters_known(block, None)
+    }
+
+    /// The reference counters of the range that is mapped to a block, as [`View::counters`] returns them. It is not
+    /// searched for where it is the one that is known.
+    pub(crate) fn counters_known(&self, block: u64, known: Option<Range>) -> Counters
+        requires { IfSome known (λ range. range_of range.block self.now.state.records.ranges ≡ Some range) }
+        ensures structured { result.structured ≡ structured_of block self.now.state.records.ranges }
+        ensures dynamic { result.dynamic ≡ dynamic_of block self.now.state.records.ranges }
+        ensures structured_limit { result.structured ≤ self.now.limits.counter_max }
+        ensures dynamic_limit { result.dynamic ≤ self.now.limits.counter_max }
+        ensures bound { self.now.limits.counter_max < 2 ^ 32 }
+    {
         self.laws();
-        match self.range(block) {
+        match self.range_known(block, known) {
             Some(range) => Counters {
                 structured: range.structured,
                 dynamic: range.dynamic,

@@ -1,36 +1,30 @@
 use Rattle.acc_clauses.specs.Contents.{beside}
-use Rattle.acc_clauses.proofs.Steps.{new_absent, new_there, new_below}
+use Rattle.acc_clauses.proofs.Steps.{new_absent}
 use Rattle.acc_clauses.proofs.Bearing.{born_changes, born_can_put, born_acts}
 use Rattle.acc_clauses.proofs.acting.bear.Goals as goal
 
-pub add_reserved-requires-clause-new : goal.add_reserved-requires-clause-new
-add_reserved-requires-clause-new c = new_absent c.args.block c.args.environment.now.present.table.ranges c.requires.can.no_range
-
-pub raise-requires-clause-there : goal.raise-requires-clause-there
-raise-requires-clause-there c = new_there c.section_of-section.result c.args.block c.args.environment.now.present.table c.add_reserved.new.self.table c.add_reserved.ensures.table
-
-pub raise-requires-clause-below : goal.raise-requires-clause-below
-raise-requires-clause-below c = new_below c.args.counter c.section_of-section.result c.args.block c.args.environment.now.present.table c.add_reserved.new.self.table c.requires.can.no_range c.requires.can.counted c.add_reserved.ensures.table
+pub add_counted_reserved-requires-clause-new : goal.add_counted_reserved-requires-clause-new
+add_counted_reserved-requires-clause-new c = new_absent c.args.block c.args.environment.now.present.table.ranges c.requires.can.no_range
 
 pub fill_later-requires-clause-can : goal.fill_later-requires-clause-can
 fill_later-requires-clause-can c q named copies =
     let x = beside c.args.environment.now c.args.host.now in
     let made = rw c.section_of-section.ensures at c.make_block.ensures in
-    born_can_put c.args.counter c.args.item c.args.queue c.is_copied_now-copied.result c.args.block c.args.place q x c.raise.new.present c.make_block.new.device c.requires.queue c.requires.puts c.requires.can.number made c.laws.ensures.blocks_apart.born named copies
+    born_can_put c.args.counter c.args.item c.args.queue c.is_copied_now-copied.result c.args.block c.args.place q x c.add_counted_reserved.new.self c.make_block.new.device c.requires.queue c.requires.puts c.requires.can.number made c.laws.ensures.blocks_apart.born named copies
 
 pub fill_later-requires-clause-marked : goal.fill_later-requires-clause-marked
 fill_later-requires-clause-marked c =
     let made = rw c.section_of-section.ensures at c.make_block.ensures in
-    let put = rw c.section_of-section.ensures at c.add_reserved.ensures.table in
-    let born = born_changes c.args.counter c.args.item c.args.queue c.is_copied_now-copied.result c.args.block c.args.place (beside c.args.environment.now c.args.host.now) c.add_reserved.new.self c.raise.new.present c.make_block.new.device c.requires.can made put
-    c.add_reserved.ensures.room_ranges c.add_reserved.ensures.room_regions c.add_reserved.ensures.room_holdings c.raise.ensures.table c.raise.ensures.room c.laws.ensures.marks c.laws.ensures.blocks_apart.born c.requires.marked in
+    let put = rw c.section_of-section.ensures at c.add_counted_reserved.ensures.table in
+    let born = born_changes c.args.counter c.args.item c.args.queue c.is_copied_now-copied.result c.args.block c.args.place (beside c.args.environment.now c.args.host.now) c.add_counted_reserved.new.self c.make_block.new.device c.requires.can made put
+    c.add_counted_reserved.ensures.room_ranges c.add_counted_reserved.ensures.room_regions c.add_counted_reserved.ensures.room_holdings c.laws.ensures.marks c.laws.ensures.blocks_apart.born c.requires.marked in
     born.marked
 
 pub returns : goal.returns
 returns c =
     let x = beside c.args.environment.now c.args.host.now in
     let made = rw c.section_of-section.ensures at c.make_block.ensures in
-    let put = rw c.section_of-section.ensures at c.add_reserved.ensures.table in
-    let born = born_changes c.args.counter c.args.item c.args.queue c.is_copied_now-copied.result c.args.block c.args.place x c.add_reserved.new.self c.raise.new.present c.make_block.new.device c.requires.can made put
-    c.add_reserved.ensures.room_ranges c.add_reserved.ensures.room_regions c.add_reserved.ensures.room_holdings c.raise.ensures.table c.raise.ensures.room c.laws.ensures.marks c.laws.ensures.blocks_apart.born c.requires.marked in
+    let put = rw c.section_of-section.ensures at c.add_counted_reserved.ensures.table in
+    let born = born_changes c.args.counter c.args.item c.args.queue c.is_copied_now-copied.result c.args.block c.args.place x c.add_counted_reserved.new.self c.make_block.new.device c.requires.can made put
+    c.add_counted_reserved.ensures.room_ranges c.add_counted_reserved.ensures.room_regions c.add_counted_reserved.ensures.room_holdings c.laws.ensures.marks c.laws.ensures.blocks_apart.born c.requires.marked in
     record { acted = born_acts c.args.counter c.args.item c.args.queue c.is_copied_now-copied.result c.args.block c.args.place x _ (beside c.fill_later.new.environment c.fill_later.new.host) c.requires.can c.is_copied_now-copied.ensures born c.fill_later.ensures.filled }

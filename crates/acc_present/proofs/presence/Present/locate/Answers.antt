@@ -1,13 +1,13 @@
-use Rattle.std.proofs.Common.{◌≡◌, ◌+◌, ◌≤◌, ◌<◌, Option, sym, subst, ap, ◌∙◌, arith}
+use Rattle.std.proofs.Common.{◌≡◌, ◌+◌, ◌≤◌, ◌<◌, Option, Some, sym, subst, ap, ◌∙◌, arith}
 use Rattle.std.specs.Prelude.{option_map, IfSome}
 use Rattle.std.proofs.lemmas.Bool.Decides.{nat_tests}
 use Rattle.acc_base.specs.declared.mappings.Range.{Range}
-use Rattle.acc_base.specs.Ranges.{range_from, where_is_apart}
+use Rattle.acc_base.specs.Ranges.{range_from, range_of, where_is_apart}
 use Rattle.acc_ordered.specs.declared.entries.Entry.{Entry}
 use Rattle.acc_ordered.specs.Listing.{seen}
 use Rattle.acc_present.specs.Present.{PresentState}
 use Rattle.acc_present.specs.Kept.{ranges_in, IsNext}
-use Rattle.acc_present.proofs.Finding.{last_filled, told_last, silent_last, no_last, from_behind}
+use Rattle.acc_present.proofs.Finding.{last_filled, told_last, silent_last, no_last, from_behind, last_own}
 use Rattle.acc_present.proofs.Mapping.{first_value, last_found}
 use Rattle.acc_present.proofs.presence.Present.locate.Goals as goal
 use Rattle.acc_present.proofs.presence.Present.locate.Goals.{in-Some+in_default-told_by, in_default}
@@ -50,3 +50,10 @@ pub returns-clause-behind : goal.returns-clause-behind
 returns-clause-behind c =
     let le : c.args.section.start ≤ c.saturating_add.result = omega (arith, c.saturating_add.ensures) in
     subst (λ (o : Option Range). IfSome o (λ (r : Range). c.args.section.start ≤ r.section.start)) (sym (first c)) (from_behind c.args.section.start c.saturating_add.result (ranges_in c.self.inside.ranges.entries) le)
+
+pub returns-in-Some-told_by-clause-range : goal.returns-in-Some-told_by-clause-range
+returns-in-Some-told_by-clause-range c =
+    let k = c.saturating_add.result in
+    let es = c.self.inside.ranges.entries in
+    let last = last_found k es (seen c.around_counted-around.result.before) c.range_if.result c.self.invariant.2.keyed c.around_counted-around.ensures.before c.range_if.ensures in
+    subst (λ (p : PresentState). range_of c.in-Some.range.block p.table.ranges ≡ Some c.in-Some.range) c.self.view_is (last_own k (ranges_in es) c.in-Some.range c.self.invariant.2.mapped (last ∙ c.in-Some.is))

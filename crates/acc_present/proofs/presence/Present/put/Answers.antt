@@ -1,0 +1,35 @@
+use Rattle.std.proofs.Common.{ℕ, ◌≡◌, List, None, refl, sym, ap, subst, ◌∙◌, arith}
+use Rattle.std.specs.List.{AllByRecursion}
+use Rattle.acc_base.specs.declared.mappings.Range.{Range}
+use Rattle.acc_base.specs.declared.mappings.Found.TheVariants.{Absent}
+use Rattle.acc_base.specs.Ranges.{where_is, range_of, with_range}
+use Rattle.acc_base.proofs.RangeChanges.{all_with}
+use Rattle.acc_ordered.specs.declared.entries.Entry.{Entry}
+use Rattle.acc_present.specs.Present.{PresentState, IsWithinLimit, with_ranges}
+use Rattle.acc_present.specs.Kept.{ranges_in}
+use Rattle.acc_present.proofs.Mapping.{absent_start, with_entry-ranges, mapped_now}
+use Rattle.acc_present.proofs.presence.Present.put.Goals as goal
+
+pub insert-requires-clause-new : goal.insert-requires-clause-new
+insert-requires-clause-new c = absent_start c.args.range c.self.inside.ranges.entries c.self.invariant.2.mapped (subst (λ (rs : List Range). where_is c.args.range.section rs ≡ Absent) (sym (ap (λ (p : PresentState). p.table.ranges) c.self.view_is)) c.requires.absent)
+
+ranges : (c : goal.After-insert-2) → ranges_in c.insert.new.self.entries ≡ with_range c.args.range (ranges_in c.self.inside.ranges.entries)
+ranges c = ap ranges_in c.insert.ensures.entries ∙ with_entry-ranges (record { key = c.args.range.section.start; value = c.args.range }) c.self.inside.ranges.entries
+
+pub invariant_of-self : goal.invariant_of-self
+invariant_of-self c =
+    let es = c.self.inside.ranges.entries in
+    let most = c.self.inside.counter_max in
+    let whole = sym (ap (λ (p : PresentState). p.table.ranges) c.self.view_is) in
+    let new : Entry Range = record { key = c.args.range.section.start; value = c.args.range } in (
+      c.self.invariant.0,
+      subst (λ (rs : List Range). AllByRecursion (IsWithinLimit most) rs) (sym (ranges c)) (all_with (IsWithinLimit most) c.args.range (ranges_in es) (subst (λ (n : ℕ). IsWithinLimit n c.args.range) (sym (ap (λ (p : PresentState). p.table.counter_max) c.self.view_is)) c.requires.within) c.self.invariant.1),
+      rw (c.insert.ensures.entries, c.insert-2.ensures.entries) (mapped_now new (record { key = c.args.range.block; value = c.args.range.section.start }) es c.self.inside.starts.entries c.self.invariant.2 (record { start = refl; bound = omega arith })
+          (subst (λ (rs : List Range). where_is c.args.range.section rs ≡ Absent) whole c.requires.absent)
+          (subst (λ (rs : List Range). range_of c.args.range.block rs ≡ None) whole c.requires.new) refl refl),
+    )
+
+pub returns-clause-table : goal.returns-clause-table
+returns-clause-table c =
+    ap (λ (rs : List Range). record { counter_max = c.self.inside.counter_max; ranges = rs; regions = c.self.inside.register.regions }) (ranges c)
+    ∙ ap (λ (p : PresentState). with_ranges p.table (with_range c.args.range p.table.ranges)) c.self.view_is

@@ -172,6 +172,32 @@ impl DeviceData {
         ensures only { IfErr result (λ fault. fault ≡ Memory) }
         ensures needed { OnErr result (LacksRoom lens.now regions holdings pointers self.old.room) }
     {
+        // Most directives need no room, and what follows would look at each list for it.
+        if lens.is_empty() && regions == 0 && holdings == 0 && pointers == 0 {
+            return Ok(());
+        }
+        self.grow(lens, regions, holdings, pointers)
+    }
+
+    /// Makes the room of [`DeviceData::reserve`].
+    fn grow(
+        &mut self,
+        lens: &[u64],
+        regions: u64,
+        holdings: u64,
+        pointers: u64,
+    ) -> Result<(), Fault>
+        requires few { length lens.now ≤ 64 }
+        requires lens { All (IsFromOne MEMORY_MAX) lens.now }
+        ensures limits { self.new.limits ≡ self.old.limits }
+        ensures device { self.new.device ≡ self.old.device }
+        ensures room { OnOk result (HasRoomFor lens.now self.new.room) }
+        ensures room_region { OnOk result (HasRegionRoom regions holdings self.new.room) }
+        ensures room_pointers { OnOk result (pointers ≤ self.new.room.attachments) }
+        ensures puts { self.new.room.puts ≡ self.old.room.puts }
+        ensures only { IfErr result (λ fault. fault ≡ Memory) }
+        ensures needed { OnErr result (LacksRoom lens.now regions holdings pointers self.old.room) }
+    {
         self.environment.device.reserve(lens)?;
         self.environment
             .present

@@ -3,6 +3,7 @@ pub mod Overlaid
 pub mod QueuesAfter
 pub mod Laws
 pub mod Drafted
+pub mod Outlining
 pub mod Turns
 pub mod Pointed
 pub mod Asking

@@ -1,6 +1,7 @@
 pub mod Words
 pub mod Contents
 pub mod Overlays
+pub mod Outlined
 pub mod Planned
 pub mod Acts
 pub mod Stored

@@ -1,12 +1,14 @@
 //! What was judged so far of a directive.
 
-ghost use Rattle.std.specs.Prelude.{List, [], ◌∷◌, ◌++◌, ◌≡◌, ◌<◌, ◌≤◌, length};
-ghost use Rattle.acc_clauses.specs.Overlays.{IsDraft, births_of, ended_of, with_aim};
+ghost use Rattle.std.specs.Prelude.{List, [], ◌∷◌, ◌++◌, ◌≡◌, ◌<◌, ◌≤◌, length, true};
+ghost use Rattle.acc_clauses.specs.Words.{Counters, Found};
+ghost use Rattle.acc_clauses.specs.Overlays.{IsDraft, births_of, ended_of, with_aim, found_over, counters_over};
 ghost use Rattle.acc_clauses.specs.declared.acted.Acted.{Acted};
 
 use crate::acted::Acted;
+use crate::outlines::Outline;
 use crate::rows::section_of;
-use acc_base::{Aim, Did, Step};
+use acc_base::{Aim, Did, Section, Step};
 use arrayvec::ArrayVec;
 use std::marker::Model;
 
@@ -18,18 +20,21 @@ pub(crate) struct Draft {
     births: ArrayVec<(u64, u64), 64>,
     // The blocks whose mappings they end.
     ended: ArrayVec<u64, 64>,
+    // What look-ups see of them at a glance.
+    outline: Outline,
 }
 
 impl Model for Draft {
     ghost use Rattle.std.specs.Prelude.{List, ◌≡◌, ◌≤◌, length};
     ghost use Rattle.acc_clauses.specs.declared.acted.Acted.{Acted};
     ghost use Rattle.acc_clauses.specs.Overlays.{IsDraft};
+    ghost use Rattle.acc_clauses.specs.Outlined.{IsOutlined};
 
     ghost Value = { List Acted };
 
     ghost view = { λ d. d.acts.items };
 
-    ghost invariant = { λ d. IsDraft d.acts.items d.births.items d.ended.items };
+    ghost invariant = { λ d. IsDraft d.acts.items d.births.items d.ended.items × IsOutlined d.acts.items d.outline };
 }
 
 // Notes the birth or the end that the task makes, after these tasks.
@@ -66,6 +71,7 @@ impl Draft {
             acts: ArrayVec::new(),
             births: ArrayVec::new(),
             ended: ArrayVec::new(),
+            outline: Outline::new(),
         }
     }
 
@@ -76,6 +82,7 @@ impl Draft {
         self.acts.clear();
         self.births.clear();
         self.ended.clear();
+        self.outline = Outline::new();
     }
 
     /// One more task was judged.
@@ -84,6 +91,7 @@ impl Draft {
         ensures { self.new ≡ self.old ++ x ∷ [] }
     {
         tally(&mut self.births, &mut self.ended, x, &self.acts);
+        self.outline.add(&x);
         self.acts.push(x);
     }
 
@@ -121,5 +129,21 @@ impl Draft {
         ensures { result.now ≡ ended_of self.now }
     {
         &self.ended
+    }
+
+    /// Whether none of the tasks maps an address of a section, which is not empty.
+    #[inline]
+    pub(crate) fn is_clear_of(&self, section: Section) -> bool
+        ensures { result ≡ true → (found : Found) → found_over section found self.now ≡ found }
+    {
+        self.outline.is_clear_of(section)
+    }
+
+    /// Whether none of the tasks changes a counter of a block.
+    #[inline]
+    pub(crate) fn is_without(&self, block: u64) -> bool
+        ensures { result ≡ true → (counters : Counters) → counters_over block counters self.now ≡ counters }
+    {
+        self.outline.is_without(block)
     }
 }

@@ -12,8 +12,7 @@ use crate::acted::Acted;
 use crate::aims::{aim_before, attach};
 use crate::drafts::Draft;
 use crate::judging::{judge_row, step_free};
-use crate::readings::locate_after;
-use crate::rows::{pointer_aimed, section_of};
+use crate::rows::pointer_aimed;
 use crate::views::View;
 use acc_base::{Aim, Did, Fault, Step, Task};
 
@@ -49,8 +48,7 @@ pub(crate) fn judge(view: &View<'_>, draft: &mut Draft, n: u64, task: Task) -> R
     requires few { n < 64 }
     ensures { MatchResult result (λ _. IsJudgedNext view.now.limits n task view.now.state draft.old draft.new) (λ fault. judge_task view.now.limits n task (state_after draft.old view.now.state) ≡ Err fault) }
 {
-    let located = locate_after(view, draft, section_of(task));
-    let step = judge_row(view, draft, n, task, located)?;
+    let step = judge_row(view, draft, n, task)?;
     let aim = aim_before(view, draft, task, step);
     step_free(view, draft, task, step, aim)?;
     if let Task::Enter { .. } = task {

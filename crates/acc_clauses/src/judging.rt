@@ -19,7 +19,9 @@ ghost use Rattle.acc_clauses.specs.Overlays.{IsPlanned, AreUnmixed, tasks_in, re
 use crate::drafts::Draft;
 use crate::effects::{are_zero, recount};
 use crate::lending::not_lent;
-use crate::readings::{Located, counters_after, number_after, place_after, queue_len_after};
+use crate::readings::{
+    Located, counters_after, found_after, locate_after, number_after, place_after, queue_len_after,
+};
 use crate::rows::{moves, pointer_of, queue_of, section_of};
 use crate::sections::{POINTER_LEN, pointer_at};
 use crate::views::View;
@@ -261,21 +263,13 @@ fn copy(
     }
 }
 
-/// What the clause tables say of the task of the item at place `n` after those that were judged before it. Its section
-/// is located then.
+/// What the clause tables say of the task of the item at place `n` after those that were judged before it. The exit from
+/// a region knows its block, and so its section is not searched for.
 #[tactic(auto, using(crate::proofs::Laws::kind_laws))]
-pub(crate) fn judge_row(
-    view: &View<'_>,
-    draft: &Draft,
-    n: u64,
-    task: Task,
-    located: Located,
-) -> Result<Step, Fault>
+pub(crate) fn judge_row(view: &View<'_>, draft: &Draft, n: u64, task: Task) -> Result<Step, Fault>
     requires planned { IsPlanned view.now.limits draft.now view.now.state.records }
     requires unmixed { AreUnmixed (tasks_in draft.now ++ task ∷ []) }
     requires births { view.now.state.records.births < 2 ^ 48 }
-    requires located { located.found ≡ where_is (section_of task) (records_after draft.now view.now.state.records).ranges }
-    requires known { IfSome located.known (λ range. range_of range.block view.now.state.records.ranges ≡ Some range) }
     ensures { result ≡ judge_row view.now.limits n task (records_after draft.now view.now.state.records) }
 {
     match task {
@@ -283,18 +277,27 @@ pub(crate) fn judge_row(
             counter,
             item,
             queue,
-        } => enter(view, draft, n, counter, item, queue, located),
+        } => {
+            let located = locate_after(view, draft, section_of(task));
+            enter(view, draft, n, counter, item, queue, located)
+        }
         Task::ExitRegion { holding } => leave(view, draft, holding),
         Task::ExitData {
             finalize,
             item,
             queue,
-        } => exit(view, draft, n, finalize, item, queue, located),
+        } => {
+            let located = locate_after(view, draft, section_of(task));
+            exit(view, draft, n, finalize, item, queue, located)
+        }
         Task::Move {
             if_present,
             item,
             ..
-        } => copy(view, n, if_present, item, located.found),
+        } => {
+            let found = found_after(view, draft, section_of(task));
+            copy(view, n, if_present, item, found)
+        }
     }
 }
 

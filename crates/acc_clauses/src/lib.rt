@@ -21,6 +21,7 @@ mod items;
 mod judging;
 mod lending;
 mod notes;
+mod outlines;
 mod planning;
 mod plans;
 mod pointers;

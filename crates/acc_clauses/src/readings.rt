@@ -9,7 +9,7 @@ ghost use Rattle.acc_base.specs.Queues.{queue_at};
 ghost use Rattle.acc_base.specs.Limits.{IsFromOne};
 ghost use Rattle.acc_base.specs.Ranges.{where_is, range_of};
 ghost use Rattle.acc_base.specs.Blocks.{rounded, place_for};
-ghost use Rattle.acc_clauses.specs.Overlays.{IsPlanned, AreUnmixed, tasks_in, records_after, enters, counters_at};
+ghost use Rattle.acc_clauses.specs.Overlays.{IsPlanned, AreUnmixed, tasks_in, records_after, enters, counters_at, found_over, counters_over};
 
 use crate::drafts::Draft;
 use crate::effects::{counters_over, found_over, puts_in};
@@ -44,8 +44,18 @@ pub(crate) fn locate_after(view: &View<'_>, draft: &Draft, section: Section) -> 
     ensures known { IfSome result.known (λ range. range_of range.block view.now.state.records.ranges ≡ Some range) }
 {
     let (found, known) = view.find_apart(section, draft.ended());
-    let found = found_over(section, found, draft.acts());
+    let found = found_past(draft, section, found);
     Located { found, known }
+}
+
+/// Where a section lies after the tasks, of which none ends a mapping that it may touch.
+fn found_past(draft: &Draft, section: Section, found: Found) -> Found
+    ensures { result ≡ found_over section found draft.now }
+{
+    if draft.is_clear_of(section) {
+        return found;
+    }
+    found_over(section, found, draft.acts())
 }
 
 /// The counters of the range that is mapped to a block after the tasks; both are 0 where none is. Before them it is not
@@ -64,6 +74,20 @@ pub(crate) fn counters_after(
     ensures dynamic { result.dynamic < 2 ^ 33 }
 {
     let counters = view.counters_known(block, known);
+    counters_past(draft, block, counters)
+}
+
+/// The counters of a block's range after the tasks.
+fn counters_past(draft: &Draft, block: u64, counters: Counters) -> Counters
+    requires structured { counters.structured < 2 ^ 32 }
+    requires dynamic { counters.dynamic < 2 ^ 32 }
+    ensures value { result ≡ counters_over block counters draft.now }
+    ensures structured { result.structured < 2 ^ 33 }
+    ensures dynamic { result.dynamic < 2 ^ 33 }
+{
+    if draft.is_without(block) {
+        return counters;
+    }
     counters_over(block, counters, draft.acts())
 }
 

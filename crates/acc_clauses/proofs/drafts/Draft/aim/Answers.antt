@@ -1,9 +1,10 @@
 use Rattle.std.proofs.Common.{◌∙◌, ap, ◌++◌}
 use Rattle.std.specs.Prelude.{option_to_list}
 use Rattle.acc_clauses.proofs.Drafted.{drafted_aimed}
+use Rattle.acc_clauses.proofs.Outlining.{outlined_aimed}
 use Rattle.acc_clauses.proofs.drafts.Draft.aim.Goals as goal
 
 pub invariant_of-self : goal.invariant_of-self
 invariant_of-self c =
     let was = c.pop.ensures.items ∙ ap (λ o. c.pop.new.self.items ++ option_to_list o) c.in-Some.is in
-    rw c.push.ensures.items (drafted_aimed c.pop.new.self.items c.in-Some.x c.args.aim _ _ (rw was at c.self.invariant))
+    rw c.push.ensures.items (drafted_aimed c.pop.new.self.items c.in-Some.x c.args.aim _ _ (rw was at c.self.invariant.0), outlined_aimed c.pop.new.self.items c.in-Some.x c.args.aim _ (rw was at c.self.invariant.1))

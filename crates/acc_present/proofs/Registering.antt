@@ -1,5 +1,5 @@
 -- The open regions, as they come and go.
-use Rattle.std.proofs.Common.{ℕ, zero, suc, ◌≡◌, ◌<◌, ◌≤◌, refl, sym, ap, ◌∙◌, true, false, List, [], ◌∷◌, length, get_or, take, drop, insert, Option, Some, None, IsSome, arith}
+use Rattle.std.proofs.Common.{ℕ, zero, suc, ◌≡◌, ◌<◌, ◌≤◌, refl, sym, ap, ◌∙◌, true, false, List, [], ◌∷◌, length, get_or, take, drop, insert, Option, Some, None, IsSome, arith, rules}
 use Rattle.std.specs.Prelude.{◌==◌, not, map, option_map, nat_lt}
 use Rattle.std.specs.List.{AllByRecursion, remove}
 use Rattle.std.proofs.lemmas.Bool.Decides.{nat_tests}
@@ -112,11 +112,12 @@ pub record IsRegionRemoved (number : ℕ) (old xs : List OpenRegion) : Type 0 wh
   pub regions : map region_of xs ≡ without_region number (map region_of old)
 
 -- a region that is taken out
-pub region_removed : (number i : ℕ) (old xs : List OpenRegion) (d : OpenRegion) → AreNumbersRising old → IsSome (region_at number (map region_of old)) → IsSplitBy (keyed.is_key_below number_key number) old i → xs ≡ remove old i → IsRegionRemoved number old xs
-region_removed number i old xs d rise there parts is =
-    let found = keyed.found_at number_key number old i d rise parts (there_number number old there) in
-    let same = is ∙ keyed.remove-filter number_key old i number d (keyed.rise_distinct number_key old rise) found.bound found.key_is in
+pub region_removed : (number i : ℕ) (old xs : List OpenRegion) → AreNumbersRising old → IsSome (region_at number (map region_of old)) → IsSplitBy (keyed.is_key_below number_key number) old i → xs ≡ remove old i → IsRegionRemoved number old xs
+region_removed number i [] xs rise there parts is = absurd (search (rules, there))
+region_removed number i (o ∷ os) xs rise there parts is =
+    let found = keyed.found_at number_key number (o ∷ os) i o rise parts (there_number number (o ∷ os) there) in
+    let same = is ∙ keyed.remove-filter number_key (o ∷ os) i number o (keyed.rise_distinct number_key (o ∷ os) rise) found.bound found.key_is in
     record {
-      rising = rw same (EachPair-filter (λ (o : OpenRegion) (p : OpenRegion). o.number < p.number) (λ o. not (o.number == number)) old rise);
-      regions = ap (map region_of) same ∙ sym (filter-map region_of (λ o. not (o.number == number)) (λ r. not (r.number == number)) old (λ o. refl));
+      rising = rw same (EachPair-filter (λ (o : OpenRegion) (p : OpenRegion). o.number < p.number) (λ o. not (o.number == number)) (o ∷ os) rise);
+      regions = ap (map region_of) same ∙ sym (filter-map region_of (λ o. not (o.number == number)) (λ r. not (r.number == number)) (o ∷ os) (λ o. refl));
     }

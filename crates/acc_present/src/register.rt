@@ -1,6 +1,7 @@
 //! The register of open data regions.
 
-ghost use Rattle.std.specs.Prelude.{◌≡◌, ◌+◌, ◌<◌, ◌≤◌, ◌⊎◌, [], ◌∷◌, ◌++◌, length, map, nat_lt, None, Some, IsSome, IfOk, IfErr, OnOk, OnErr, MatchOption, vec_len, vec_capacity};
+ghost use Rattle.std.specs.Prelude.{◌≡◌, ◌+◌, ◌<◌, ◌≤◌, ◌⊎◌, [], ◌∷◌, ◌++◌, length, map, nat_lt, None, Some, IsSome, IfOk, IfErr, OnOk, OnErr, MatchOption, vec_capacity};
+ghost use Rattle.std.specs.VecDeque.{deque_len, deque_capacity};
 ghost use Rattle.acc_base.specs.Register.{region_at, newest_region, holdings_at, with_region, without_region};
 ghost use Rattle.acc_base.specs.Splits.{IsSplitBy};
 ghost use Rattle.acc_present.specs.Present.{AreNumbered, region_of};
@@ -9,6 +10,7 @@ ghost use Rattle.acc_present.specs.Kept.{AreNumbersRising};
 use crate::copying::copy_regions_of;
 use acc_base::{Fault, Holding};
 use std::alloc::Global;
+use std::collections::VecDeque;
 use std::marker::Model;
 use std::mem;
 
@@ -22,21 +24,21 @@ pub struct OpenRegion {
 }
 
 /// The place of a region, or the place at which it would stand.
-fn place_of(regions: &[OpenRegion], number: u64) -> usize
-    requires { AreNumbersRising regions.now }
-    ensures { IsSplitBy (λ o. nat_lt o.number number) regions.now result }
+fn place_of(regions: &VecDeque<OpenRegion>, number: u64) -> usize
+    requires { AreNumbersRising regions.now.items }
+    ensures { IsSplitBy (λ o. nat_lt o.number number) regions.now.items result }
 {
     regions.partition_point(|o| o.number < number)
 }
 
 /// What an open region holds, or `None` where there is none of that number.
-fn holdings_of<'a>(regions: &'a [OpenRegion], number: u64) -> Option<&'a [Holding]>
-    requires { AreNumbersRising regions.now }
-    ensures { MatchOption result (holdings_at number (map region_of regions.now) ≡ None) (λ h. holdings_at number (map region_of regions.now) ≡ Some h.now) }
+fn holdings_of(regions: &VecDeque<OpenRegion>, number: u64) -> Option<&[Holding]>
+    requires { AreNumbersRising regions.now.items }
+    ensures { MatchOption result (holdings_at number (map region_of regions.now.items) ≡ None) (λ h. holdings_at number (map region_of regions.now.items) ≡ Some h.now) }
 {
-    let at = place_of(regions, number);
-    if at < regions.len() && regions[at].number == number {
-        Some(&regions[at].holdings)
+    let region = regions.get(place_of(regions, number))?;
+    if region.number == number {
+        Some(&region.holdings)
     } else {
         None
     }
@@ -44,54 +46,58 @@ fn holdings_of<'a>(regions: &'a [OpenRegion], number: u64) -> Option<&'a [Holdin
 
 /// The number of the open region that was entered last, if one is open.
 #[tactic(auto, using(crate::proofs::Registering::newest_last, crate::proofs::Registering::newest_none))]
-fn newest_of(regions: &[OpenRegion]) -> Option<u64>
-    ensures { result ≡ newest_region (map region_of regions.now) }
+fn newest_of(regions: &VecDeque<OpenRegion>) -> Option<u64>
+    ensures { result ≡ newest_region (map region_of regions.now.items) }
 {
     let last = regions.len().checked_sub(1)?;
     Some(regions[last].number)
 }
 
 /// One region more, where there is room for it and none has its number.
-fn put(regions: &mut Vec<OpenRegion>, new: OpenRegion)
+fn put(regions: &mut VecDeque<OpenRegion>, new: OpenRegion)
     requires rising { AreNumbersRising regions.old.items }
     requires new { region_at new.number (map region_of regions.old.items) ≡ None }
-    requires room { vec_len regions.old < vec_capacity regions.old }
+    requires room { deque_len regions.old < deque_capacity regions.old }
     ensures rising { AreNumbersRising regions.new.items }
     ensures regions { map region_of regions.new.items ≡ with_region (region_of new) (map region_of regions.old.items) }
-    ensures len { vec_len regions.new ≡ vec_len regions.old + 1 }
-    ensures capacity { vec_capacity regions.old ≤ vec_capacity regions.new }
+    ensures len { deque_len regions.new ≡ deque_len regions.old + 1 }
+    ensures capacity { deque_capacity regions.old ≤ deque_capacity regions.new }
 {
     let at = place_of(regions, new.number);
-    let _ = regions.insert(at, new);
+    let Ok(()) = regions.insert(at, new) else {
+        unreachable!()
+    };
 }
 
 /// One region less. It is open.
-fn take_out(regions: &mut Vec<OpenRegion>, number: u64)
+fn take_out(regions: &mut VecDeque<OpenRegion>, number: u64)
     requires rising { AreNumbersRising regions.old.items }
     requires there { IsSome (region_at number (map region_of regions.old.items)) }
     ensures rising { AreNumbersRising regions.new.items }
     ensures regions { map region_of regions.new.items ≡ without_region number (map region_of regions.old.items) }
-    ensures len { vec_len regions.new + 1 ≡ vec_len regions.old }
-    ensures capacity { vec_capacity regions.new ≡ vec_capacity regions.old }
+    ensures len { deque_len regions.new + 1 ≡ deque_len regions.old }
+    ensures capacity { deque_capacity regions.new ≡ deque_capacity regions.old }
 {
     let at = place_of(regions, number);
-    regions.remove(at);
+    let _ = regions.remove(at);
 }
 
 /// The open regions.
 ///
-/// A number is searched for by halves. A region that is opened or left moves those of higher numbers.
+/// A number is searched for by halves. A region that is opened or left moves those of higher numbers or those of lower
+/// ones, whichever are fewer. So neither the newest nor the oldest one moves any other when it is left.
 #[derive(Drop)]
 pub struct Register {
     alloc: Global,
     // By rising number.
-    regions: Vec<OpenRegion>,
+    regions: VecDeque<OpenRegion>,
     // Empty, with room for the holdings of the next region.
     spare: Vec<Holding>,
 }
 
 impl Model for Register {
-    ghost use Rattle.std.specs.Prelude.{◌≡◌, ◌-◌, [], map, vec_len, vec_capacity};
+    ghost use Rattle.std.specs.Prelude.{◌≡◌, ◌-◌, [], map, vec_capacity};
+    ghost use Rattle.std.specs.VecDeque.{deque_len, deque_capacity};
     ghost use Rattle.acc_present.specs.Present.{region_of};
     ghost use Rattle.acc_present.specs.Kept.{RegisterState, AreNumbersRising};
 
@@ -99,7 +105,7 @@ impl Model for Register {
 
     ghost view = { λ r. record {
       regions = map region_of r.regions.items;
-      room = vec_capacity r.regions - vec_len r.regions;
+      room = deque_capacity r.regions - deque_len r.regions;
       holdings = vec_capacity r.spare;
     } };
 
@@ -113,7 +119,7 @@ impl Register {
     {
         Register {
             alloc,
-            regions: Vec::new(alloc),
+            regions: VecDeque::new(alloc),
             spare: Vec::new(alloc),
         }
     }

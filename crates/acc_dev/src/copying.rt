@@ -105,7 +105,7 @@ fn memory_at(
     ensures ok { IfOk result (λ saved. memory_saved saved ≡ memory_from number (get slab.now slot)) }
     ensures only { IfErr result (λ fault. fault ≡ Fault.Memory) }
 {
-    let bytes = slab[slot].bytes.to_vec(alloc)?;
+    let bytes = Vec::from_slice(alloc, &slab[slot].bytes)?;
     Ok(SavedBlock {
         block: number,
         bytes,

@@ -207,7 +207,7 @@ pub fn copy_at(
     let Some(stored) = slab.get(slot) else {
         unreachable!()
     };
-    Ok(stored.bytes.to_vec(alloc)?)
+    Ok(Vec::from_slice(alloc, &stored.bytes)?)
 }
 
 /// Moves the bytes of a slot into a lease of this loan, of the device of this number, and leaves those that stay.

@@ -282,8 +282,8 @@ impl DeviceData {
         ensures state { (host : List ℕ) (n : Numbers) → state_beside self.new.device host n ≡ gathered_state lease (state_beside self.old.device host n) }
     {
         self.lent = self.lent.saturating_sub(1);
-        let kept = self.config.full();
-        match self.environment.device.put_back(lease, kept) {
+        // The lease was compared with a copy that was kept when it was judged, so it isn't here.
+        match self.environment.device.put_back(lease, false) {
             Ok(()) => {}
             Err((lease, _)) => lease.abandon(),
         }

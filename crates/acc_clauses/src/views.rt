@@ -12,7 +12,7 @@ ghost use Rattle.acc_clauses.specs.Devices.{device_in_view};
 
 use crate::bases::DeviceBase;
 use crate::environments::Environment;
-use acc_base::{Config, Fault};
+use acc_base::{Config, Fault, Loan};
 use acc_host::HostMem;
 use std::alloc::Global;
 use std::marker::Model;
@@ -92,6 +92,17 @@ impl View<'_> {
         self.config.queue_cap()
     }
 
+    /// The loans of the device. Where there is none, its blocks aren't gone through.
+    fn saved_loans(&self, alloc: Global) -> Result<Vec<Loan>, Fault>
+        ensures ok { IfOk result (λ loans. loans.items ≡ self.now.state.records.loans) }
+        ensures only { IfErr result (λ fault. fault ≡ Memory) }
+    {
+        if self.lent == 0 {
+            return Ok(Vec::new(alloc));
+        }
+        self.environment.device.copy_loans(alloc)
+    }
+
     /// What the device has at this moment: the bytes of its blocks with full traces alone.
     ///
     /// # Errors
@@ -105,7 +116,7 @@ impl View<'_> {
         let ranges = environment.present.copy_ranges(alloc)?;
         let regions = environment.present.copy_regions(alloc)?;
         let blocks = environment.device.copy_blocks(alloc)?;
-        let loans = environment.device.copy_loans(alloc)?;
+        let loans = self.saved_loans(alloc)?;
         let attached = environment.attached.copy_counters(alloc)?;
         let queues = environment.queues.copy_queues(alloc)?;
         let memories = if self.config.full() {

@@ -89,7 +89,7 @@ impl HostMem {
         ensures ok { IfOk result (λ bytes. bytes.items ≡ self.now) }
         ensures only { IfErr result (λ fault. fault ≡ Fault.Memory) }
     {
-        Ok(self.bytes.to_vec(alloc)?)
+        Ok(Vec::from_slice(alloc, &self.bytes)?)
     }
 
     /// The number, little-endian, that the eight bytes from `addr` on are: the host address that a pointer there

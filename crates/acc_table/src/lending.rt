@@ -81,7 +81,7 @@ fn make_room(trace: &mut Vec<Event>, lease: &Lease, full: bool) -> Result<List<u
     trace.reserve(1)?;
     let alloc = *trace.allocator();
     if full {
-        Ok(List::from_vec(lease.bytes().to_vec(alloc)?))
+        Ok(List::from_vec(Vec::from_slice(alloc, lease.bytes())?))
     } else {
         Ok(List::from_vec(Vec::new(alloc)))
     }

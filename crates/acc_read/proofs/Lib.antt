@@ -7,3 +7,5 @@ pub mod ByteWords
 pub mod ShortNames
 pub mod NameEntries
 pub mod Enough
+pub mod ByteRuns
+pub mod PlainLines

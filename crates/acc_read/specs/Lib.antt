@@ -13,4 +13,5 @@ pub mod Repeating
 pub mod Clauses
 pub mod Kernels
 pub mod Statements
+pub mod PlainLines
 pub mod Meanings

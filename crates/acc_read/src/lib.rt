@@ -15,6 +15,7 @@ mod kernels;
 mod lines;
 mod places;
 mod queues;
+mod runs;
 mod statements;
 mod tokens;
 mod troubles;

@@ -5,6 +5,7 @@ ghost use Rattle.std.specs.List.{list_all, prefix_len};
 ghost use Rattle.acc_read.specs.Reading.{Reads, Gives};
 ghost use Rattle.acc_read.specs.Statements.{length_at, array_at, question_at, short_at, statement_at, takes_memory, is_text_byte, hash, before_comment, line_at};
 ghost use Rattle.acc_read.specs.Meanings.{meaning_of};
+ghost use Rattle.acc_read.specs.PlainLines.{is_plain_byte, text_of};
 
 use crate::arrays::{Array, Arrays};
 use crate::directives::{
@@ -12,6 +13,7 @@ use crate::directives::{
 };
 use crate::kernels::{ScriptKernel, kernel_at};
 use crate::places::{last_address_at, last_section_at};
+use crate::runs::{ByteTest, all_pass};
 use crate::tokens::{is_at_end, is_text, name_at, number_at, word_at};
 use crate::troubles::Trouble;
 use crate::writes::{point_at, write_at};
@@ -84,14 +86,38 @@ pub fn line_at<'a>(
     if line.len() > LINE_LIMIT {
         return Err(Trouble::Line(ScriptFault::TooLong));
     }
-    let text = before_comment(line);
-    if !has_text_bytes(text) {
-        return Err(Trouble::Line(ScriptFault::NotText));
-    }
+    let text = text_of(line)?;
     if is_at_end(text) {
         return Ok(Statement::Blank);
     }
     statement_at(alloc, arrays, device, innermost, text)
+}
+
+/// What stands before a comment, which has to be text. A line with no comment and no other byte than text is looked at
+/// once.
+#[tactic(auto, using(crate::proofs::PlainLines::plain_laws))]
+fn text_of(line: &[u8]) -> Result<&[u8], ScriptFault>
+    ensures { Reads (λ x. x.now) result (text_of line.now) }
+{
+    if all_pass::<PlainByte>(line) {
+        return Ok(line);
+    }
+    let text = before_comment(line);
+    if !has_text_bytes(text) {
+        return Err(ScriptFault::NotText);
+    }
+    Ok(text)
+}
+
+/// A byte that is text and begins no comment.
+struct PlainByte;
+
+impl ByteTest for PlainByte {
+    ghost test = { is_plain_byte };
+
+    fn passes(byte: u8) -> bool {
+        is_text_byte(byte) & (byte != b'#')
+    }
 }
 
 /// What stands before a comment.

@@ -1,0 +1,19 @@
+-- What a line says before a comment, and lines that have no other bytes.
+use Rattle.std.specs.Prelude.{ℕ, Bool, not, ◌&&◌, List, Result, Ok, Err, ◌==◌, if◌then◌else◌}
+use Rattle.std.specs.List.{list_all}
+use Rattle.acc_base.specs.declared.faults.ScriptFault.{ScriptFault}
+use Rattle.acc_base.specs.declared.faults.ScriptFault.TheVariants.{NotText}
+use Rattle.acc_read.specs.Lines.{line_feed}
+use Rattle.acc_read.specs.Statements.{is_text_byte, hash, before_comment}
+
+-- a byte that is text and begins no comment
+abbrev pub is_plain_byte : ℕ → Bool
+is_plain_byte b = is_text_byte b && not (b == hash)
+
+-- a byte that ends no line
+abbrev pub is_line_byte : ℕ → Bool
+is_line_byte b = not (b == line_feed)
+
+-- what stands before a comment, which has to be text
+abbrev pub text_of : List ℕ → Result (List ℕ) ScriptFault
+text_of line = if not (list_all is_text_byte (before_comment line)) then Err NotText else Ok (before_comment line)

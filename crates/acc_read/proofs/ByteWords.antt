@@ -1,12 +1,15 @@
 -- Words that say bytes.
-use Rattle.std.proofs.Common.{◌≡◌, ℕ, ◌<◌, ◌≤◌, ◌%◌, ◌-◌, ◌≢◌, Bool, true, false, cond, List, [], ◌∷◌, length, Some, None, Ok, Err, refl, arith}
-use Rattle.std.specs.Prelude.{not, ◌||◌, ◌&&◌, nat_le, nat_lt, is_some, IsOk}
+use Rattle.std.proofs.Common.{◌≡◌, ℕ, ◌<◌, ◌≤◌, ◌%◌, ◌-◌, ◌≢◌, Bool, true, false, cond, List, [], ◌∷◌, length, Some, None, Result, Ok, Err, refl, arith}
+use Rattle.std.specs.Prelude.{not, ◌==◌, ◌||◌, ◌&&◌, nat_le, nat_lt, is_some, IsOk}
 use Rattle.std.specs.List.{list_all}
 use Rattle.std.specs.Char.{is_ascii_hexdigit}
 use Rattle.std.proofs.lemmas.Bool.{le-ltb, lt-ltb, eq-eqb, and_parts}
 use Rattle.std.proofs.lemmas.List.Sums.{AllPass-from_list_all}
 use Rattle.hex.specs.Hex.{decode_of, is_hex_digit}
 use Rattle.hex.proofs.HexLemmas.{decode_of-digits}
+use Rattle.hex.specs.declared.error.FromHexError.{FromHexError}
+use Rattle.hex.specs.declared.error.FromHexError.TheVariants.{OddLength}
+use Rattle.acc_base.specs.declared.faults.ScriptFault.{ScriptFault}
 use Rattle.acc_base.specs.declared.faults.ScriptFault.TheVariants.{Syntax, Number}
 use Rattle.acc_read.specs.Bytes.{digit_limit, bytes_said, decoded}
 
@@ -62,6 +65,31 @@ word_decoded word bytes right e = by (list_all is_ascii_hexdigit word) (nat_lt d
     by false c h = absurd cc
     by true true h = absurd cc
     by true false h = rw e refl
+
+-- a word that says bytes has digits alone
+pub said_digits : (word : List ℕ) → IsOk (bytes_said word) → list_all is_ascii_hexdigit word ≡ true
+unfolding bytes_said
+said_digits word right = by (list_all is_ascii_hexdigit word) _ right
+  where
+    by : (b : Bool) (rest : Result (List ℕ) ScriptFault) → IsOk (cond (not b) (Err Syntax) rest) → b ≡ true
+    by false rest h = absurd cc
+    by true rest h = refl
+
+-- two digits say a byte
+pub said_pairs : (word : List ℕ) → IsOk (bytes_said word) → length word % 2 ≢ 1
+unfolding bytes_said
+said_pairs word right odd =
+    by (list_all is_ascii_hexdigit word) (nat_lt digit_limit (length word)) (length word % 2 == 1) _ (eq-eqb (length word % 2) 1 odd) right
+  where
+    by : (b c d : Bool) (pairs : Result (List ℕ) FromHexError) → d ≡ true
+        → IsOk (cond (not b) (Err Syntax) (cond c (Err Number) (decoded (cond d (Err OddLength) pairs)))) → ⊥
+    by false c d pairs e h = cc
+    by true true d pairs e h = cc
+    by true false true pairs e h = cc
+    by true false false pairs e h = cc
+
+-- what is known of a word that says bytes
+pub ruleset said_laws = (word_decoded, said_digits, said_pairs)
 
 -- what a word is said to be by its digits
 pub ruleset word_laws = (not_digits, many_digits, odd_digits, right_word)

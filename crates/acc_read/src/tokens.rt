@@ -1,13 +1,15 @@
 //! Words, marks, numbers, names and bytes at the front of a text.
 
-ghost use Rattle.std.specs.Prelude.{◌≡◌, ◌≤◌, ◌+◌, min, length, IfOk, IsOk};
+ghost use Rattle.std.specs.Prelude.{◌≡◌, ◌≤◌, ◌<◌, ◌+◌, ◌*◌, true, Some, min, length, IfOk, IsOk};
 ghost use Rattle.std.specs.List.{list_all, prefix_len};
 ghost use Rattle.std.specs.Char.{is_ascii_digit, is_ascii_hexdigit};
 ghost use Rattle.std.specs.Str.{bytes_eq};
 ghost use Rattle.acc_read.specs.Reading.{Reads, Checks};
 ghost use Rattle.acc_read.specs.Tokens.{is_blank, is_word_byte, word_len, skip_blanks, is_at_end, word_at, keyword_at, is_word_next, is_mark_next, mark_at, skip_comma, is_word_before, number_said, number_at, is_name_byte, begins_lower, is_name, value_of, name_at};
 ghost use Rattle.acc_read.specs.Bytes.{bytes_said};
+ghost use Rattle.hex.specs.Hex.{decode_of, hex_digit_value};
 
+use crate::runs::{ByteTest, all_pass, passing_len};
 use acc_base::{List, ScriptFault};
 use std::alloc::{AllocError, Global};
 
@@ -69,6 +71,33 @@ pub fn word_at(text: &[u8]) -> Result<(&[u8], &[u8]), ScriptFault>
 {
     let token = skip_blanks(text);
     let len = word_len(token);
+    if len == 0 {
+        return Err(ScriptFault::Syntax);
+    }
+    Ok(token.split_at(len))
+}
+
+/// A byte of a word.
+struct WordByte;
+
+impl ByteTest for WordByte {
+    ghost test = { is_word_byte };
+
+    fn passes(byte: u8) -> bool {
+        ((b'0' <= byte) & (byte <= b'9'))
+            | ((b'A' <= byte) & (byte <= b'Z'))
+            | ((b'a' <= byte) & (byte <= b'z'))
+            | (byte == b'_')
+    }
+}
+
+/// The next word and the text after it, as [`word_at`] gives them. It is made for a word of tens of bytes.
+#[tactic(auto, unfolding(crate::specs::Tokens::word_at))]
+pub fn long_word_at(text: &[u8]) -> Result<(&[u8], &[u8]), ScriptFault>
+    ensures { Reads (λ x. (x.0.now, x.1.now)) result (word_at text.now) }
+{
+    let token = skip_blanks(text);
+    let len = passing_len::<WordByte>(token);
     if len == 0 {
         return Err(ScriptFault::Syntax);
     }
@@ -225,11 +254,24 @@ pub fn name_at(text: &[u8]) -> Result<(&[u8], &[u8]), ScriptFault>
 /// How many digits may stand in one word.
 const DIGIT_LIMIT: usize = 128;
 
+/// A hexadecimal digit, of either case.
+struct HexDigit;
+
+impl ByteTest for HexDigit {
+    ghost test = { is_ascii_hexdigit };
+
+    fn passes(byte: u8) -> bool {
+        ((b'0' <= byte) & (byte <= b'9'))
+            | ((b'A' <= byte) & (byte <= b'F'))
+            | ((b'a' <= byte) & (byte <= b'f'))
+    }
+}
+
 /// The word has hexadecimal digits alone, of either case.
 fn has_hex_digits(word: &[u8]) -> bool
     ensures { result ≡ list_all is_ascii_hexdigit word.now }
 {
-    word.iter().all(|b| b.is_ascii_hexdigit())
+    all_pass::<HexDigit>(word)
 }
 
 /// Checks that a word says bytes: pairs of hexadecimal digits, of either case.
@@ -258,13 +300,33 @@ pub fn check_bytes(word: &[u8]) -> Result<(), ScriptFault>
 /// # Errors
 ///
 /// Where memory is wanting.
-#[tactic(auto, using(crate::proofs::ByteWords::word_decoded))]
+#[tactic(auto, using(crate::proofs::ByteWords::said_laws))]
 pub fn bytes_said(alloc: Global, word: &[u8]) -> Result<List<u8>, AllocError>
     requires { IsOk (bytes_said word.now) }
     ensures { IfOk result (λ bytes. bytes_said word.now ≡ Ok bytes) }
 {
-    match hex::decode(alloc, word) {
-        Ok(bytes) => Ok(List::from_vec(bytes)),
-        Err(_) => Err(AllocError),
+    let mut bytes = vec![in alloc; 0u8; word.len() / 2]?;
+    put_bytes(word, bytes.as_mut_slice());
+    Ok(List::from_vec(bytes))
+}
+
+/// Puts the bytes that a word says where there is room for them.
+fn put_bytes(word: &[u8], bytes: &mut [u8])
+    requires digits { list_all is_ascii_hexdigit word.now ≡ true }
+    requires room { length word.now ≡ 2 * length bytes.old }
+    ensures { decode_of word.now ≡ Ok bytes.new }
+{
+    'bytes: for i in 0..bytes.len() {
+        bytes[i] = digit_value(word[2 * i]) * 16 + digit_value(word[2 * i + 1]);
     }
+}
+
+/// The value of a hexadecimal digit. No branch depends on the digit, so that the compiler can read many at once: of a
+/// letter the four low bits are its place from 1 on, and 9 stand before it.
+fn digit_value(digit: u8) -> u8
+    requires { is_ascii_hexdigit digit ≡ true }
+    ensures value { hex_digit_value digit ≡ Some result }
+    ensures bound { result < 16 }
+{
+    digit % 16 + digit / 64 * 9
 }

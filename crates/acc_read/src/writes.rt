@@ -8,7 +8,7 @@ ghost use Rattle.acc_read.specs.Meanings.{meaning_of};
 use crate::arrays::Arrays;
 use crate::places::{address_at, last_address_at};
 use crate::statements::Statement;
-use crate::tokens::{bytes_said, check_bytes, is_at_end, keyword_at, word_at};
+use crate::tokens::{bytes_said, check_bytes, is_at_end, keyword_at, long_word_at};
 use crate::troubles::Trouble;
 use acc_base::{List, ScriptFault};
 use std::alloc::Global;
@@ -19,7 +19,7 @@ pub fn write_at(alloc: Global, arrays: &Arrays, text: &[u8]) -> Result<Statement
     ensures { Gives takes_memory meaning_of result (write_at arrays.now text.now) }
 {
     let (addr, rest) = address_at(arrays, text)?;
-    let (word, rest) = word_at(rest)?;
+    let (word, rest) = long_word_at(rest)?;
     check_bytes(word)?;
     if !is_at_end(rest) {
         return Err(Trouble::Line(ScriptFault::Syntax));

@@ -1,7 +1,10 @@
 //! Why a statement was refused.
 
+#[cfg(test)]
+mod tests;
+
 use crate::sources::put_cause;
-use acc_base::{Directive, Fault, HOST_BASE, Item, List, QUEUE_COUNT, Section};
+use acc_base::{Directive, Fault, Found, HOST_BASE, Item, List, QUEUE_COUNT, Section};
 use acc_page::{Names, Page};
 use acc_read::{ScriptKernel, Statement};
 use acc_table::{Mapped, Table};
@@ -201,14 +204,18 @@ fn put_meetings(
     }
 }
 
-/// Puts the mapped ranges that a section meets; returns how many they are.
+/// Puts the mapped ranges that a section meets; returns how many they are. Ranges come by rising start, and no two of
+/// them have an address in common, so those that meet it stand together.
 fn put_ranges(page: &mut Page, view: DeviceView<'_>, names: &Names, section: Section) -> u64 {
     let mut told = 0;
-    let mut from = 0;
+    let mut from = first_from(view, section);
     for _ in 0..u64::MAX {
         let Some(mapped) = view.table.mapped(view.device, from) else {
             break;
         };
+        if section.end() <= u128::from(mapped.start) {
+            break;
+        }
         if meets(range_of(mapped), section) {
             told = u64::saturating_add(told, 1);
             if told <= TOLD {
@@ -219,6 +226,19 @@ fn put_ranges(page: &mut Page, view: DeviceView<'_>, names: &Names, section: Sec
     }
     put_others(page, told);
     told
+}
+
+/// The start of the mapped range that has the first address of a section, or that address where none has it. No range
+/// that starts before meets the section.
+fn first_from(view: DeviceView<'_>, section: Section) -> u64 {
+    let first = Section {
+        start: section.start,
+        len: 1,
+    };
+    match view.table.find(view.device, first) {
+        Found::Inside { offset, .. } => section.start.saturating_sub(offset),
+        Found::Empty | Found::Partly | Found::Absent => section.start,
+    }
 }
 
 /// Puts how many ranges the section meets beside those that were shown.

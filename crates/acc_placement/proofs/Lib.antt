@@ -7,6 +7,7 @@ pub mod Partitions
 pub mod Outside
 pub mod HoleTrees
 pub mod Merging
+pub mod Filling
 pub mod Rest
 pub mod Fitting
 pub mod Crossing

@@ -123,7 +123,7 @@ module _ {T : Type 0} where
       let t : nat_lt new.key h.key ≡ false = grind (arith, nat_tests) in
       rw t (ap (λ es. h ∷ es) (with_right new l x r le under.1))
 
-  kept_over : (key : ℕ) (x : Entry T) (r : List (Entry T)) → key ≤ x.key → AllByRecursion (λ e. x.key < e.key) r → without_key key r ≡ r
+  pub kept_over : (key : ℕ) (x : Entry T) (r : List (Entry T)) → key ≤ x.key → AllByRecursion (λ e. x.key < e.key) r → without_key key r ≡ r
   kept_over key x r le over = filter-kept (λ e. not (e.key == key)) r (AllByRecursion-weaker (λ e. x.key < e.key) (λ e. not (e.key == key) ≡ true) r (λ e more. let t : (e.key == key) ≡ false = grind (arith, nat_tests) in rw t refl) over)
 
   kept_under : (key : ℕ) (x : Entry T) (l : List (Entry T)) → x.key ≤ key → AllByRecursion (λ e. e.key < x.key) l → without_key key l ≡ l

@@ -3,3 +3,4 @@ pub mod Shape
 pub mod Nodes
 pub mod NodeFalls
 pub mod Trees
+pub mod Growing

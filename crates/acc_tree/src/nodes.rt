@@ -19,7 +19,7 @@ pub struct Node<T> {
     // The next node of the chain that this one waits in.
     next: Option<Box<Node<T>>>,
     // The greatest size in the tree that begins here.
-    greatest: u64,
+    pub(crate) greatest: u64,
     height: u64,
 }
 

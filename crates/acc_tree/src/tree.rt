@@ -1,6 +1,7 @@
 //! A balanced tree of entries, each found by its key in a walk from the top.
-ghost use Rattle.std.specs.Prelude.{◌≡◌, ℕ, ◌+◌, ◌*◌, ◌^◌, ◌<◌, ◌≤◌, [], length, Some, None, IsSome, IfErr, OnOk, OnErr, MatchBool};
+ghost use Rattle.std.specs.Prelude.{◌≡◌, ℕ, ◌+◌, ◌*◌, ◌^◌, ◌<◌, ◌≤◌, [], length, Some, None, IsSome, IfSome, IfErr, OnOk, OnErr, MatchBool};
 ghost use Rattle.acc_tree.specs.Listing.{KeysRise, AreRanges, at_key, first_from, last_before, first_large, first_large_from, with_entry, without_key, with_value, without_front};
+ghost use Rattle.acc_tree.specs.Growing.{with_range, IsClear};
 ghost use Rattle.acc_tree.specs.Nodes.{length_of, IsChain};
 
 use crate::entries::{Around, Entry};
@@ -239,6 +240,18 @@ impl<T: Copy> Tree<T> {
         ensures room { self.new.room ≡ self.old.room }
     {
         walks::write_value(&mut self.root, key, value);
+    }
+
+    /// Moves the entry of a key that is there to the key `to`, and makes it as large as `size`, which is no less than it
+    /// has. No other key lies between the two, so each entry stays where it is in the tree. It needs no memory.
+    pub fn grow(&mut self, key: u128, to: u128, size: u64)
+        requires there { IsSome (at_key key self.old.entries) }
+        requires clear { IsClear key to self.old.entries }
+        requires not_less { IfSome (at_key key self.old.entries) (λ e. e.size ≤ size) }
+        ensures entries { self.new.entries ≡ with_range key to size self.old.entries }
+        ensures room { self.new.room ≡ self.old.room }
+    {
+        walks::grow(&mut self.root, key, to, size);
     }
 
     /// Takes the first `size` of the entry of least key that is so large, and returns the entry as it was. Its key

@@ -1,6 +1,7 @@
 //! Walks down a tree.
-ghost use Rattle.std.specs.Prelude.{◌≡◌, ◌+◌, ◌^◌, ◌<◌, ◌≤◌};
+ghost use Rattle.std.specs.Prelude.{◌≡◌, ◌+◌, ◌^◌, ◌<◌, ◌≤◌, IsSome, IfSome};
 ghost use Rattle.acc_tree.specs.Listing.{KeysRise, at_key, first_from, last_before, first_large, first_large_from, with_value};
+ghost use Rattle.acc_tree.specs.Growing.{with_range};
 ghost use Rattle.acc_tree.specs.Nodes.{entries_in, height_of, length_of};
 ghost use Rattle.std.specs.Option.{option_or};
 ghost use Rattle.acc_tree.specs.Listing.{seen};
@@ -140,6 +141,33 @@ pub fn write_value<T: Copy>(tree: &mut Link<T>, key: u128, value: T)
                 write_value(&mut node.right, key, value);
             } else {
                 node.entry.value = value;
+            }
+        }
+    }
+}
+
+/// Writes another key and a size that is no less at a key that is there. The greatest sizes are raised on the way down,
+/// so nothing is left to do on a way up.
+pub fn grow<T: Copy>(tree: &mut Link<T>, key: u128, to: u128, size: u64)
+    requires rising { KeysRise (entries_in tree.old) }
+    requires there { IsSome (at_key key (entries_in tree.old)) }
+    requires not_less { IfSome (at_key key (entries_in tree.old)) (λ e. e.size ≤ size) }
+    ensures entries { entries_in tree.new ≡ with_range key to size (entries_in tree.old) }
+    ensures height { height_of tree.new ≡ height_of tree.old }
+    ensures behind { length_of tree.new ≡ length_of tree.old }
+{
+    match tree {
+        None => {}
+        Some(node) => {
+            let node: &mut Node<T> = node;
+            node.greatest = node.greatest.max(size);
+            if key < node.entry.key {
+                grow(&mut node.left, key, to, size);
+            } else if node.entry.key < key {
+                grow(&mut node.right, key, to, size);
+            } else {
+                node.entry.key = to;
+                node.entry.size = size;
             }
         }
     }

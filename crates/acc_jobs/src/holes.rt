@@ -4,7 +4,8 @@ use crate::desks::{Desk, limits};
 use crate::items::{one, section};
 use crate::tallies::Tally;
 use acc_base::{EnterClause, ExitClause, Fault, Section};
-use std::alloc::Global;
+use acc_random::Chance;
+use std::alloc::{AllocError, Global};
 
 /// How many arrays there are, 4,096 bytes apart.
 const ARRAYS: u64 = 8_192;
@@ -12,23 +13,45 @@ const ARRAYS: u64 = 8_192;
 /// How many ends follow a birth that was refused.
 const ENDS: u64 = 12;
 
-/// Which arrays are mapped, with their lengths.
+/// Arrays of lengths that stay, which of them are mapped. All together do not fit.
 #[derive(Drop)]
 struct Pool {
     desk: Desk,
-    // 0 where the array is not mapped.
     lens: Vec<u64>,
+    live: Vec<bool>,
     // How many ends are due.
     due: u64,
 }
 
 /// Fills a device of 4 MiB, and then lets arrays come and go so many thousand times.
 pub fn run(alloc: Global, seed: u64, rounds: u64) -> Result<Tally, Fault> {
-    let lens = vec![in alloc; 0; ARRAYS as usize]?;
+    let lens = lengths(alloc, seed)?;
+    let live = vec![in alloc; false; ARRAYS as usize]?;
     let config = limits(33_554_432, 4_194_304)?;
     let desk = Desk::new(alloc, config, seed, Tally::new())?;
-    let mut pool = Pool { desk, lens, due: 0 };
+    let due = 0;
+    let mut pool = Pool {
+        desk,
+        lens,
+        live,
+        due,
+    };
     pool.play(rounds)
+}
+
+/// The length of each array, from 16 to 4,096 bytes, mostly a small one.
+fn lengths(alloc: Global, seed: u64) -> Result<Vec<u64>, AllocError> {
+    let mut chance = Chance::new(seed);
+    let mut lens = Vec::with_capacity(alloc, ARRAYS as usize)?;
+    for _ in 0..ARRAYS {
+        lens.push(length(&mut chance))?;
+    }
+    Ok(lens)
+}
+
+fn length(chance: &mut Chance) -> u64 {
+    let most = if chance.number() % 4 == 0 { 4_081 } else { 241 };
+    (chance.number() % most).wrapping_add(16)
 }
 
 impl Pool {
@@ -52,7 +75,7 @@ impl Pool {
     /// An array comes, or an array goes, whichever is due.
     fn change(&mut self) {
         let nth = self.desk.below(ARRAYS);
-        if self.len(nth) == 0 {
+        if !self.is_live(nth) {
             self.bear(nth);
         } else if self.due > 0 {
             self.due -= 1;
@@ -60,33 +83,28 @@ impl Pool {
         }
     }
 
-    /// The length of a mapped array; 0 where it is not mapped.
-    fn len(&self, nth: u64) -> u64 {
-        self.lens.get(nth as usize).copied().unwrap_or(0)
+    fn is_live(&self, nth: u64) -> bool {
+        self.live.get(nth as usize).copied().unwrap_or(false)
     }
 
-    fn set_len(&mut self, nth: u64, len: u64) {
-        if let Some(old) = self.lens.get_mut(nth as usize) {
-            *old = len;
+    fn set_live(&mut self, nth: u64, is_live: bool) {
+        if let Some(old) = self.live.get_mut(nth as usize) {
+            *old = is_live;
         }
     }
 
-    /// A length from 16 to 4,096, mostly a small one.
-    fn new_len(&mut self) -> u64 {
-        if self.desk.below(4) == 0 {
-            self.desk.below(4_081).wrapping_add(16)
-        } else {
-            self.desk.below(241).wrapping_add(16)
-        }
+    /// The section of an array.
+    fn array(&self, nth: u64) -> Section {
+        let len = self.lens.get(nth as usize).copied().unwrap_or(16);
+        section(nth.wrapping_mul(4_096), len)
     }
 
     /// Maps an array. Where the device has no place for it, some ends are due.
     fn bear(&mut self, nth: u64) {
-        let len = self.new_len();
-        let array = array_at(nth, len);
+        let array = self.array(nth);
         self.desk.enter_data(one(EnterClause::Copyin, array));
         if self.desk.table.is_present(0, array) {
-            self.set_len(nth, len);
+            self.set_live(nth, true);
         } else {
             self.due = ENDS;
         }
@@ -94,15 +112,10 @@ impl Pool {
 
     /// Ends the mapping of an array, where it is mapped.
     fn end(&mut self, nth: u64) {
-        let len = self.len(nth);
-        if len > 0 {
-            self.desk
-                .exit_data(one(ExitClause::Delete, array_at(nth, len)));
-            self.set_len(nth, 0);
+        if self.is_live(nth) {
+            let array = self.array(nth);
+            self.desk.exit_data(one(ExitClause::Delete, array));
+            self.set_live(nth, false);
         }
     }
-}
-
-fn array_at(nth: u64, len: u64) -> Section {
-    section(nth.wrapping_mul(4_096), len)
 }

@@ -8,18 +8,18 @@ ghost use Rattle.acc_clauses.specs.declared.acted.Acted.{Acted};
 use crate::acted::Acted;
 use crate::outlines::Outline;
 use crate::rows::section_of;
+use crate::slates::Slate;
 use acc_base::{Aim, Did, Section, Step};
-use arrayvec::ArrayVec;
 use std::marker::Model;
 
 /// The tasks of a directive that were judged so far, in the order in which they act, each with what it does.
 #[derive(Drop)]
 pub(crate) struct Draft {
-    acts: ArrayVec<Acted, 64>,
+    acts: Slate<Acted>,
     // The place and the length of each block that they give birth to.
-    births: ArrayVec<(u64, u64), 64>,
+    births: Slate<(u64, u64)>,
     // The blocks whose mappings they end.
-    ended: ArrayVec<u64, 64>,
+    ended: Slate<u64>,
     // What look-ups see of them at a glance.
     outline: Outline,
 }
@@ -32,22 +32,17 @@ impl Model for Draft {
 
     ghost Value = { List Acted };
 
-    ghost view = { λ d. d.acts.items };
+    ghost view = { λ d. d.acts };
 
-    ghost invariant = { λ d. IsDraft d.acts.items d.births.items d.ended.items × IsOutlined d.acts.items d.outline };
+    ghost invariant = { λ d. IsDraft d.acts d.births d.ended × IsOutlined d.acts d.outline };
 }
 
 // Notes the birth or the end that the task makes, after these tasks.
 #[tactic(auto, using(crate::proofs::Drafted::tally_laws))]
-fn tally(
-    births: &mut ArrayVec<(u64, u64), 64>,
-    ended: &mut ArrayVec<u64, 64>,
-    x: Acted,
-    acts: &[Acted],
-)
-    requires draft { IsDraft acts.now births.old.items ended.old.items }
+fn tally(births: &mut Slate<(u64, u64)>, ended: &mut Slate<u64>, x: Acted, acts: &[Acted])
+    requires draft { IsDraft acts.now births.old ended.old }
     requires few { length acts.now < 64 }
-    ensures { IsDraft (acts.now ++ x ∷ []) births.new.items ended.new.items }
+    ensures { IsDraft (acts.now ++ x ∷ []) births.new ended.new }
 {
     match x.did.step {
         Step::Born { place, .. } => births.push((place, section_of(x.task).len)),
@@ -68,9 +63,9 @@ impl Draft {
         ensures { result ≡ [] }
     {
         Draft {
-            acts: ArrayVec::new(),
-            births: ArrayVec::new(),
-            ended: ArrayVec::new(),
+            acts: Slate::new(),
+            births: Slate::new(),
+            ended: Slate::new(),
             outline: Outline::new(),
         }
     }
@@ -90,7 +85,7 @@ impl Draft {
         requires { length self.old < 64 }
         ensures { self.new ≡ self.old ++ x ∷ [] }
     {
-        tally(&mut self.births, &mut self.ended, x, &self.acts);
+        tally(&mut self.births, &mut self.ended, x, self.acts.as_slice());
         self.outline.add(&x);
         self.acts.push(x);
     }
@@ -113,7 +108,7 @@ impl Draft {
         ensures value { result.now ≡ self.now }
         ensures few { length result.now ≤ 64 }
     {
-        &self.acts
+        self.acts.as_slice()
     }
 
     /// The place and the length of each block that they give birth to.
@@ -121,14 +116,14 @@ impl Draft {
         ensures value { result.now ≡ births_of self.now }
         ensures few { length result.now ≤ 64 }
     {
-        &self.births
+        self.births.as_slice()
     }
 
     /// The blocks whose mappings they end.
     pub(crate) fn ended(&self) -> &[u64]
         ensures { result.now ≡ ended_of self.now }
     {
-        &self.ended
+        self.ended.as_slice()
     }
 
     /// Whether none of the tasks maps an address of a section, which is not empty.

@@ -29,6 +29,7 @@ mod readings;
 mod rows;
 mod running;
 mod sections;
+mod slates;
 mod spares;
 mod stores;
 mod targets;

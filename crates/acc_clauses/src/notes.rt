@@ -8,6 +8,7 @@ ghost use Rattle.acc_clauses.specs.Acts.{birth_of, lens_born};
 
 use crate::acted::Acted;
 use crate::rows::section_of;
+use crate::slates::Slate;
 use acc_base::{Aim, Counter, Did, Directive, Holding, Step, Task};
 use arrayvec::ArrayVec;
 
@@ -26,10 +27,10 @@ pub fn note_written(written: &mut ArrayVec<Did, 64>, directive: &Directive, acts
 }
 
 // Notes the length of the block that a task gives birth to, if it does.
-fn note_birth(lens: &mut ArrayVec<u64, 64>, x: &Acted)
-    requires { length lens.old.items < 64 }
-    ensures lens { lens.new.items ≡ lens.old.items ++ birth_of x.now.task x.now.did.step }
-    ensures few { length lens.new.items ≤ length lens.old.items + 1 }
+fn note_birth(lens: &mut Slate<u64>, x: &Acted)
+    requires { length lens.old < 64 }
+    ensures lens { lens.new ≡ lens.old ++ birth_of x.now.task x.now.did.step }
+    ensures few { length lens.new ≤ length lens.old + 1 }
 {
     if let Step::Born { .. } = x.did.step {
         lens.push(section_of(x.task).len);
@@ -37,9 +38,9 @@ fn note_birth(lens: &mut ArrayVec<u64, 64>, x: &Acted)
 }
 
 /// The lengths of the blocks that these tasks give birth to, one after the other.
-pub fn note_births(lens: &mut ArrayVec<u64, 64>, acts: &[Acted])
+pub fn note_births(lens: &mut Slate<u64>, acts: &[Acted])
     requires { length acts.now ≤ 64 }
-    ensures { lens.new.items ≡ lens_born (tasks_in acts.now) (dids_in acts.now) }
+    ensures { lens.new ≡ lens_born (tasks_in acts.now) (dids_in acts.now) }
 {
     lens.clear();
     for x in acts {
@@ -70,10 +71,10 @@ fn pointer_attached(aim: Aim) -> Option<(u64, u64)>
 }
 
 // Notes what a task holds that enters an item of a region.
-fn note_holding(holdings: &mut ArrayVec<Holding, 64>, x: &Acted)
-    requires { length holdings.old.items < 64 }
-    ensures holdings { holdings.new.items ≡ holdings.old.items ++ holding_by x.now.task x.now.did }
-    ensures few { length holdings.new.items ≤ length holdings.old.items + 1 }
+fn note_holding(holdings: &mut Slate<Holding>, x: &Acted)
+    requires { length holdings.old < 64 }
+    ensures holdings { holdings.new ≡ holdings.old ++ holding_by x.now.task x.now.did }
+    ensures few { length holdings.new ≤ length holdings.old + 1 }
 {
     if let Task::Enter {
         counter: Counter::Structured,
@@ -90,9 +91,9 @@ fn note_holding(holdings: &mut ArrayVec<Holding, 64>, x: &Acted)
 }
 
 /// What a region holds that is entered by these tasks, in written order; nothing where none is entered.
-pub fn note_holdings(holdings: &mut ArrayVec<Holding, 64>, acts: &[Acted])
+pub fn note_holdings(holdings: &mut Slate<Holding>, acts: &[Acted])
     requires { length acts.now ≤ 64 }
-    ensures { holdings.new.items ≡ holdings_by (tasks_in acts.now) (dids_in acts.now) }
+    ensures { holdings.new ≡ holdings_by (tasks_in acts.now) (dids_in acts.now) }
 {
     holdings.clear();
     for x in acts {

@@ -7,6 +7,7 @@ ghost use Rattle.acc_clauses.specs.Acts.{lens_born};
 
 use crate::acted::Acted;
 use crate::drafts::Draft;
+use crate::slates::Slate;
 use acc_base::{Did, Holding};
 use arrayvec::ArrayVec;
 use std::marker::Model;
@@ -19,8 +20,8 @@ pub struct Plan {
     pub(crate) draft: Draft,
     // What was noted of its tasks, in written order: lengths of new blocks, holdings of a region that they enter, and
     // what they do.
-    pub(crate) lens: ArrayVec<u64, 64>,
-    pub(crate) holdings: ArrayVec<Holding, 64>,
+    pub(crate) lens: Slate<u64>,
+    pub(crate) holdings: Slate<Holding>,
     pub(crate) written: ArrayVec<Did, 64>,
 }
 
@@ -33,7 +34,7 @@ impl Model for Plan {
 
     ghost view = { λ p. record { tasks = tasks_in p.draft; dids = dids_in p.draft; written = p.written.items } };
 
-    ghost invariant = { λ p. IsNoted (tasks_in p.draft) (dids_in p.draft) p.lens.items p.holdings.items };
+    ghost invariant = { λ p. IsNoted (tasks_in p.draft) (dids_in p.draft) p.lens p.holdings };
 }
 
 impl Plan {
@@ -43,8 +44,8 @@ impl Plan {
     {
         Plan {
             draft: Draft::new(),
-            lens: ArrayVec::new(),
-            holdings: ArrayVec::new(),
+            lens: Slate::new(),
+            holdings: Slate::new(),
             written: ArrayVec::new(),
         }
     }
@@ -70,13 +71,13 @@ impl Plan {
         ensures lens { result.now ≡ lens_born self.now.tasks self.now.dids }
         ensures few { length result.now ≤ 64 }
     {
-        &self.lens
+        self.lens.as_slice()
     }
 
     /// What the region that it enters holds, in written order; nothing where it enters none.
     pub(crate) fn holdings(&self) -> &[Holding]
         ensures { result.now ≡ holdings_by self.now.tasks self.now.dids }
     {
-        &self.holdings
+        self.holdings.as_slice()
     }
 }

@@ -1,4 +1,4 @@
-use Rattle.std.proofs.Common.{◌∙◌, ◌++◌, ◌∷◌, [], sym, ap, true, false, length, arith, lit<}
+use Rattle.std.proofs.Common.{◌∙◌, ◌++◌, ◌∷◌, [], sym, ap, true, false, length, arith}
 use Rattle.std.proofs.lemmas.List.{append-nil}
 use Rattle.acc_base.specs.declared.items.Section.{Section}
 use Rattle.acc_base.specs.declared.events.Step.TheVariants.{Nothing, Counted, Born, Dropped, Moved}
@@ -6,13 +6,13 @@ use Rattle.acc_clauses.proofs.Drafted.{drafted, length-births_of}
 use Rattle.acc_clauses.proofs.drafts.tally.Goals as goal
 
 pub push-requires : goal.push-requires
-push-requires c = (lit< tt, omega (arith, ap length c.requires.draft.births_are, length-births_of c.args.acts.now))
+push-requires c = omega (arith, ap length c.requires.draft.births_are, length-births_of c.args.acts.now)
 
 pub returns-in-Born : goal.returns-in-Born
 returns-in-Born c =
     let place = c.in-Born.place in
     drafted _ _ _ _ _ _ (Born c.in-Born.block place) c.requires.draft c.requires.few c.in-Born.is
-    (c.push.ensures.items ∙ ap (λ (s : Section). c.args.births.now.items ++ (place, s.len) ∷ []) c.section_of.ensures) (sym (append-nil _))
+    (c.push.ensures.items ∙ ap (λ (s : Section). c.args.births.now ++ (place, s.len) ∷ []) c.section_of.ensures) (sym (append-nil _))
 
 pub returns-then-over : goal.returns-then-over
 returns-then-over c =

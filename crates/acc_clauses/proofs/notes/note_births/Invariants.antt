@@ -6,6 +6,6 @@ use Rattle.acc_clauses.proofs.notes.note_births.Given as goal
 -- the lengths so far, before those of the tasks that are left, are those of all tasks
 abbrev pub invariant-loop-x : goal.invariant-loop-x
 invariant-loop-x l = record {
-  few : length l.lens.items ≤ l.x-index;
-  so_far : l.lens.items ++ lens_born (tasks_in (drop l.x-index l.acts)) (dids_in (drop l.x-index l.acts)) ≡ lens_born (tasks_in l.acts) (dids_in l.acts);
+  few : length l.lens ≤ l.x-index;
+  so_far : l.lens ++ lens_born (tasks_in (drop l.x-index l.acts)) (dids_in (drop l.x-index l.acts)) ≡ lens_born (tasks_in l.acts) (dids_in l.acts);
 }

@@ -4,5 +4,6 @@ pub mod Steps
 pub mod Fronts
 pub mod Values
 pub mod Growing
+pub mod Mending
 pub mod Kept
 pub mod Listed

@@ -1,62 +1,91 @@
 //! Entries put into a tree and taken out of it.
-ghost use Rattle.std.specs.Prelude.{◌≡◌, ◌+◌, ◌^◌, ◌<◌, ◌≤◌, length, Some, IsSome};
+ghost use Rattle.std.specs.Prelude.{◌≡◌, ◌+◌, ◌^◌, ◌<◌, ◌≤◌, [], ◌∷◌, length, Some, IsSome, IfSome};
 ghost use Rattle.acc_tree.specs.Listing.{KeysRise, AreRanges, at_key, first_large, greatest_size, with_entry, without_key, without_front};
 ghost use Rattle.acc_tree.specs.Nodes.{entries_in, height_of, length_of, IsAlone, IsLeaf, IsFreed, IsLowered};
 
 use crate::balances::{balance, merge};
 use crate::entries::Entry;
-use crate::nodes::{Link, Node, entry_of, fill, greatest, join, split};
+use crate::nodes::{
+    Link, Node, entry_of, fill, greatest, greatest_over, height_over, is_even, join, split,
+};
 
-/// Puts an entry into a tree, in a node that waits.
-pub fn insert<T: Copy>(tree: Link<T>, node: Box<Node<T>>, entry: Entry<T>) -> Box<Node<T>>
+/// Puts an entry into a tree, in a node that waits. Nodes on the way change in place, but for those that rotate.
+pub fn insert<T: Copy>(tree: &mut Link<T>, node: Box<Node<T>>, entry: Entry<T>)
     requires leaf { IsLeaf node.value }
-    requires alone { IsAlone tree }
-    requires limit { height_of tree < 2 ^ 61 }
-    requires rising { KeysRise (entries_in tree) }
-    ensures entries { result.value.entries ≡ with_entry entry (entries_in tree) }
-    ensures alone { result.value.behind ≡ 0 }
-    ensures not_lower { height_of tree ≤ result.value.height }
-    ensures not_higher { result.value.height ≤ height_of tree + 1 }
+    requires alone { IsAlone tree.old }
+    requires limit { height_of tree.old < 2 ^ 61 }
+    requires rising { KeysRise (entries_in tree.old) }
+    ensures entries { entries_in tree.new ≡ with_entry entry (entries_in tree.old) }
+    ensures alone { IsAlone tree.new }
+    ensures not_lower { height_of tree.old ≤ height_of tree.new }
+    ensures not_higher { height_of tree.new ≤ height_of tree.old + 1 }
 {
-    let Some(tree) = tree else {
-        return fill(node, entry)
+    let Some(mut top) = tree.take() else {
+        *tree = Some(fill(node, entry));
+        return;
     };
-    let (left, top, right) = split(tree);
-    if entry.key < entry_of(&top).key {
-        let left = insert(left, node, entry);
-        balance(Some(left), top, right)
+    let n = &mut *top;
+    if entry.key < n.entry.key {
+        insert(&mut n.left, node, entry);
     } else {
-        let right = insert(right, node, entry);
-        balance(left, top, Some(right))
+        insert(&mut n.right, node, entry);
+    }
+    if is_even(&n.left, &n.right) {
+        n.height = height_over(&n.left, &n.right);
+        n.greatest = greatest_over(&n.left, n.entry.size, &n.right);
+        *tree = Some(top);
+    } else {
+        let left = n.left.take();
+        let right = n.right.take();
+        n.height = 1;
+        n.greatest = n.entry.size;
+        *tree = Some(balance(left, top, right));
     }
 }
 
-/// Takes the entry of a key out of a tree, and the node that held it.
-pub fn remove<T: Copy>(tree: Box<Node<T>>, key: u128) -> (Entry<T>, Box<Node<T>>, Link<T>)
-    requires alone { tree.value.behind ≡ 0 }
-    requires limit { tree.value.height < 2 ^ 62 }
-    requires rising { KeysRise tree.value.entries }
-    requires there { IsSome (at_key key tree.value.entries) }
-    ensures entry { at_key key tree.value.entries ≡ Some result.0 }
-    ensures leaf { IsLeaf result.1.value }
-    ensures entries { entries_in result.2 ≡ without_key key tree.value.entries }
-    ensures length { length (entries_in result.2) + 1 ≡ length tree.value.entries }
-    ensures alone { IsAlone result.2 }
-    ensures height { IsLowered tree.value.height (height_of result.2) }
+/// Takes the node of a key out of a tree, with its entry. Nodes on the way change in place, but for those that rotate.
+pub fn remove<T: Copy>(tree: &mut Link<T>, key: u128) -> Box<Node<T>>
+    requires alone { IsAlone tree.old }
+    requires limit { height_of tree.old < 2 ^ 62 }
+    requires rising { KeysRise (entries_in tree.old) }
+    requires there { IsSome (at_key key (entries_in tree.old)) }
+    ensures leaf { IsLeaf result.value }
+    ensures entry { IfSome (at_key key (entries_in tree.old)) (λ e. result.value.entries ≡ e ∷ []) }
+    ensures entries { entries_in tree.new ≡ without_key key (entries_in tree.old) }
+    ensures length { length (entries_in tree.new) + 1 ≡ length (entries_in tree.old) }
+    ensures alone { IsAlone tree.new }
+    ensures height { IsLowered (height_of tree.old) (height_of tree.new) }
 {
-    let (left, top, right) = split(tree);
-    let here = entry_of(&top);
-    if key < here.key {
-        let Some(left) = left else { unreachable!() };
-        let (entry, freed, left) = remove(left, key);
-        (entry, freed, Some(balance(left, top, right)))
-    } else if here.key < key {
-        let Some(right) = right else { unreachable!() };
-        let (entry, freed, right) = remove(right, key);
-        (entry, freed, Some(balance(left, top, right)))
-    } else {
-        (here, top, merge(left, right))
+    let Some(mut top) = tree.take() else {
+        unreachable!()
+    };
+    let n = &mut *top;
+    let here = n.entry.key;
+    if key == here {
+        let left = n.left.take();
+        let right = n.right.take();
+        n.height = 1;
+        n.greatest = n.entry.size;
+        *tree = merge(left, right);
+        return top;
     }
+    let freed = if key < here {
+        remove(&mut n.left, key)
+    } else {
+        remove(&mut n.right, key)
+    };
+    if is_even(&n.left, &n.right) {
+        n.height = height_over(&n.left, &n.right);
+        n.greatest = greatest_over(&n.left, n.entry.size, &n.right);
+        *tree = Some(top);
+    } else {
+        let left = n.left.take();
+        let right = n.right.take();
+        n.height = 1;
+        n.greatest = n.entry.size;
+        *tree = Some(balance(left, top, right));
+    }
+    freed
 }
 
 /// Takes the first `size` of the first entry that is so large, and the node that held it where nothing is left.

@@ -1,5 +1,5 @@
 //! Nodes of a tree, and the two steps that change which subtrees hang from one.
-ghost use Rattle.std.specs.Prelude.{◌≡◌, ◌+◌, ◌^◌, ◌<◌, [], ◌∷◌, ◌++◌, max, length, Some, IfSome};
+ghost use Rattle.std.specs.Prelude.{◌≡◌, ◌+◌, ◌^◌, ◌<◌, ◌≤◌, [], ◌∷◌, ◌++◌, max, length, Some, IfSome, MatchBool};
 ghost use Rattle.acc_tree.specs.Listing.{greatest_size};
 ghost use Rattle.acc_tree.specs.Nodes.{entries_in, height_of, length_of, IsTall, IsLeaf, IsChain, IsFreed, IsBalanced};
 
@@ -20,7 +20,7 @@ pub struct Node<T> {
     next: Option<Box<Node<T>>>,
     // The greatest size in the tree that begins here.
     pub(crate) greatest: u64,
-    height: u64,
+    pub(crate) height: u64,
 }
 
 impl<T> Model for Node<T> {
@@ -70,6 +70,33 @@ pub fn greatest<T>(tree: &Link<T>) -> u64
     }
 }
 
+/// Whether two trees may hang from one node.
+pub fn is_even<T>(left: &Link<T>, right: &Link<T>) -> bool
+    requires limit { max (height_of left.now) (height_of right.now) < 2 ^ 63 }
+    ensures { MatchBool result ((height_of left.now ≤ height_of right.now + 1) × (height_of right.now ≤ height_of left.now + 1)) (height_of left.now ≤ height_of right.now + 1 → height_of left.now + 1 < height_of right.now) }
+{
+    let (high_left, high_right) = (height(left), height(right));
+    high_left <= high_right + 1 && high_right <= high_left + 1
+}
+
+/// The height of a node from which two trees hang.
+pub fn height_over<T>(left: &Link<T>, right: &Link<T>) -> u64
+    requires limit { max (height_of left.now) (height_of right.now) < 2 ^ 63 }
+    requires not_left { height_of left.now ≤ height_of right.now + 1 }
+    requires not_right { height_of right.now ≤ height_of left.now + 1 }
+    ensures value { result ≡ max (height_of left.now) (height_of right.now) + 1 }
+    ensures tall { IsTall result (length (entries_in left.now) + (length (entries_in right.now) + 1)) }
+{
+    height(left).max(height(right)) + 1
+}
+
+/// The greatest size below a node from which two trees hang, and which has an entry of a size.
+pub fn greatest_over<T>(left: &Link<T>, size: u64, right: &Link<T>) -> u64
+    ensures { result ≡ max (max (greatest_size (entries_in left.now)) (greatest_size (entries_in right.now))) size }
+{
+    greatest(left).max(greatest(right)).max(size)
+}
+
 /// Takes the subtrees off a node.
 pub fn split<T: Copy>(mut node: Box<Node<T>>) -> (Link<T>, Box<Node<T>>, Link<T>)
     requires alone { node.value.behind ≡ 0 }
@@ -95,11 +122,9 @@ pub fn join<T: Copy>(left: Link<T>, mut node: Box<Node<T>>, right: Link<T>) -> B
     ensures height { result.value.height ≡ max (height_of left) (height_of right) + 1 }
     ensures alone { result.value.behind ≡ 0 }
 {
-    let high = height(&left).max(height(&right)) + 1;
-    let most = greatest(&left).max(greatest(&right));
     let n = &mut *node;
-    n.height = high;
-    n.greatest = most.max(n.entry.size);
+    n.height = height_over(&left, &right);
+    n.greatest = greatest_over(&left, n.entry.size, &right);
     n.left = left;
     n.right = right;
     node

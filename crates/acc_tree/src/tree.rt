@@ -5,7 +5,7 @@ ghost use Rattle.acc_tree.specs.Growing.{with_range, IsClear};
 ghost use Rattle.acc_tree.specs.Nodes.{length_of, IsChain};
 
 use crate::entries::{Around, Entry};
-use crate::nodes::{Link, height_law, new_node, pop, push, put_away};
+use crate::nodes::{Link, entry_of, height_law, new_node, pop, push, put_away};
 use crate::{changes, walks};
 use acc_base::{Fault, Steps};
 use std::alloc::Global;
@@ -211,7 +211,7 @@ impl<T: Copy> Tree<T> {
         };
         let (node, spare) = pop(chain);
         self.spare = spare;
-        self.root = Some(changes::insert(self.root.take(), node, entry));
+        changes::insert(&mut self.root, node, entry);
         self.len += 1;
     }
 
@@ -223,11 +223,8 @@ impl<T: Copy> Tree<T> {
         ensures room { self.new.room ≡ self.old.room + 1 }
     {
         height_law(&self.root);
-        let Some(root) = self.root.take() else {
-            unreachable!()
-        };
-        let (entry, node, root) = changes::remove(root, key);
-        self.root = root;
+        let node = changes::remove(&mut self.root, key);
+        let entry = entry_of(&node);
         self.spare = push(self.spare.take(), node);
         self.len -= 1;
         entry

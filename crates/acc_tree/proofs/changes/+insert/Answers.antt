@@ -1,48 +1,100 @@
-use Rattle.std.proofs.Common.{◌≡◌, ◌∷◌, ◌++◌, [], arith, ap, sym, ◌∙◌, List, Some}
+use Rattle.std.proofs.Common.{◌≡◌, arith, sym, ap, subst, ◌∙◌, List, Some}
 use Rattle.acc_tree.specs.declared.entries.Entry.{Entry}
 use Rattle.acc_tree.specs.Shape.{Shape}
-use Rattle.acc_tree.specs.Listing.{with_entry}
-use Rattle.acc_tree.specs.Nodes.{entries_in, height_of}
-use Rattle.acc_tree.proofs.Leaves.{around}
-use Rattle.acc_tree.proofs.Steps.{sides_of, with_left, with_right}
+use Rattle.acc_tree.specs.Listing.{KeysRise, with_entry}
+use Rattle.acc_tree.specs.Nodes.{entries_in, height_of, length_of, shape_of, tree_of}
+use Rattle.acc_tree.proofs.Steps.{Sides, sides}
+use Rattle.acc_tree.proofs.Mending.{IsPutIn, avl_over, avl_bare, leaf_bare, one_bare, joined_again, put_left, put_right}
 use Rattle.acc_tree.proofs.changes.+insert.Goals as goal
+use Rattle.acc_tree.proofs.changes.+insert.Goals.{then-entry-n, else-entry-n}
 
-pub insert-left-requires : goal.insert-left-requires
-insert-left-requires g t c κs within =
-    let is : c.args.tree ≡ Some c.in-Some.tree = c.in-Some.is in
-    let h : height_of c.args.tree ≡ c.in-Some.tree.value.height = ap height_of is in
-    let leaf = c.split-left.ensures.leaf in
-    let d = sides_of (entries_in c.args.tree) _ _ _ leaf.entry (ap entries_in is ∙ c.split-left.ensures.entries) leaf.entries c.requires.rising in
-    (omega (arith, c.split-left.ensures.height), (within, (c.requires.leaf, (c.split-left.ensures.balanced.left, (omega (arith, c.split-left.ensures.height), d.left)))))
+pub insert-requires : goal.insert-requires
+insert-requires g t c κs within =
+    let is : c.args.tree.now ≡ Some c.in-Some.top = sym c.take.ensures.value ∙ c.in-Some.is in
+    let view : shape_of c.n.inside ≡ c.in-Some.top.value = c.n.view_is ∙ c.deref_mut-n.ensures.value in
+    let whole : entries_in c.args.tree.now ≡ tree_of c.n.inside = ap entries_in is ∙ sym (ap (λ (s : Shape g.row.T.Denot). s.entries) view) in
+    let high : height_of c.args.tree.now ≡ c.n.inside.height = ap height_of is ∙ sym (ap (λ (s : Shape g.row.T.Denot). s.height) view) in
+    let rise : KeysRise (tree_of c.n.inside) = subst (λ (es : List (Entry g.row.T.Denot)). KeysRise es) whole c.requires.rising in
+    let d : Sides (entries_in c.n.inside.left) c.n.inside.entry (entries_in c.n.inside.right) = sides (entries_in c.n.inside.left) c.n.inside.entry (entries_in c.n.inside.right) rise in
+    (omega (arith, c.n.invariant.height), (within, (c.requires.leaf, (c.n.invariant.left, (omega (arith, c.n.invariant.height), d.left)))))
 
-pub insert-right-requires : goal.insert-right-requires
-insert-right-requires g t c κs within =
-    let is : c.args.tree ≡ Some c.in-Some.tree = c.in-Some.is in
-    let h : height_of c.args.tree ≡ c.in-Some.tree.value.height = ap height_of is in
-    let leaf = c.split-left.ensures.leaf in
-    let d = sides_of (entries_in c.args.tree) _ _ _ leaf.entry (ap entries_in is ∙ c.split-left.ensures.entries) leaf.entries c.requires.rising in
-    (omega (arith, c.split-left.ensures.height), (within, (c.requires.leaf, (c.split-left.ensures.balanced.right, (omega (arith, c.split-left.ensures.height), d.right)))))
+pub insert-requires-else-entry-n : goal.insert-requires-else-entry-n
+insert-requires-else-entry-n g t c κs within =
+    let is : c.args.tree.now ≡ Some c.in-Some.top = sym c.take.ensures.value ∙ c.in-Some.is in
+    let view : shape_of c.n.inside ≡ c.in-Some.top.value = c.n.view_is ∙ c.deref_mut-n.ensures.value in
+    let whole : entries_in c.args.tree.now ≡ tree_of c.n.inside = ap entries_in is ∙ sym (ap (λ (s : Shape g.row.T.Denot). s.entries) view) in
+    let high : height_of c.args.tree.now ≡ c.n.inside.height = ap height_of is ∙ sym (ap (λ (s : Shape g.row.T.Denot). s.height) view) in
+    let rise : KeysRise (tree_of c.n.inside) = subst (λ (es : List (Entry g.row.T.Denot)). KeysRise es) whole c.requires.rising in
+    let d : Sides (entries_in c.n.inside.left) c.n.inside.entry (entries_in c.n.inside.right) = sides (entries_in c.n.inside.left) c.n.inside.entry (entries_in c.n.inside.right) rise in
+    (omega (arith, c.n.invariant.height), (within, (c.requires.leaf, (c.n.invariant.right, (omega (arith, c.n.invariant.height), d.right)))))
 
-pub returns-then-entry-entry_of-clause-entries : goal.returns-then-entry-entry_of-clause-entries
-returns-then-entry-entry_of-clause-entries g t c =
-    let r = entries_in c.split-left.result.2 in
-    let x = c.entry_of.result in
-    let is : c.args.tree ≡ Some c.in-Some.tree = c.in-Some.is in
-    let top = c.split-left.result.1.value.entries in
-    let one : top ≡ x ∷ [] = ap (λ (s : Shape g.row.T.Denot). s.entries) (sym c.deref.ensures) ∙ c.entry_of.ensures in
-    let old = around _ _ top _ x (ap entries_in is ∙ c.split-left.ensures.entries) one in
-    let new = around _ _ top _ x (c.balance.ensures.entries) one in
-    new ∙ ap (λ (es : List (Entry g.row.T.Denot)). es ++ x ∷ r) c.insert-left.ensures.entries ∙ sym (with_left c.args.entry (entries_in c.split-left.result.0) x r c.if-entry-entry_of.true) ∙ sym (ap (with_entry c.args.entry) old)
+pub invariant_of-n : goal.invariant_of-n
+invariant_of-n g t c =
+    let is : c.args.tree.now ≡ Some c.in-Some.top = sym c.take.ensures.value ∙ c.in-Some.is in
+    let view : shape_of c.n.inside ≡ c.in-Some.top.value = c.n.view_is ∙ c.deref_mut-n.ensures.value in
+    let whole : entries_in c.args.tree.now ≡ tree_of c.n.inside = ap entries_in is ∙ sym (ap (λ (s : Shape g.row.T.Denot). s.entries) view) in
+    let high : height_of c.args.tree.now ≡ c.n.inside.height = ap height_of is ∙ sym (ap (λ (s : Shape g.row.T.Denot). s.height) view) in
+    let rise : KeysRise (tree_of c.n.inside) = subst (λ (es : List (Entry g.row.T.Denot)). KeysRise es) whole c.requires.rising in
+    let behind : length_of c.n.inside.next ≡ 0 = ap (λ (s : Shape g.row.T.Denot). s.behind) view ∙ (rw is at c.requires.alone) in
+    let m : IsPutIn c.args.entry c.n.inside c.if-entry-n.n-inside = elim c.if-entry-n.branch [
+      | then-entry-n w ↦ rw w.n-inside-is (put_left c.args.entry c.n.inside w.insert.new.tree c.n.invariant behind w.if-entry-n.true w.insert.ensures.entries w.insert.ensures.alone w.insert.ensures.not_lower w.insert.ensures.not_higher)
+      | else-entry-n w ↦ rw w.n-inside-is (put_right c.args.entry c.n.inside w.insert-else-entry-n.new.tree c.n.invariant behind w.if-entry-n.false rise w.insert-else-entry-n.ensures.entries w.insert-else-entry-n.ensures.alone w.insert-else-entry-n.ensures.not_lower w.insert-else-entry-n.ensures.not_higher)
+    ] in
+    avl_over c.if-entry-n.n-inside c.height_over-n-inside.result c.greatest_over-n-inside.result m.here c.if-is_even.ensures.0 c.if-is_even.ensures.1 c.height_over-n-inside.ensures.value c.height_over-n-inside.ensures.tall c.greatest_over-n-inside.ensures
 
-pub returns-else-entry-entry_of-clause-entries : goal.returns-else-entry-entry_of-clause-entries
-returns-else-entry-entry_of-clause-entries g t c =
-    let l = entries_in c.split-left.result.0 in
-    let x = c.entry_of.result in
-    let is : c.args.tree ≡ Some c.in-Some.tree = c.in-Some.is in
-    let top = c.split-left.result.1.value.entries in
-    let one : top ≡ x ∷ [] = ap (λ (s : Shape g.row.T.Denot). s.entries) (sym c.deref.ensures) ∙ c.entry_of.ensures in
-    let whole = ap entries_in is ∙ c.split-left.ensures.entries in
-    let old = around _ _ top _ x whole one in
-    let new = around _ _ top _ x (c.balance-else-entry-entry_of.ensures.entries) one in
-    let d = sides_of (entries_in c.args.tree) _ _ _ x whole one c.requires.rising in
-    new ∙ ap (λ (es : List (Entry g.row.T.Denot)). l ++ x ∷ es) c.insert-right.ensures.entries ∙ sym (with_right c.args.entry l x (entries_in c.split-left.result.2) c.if-entry-entry_of.false d.under) ∙ sym (ap (with_entry c.args.entry) old)
+pub invariant_of-n-else-is_even : goal.invariant_of-n-else-is_even
+invariant_of-n-else-is_even g t c =
+    let is : c.args.tree.now ≡ Some c.in-Some.top = sym c.take.ensures.value ∙ c.in-Some.is in
+    let view : shape_of c.n.inside ≡ c.in-Some.top.value = c.n.view_is ∙ c.deref_mut-n.ensures.value in
+    let whole : entries_in c.args.tree.now ≡ tree_of c.n.inside = ap entries_in is ∙ sym (ap (λ (s : Shape g.row.T.Denot). s.entries) view) in
+    let high : height_of c.args.tree.now ≡ c.n.inside.height = ap height_of is ∙ sym (ap (λ (s : Shape g.row.T.Denot). s.height) view) in
+    let rise : KeysRise (tree_of c.n.inside) = subst (λ (es : List (Entry g.row.T.Denot)). KeysRise es) whole c.requires.rising in
+    let behind : length_of c.n.inside.next ≡ 0 = ap (λ (s : Shape g.row.T.Denot). s.behind) view ∙ (rw is at c.requires.alone) in
+    let m : IsPutIn c.args.entry c.n.inside c.if-entry-n.n-inside = elim c.if-entry-n.branch [
+      | then-entry-n w ↦ rw w.n-inside-is (put_left c.args.entry c.n.inside w.insert.new.tree c.n.invariant behind w.if-entry-n.true w.insert.ensures.entries w.insert.ensures.alone w.insert.ensures.not_lower w.insert.ensures.not_higher)
+      | else-entry-n w ↦ rw w.n-inside-is (put_right c.args.entry c.n.inside w.insert-else-entry-n.new.tree c.n.invariant behind w.if-entry-n.false rise w.insert-else-entry-n.ensures.entries w.insert-else-entry-n.ensures.alone w.insert-else-entry-n.ensures.not_lower w.insert-else-entry-n.ensures.not_higher)
+    ] in
+    avl_bare c.if-entry-n.n-inside c.take-left.new.self c.take-right.new.self m.here c.take-left.ensures.after c.take-right.ensures.after
+
+pub balance-requires-clause-leaf : goal.balance-requires-clause-leaf
+balance-requires-clause-leaf g t c =
+    let is : c.args.tree.now ≡ Some c.in-Some.top = sym c.take.ensures.value ∙ c.in-Some.is in
+    let view : shape_of c.n.inside ≡ c.in-Some.top.value = c.n.view_is ∙ c.deref_mut-n.ensures.value in
+    let whole : entries_in c.args.tree.now ≡ tree_of c.n.inside = ap entries_in is ∙ sym (ap (λ (s : Shape g.row.T.Denot). s.entries) view) in
+    let high : height_of c.args.tree.now ≡ c.n.inside.height = ap height_of is ∙ sym (ap (λ (s : Shape g.row.T.Denot). s.height) view) in
+    let rise : KeysRise (tree_of c.n.inside) = subst (λ (es : List (Entry g.row.T.Denot)). KeysRise es) whole c.requires.rising in
+    let behind : length_of c.n.inside.next ≡ 0 = ap (λ (s : Shape g.row.T.Denot). s.behind) view ∙ (rw is at c.requires.alone) in
+    let m : IsPutIn c.args.entry c.n.inside c.if-entry-n.n-inside = elim c.if-entry-n.branch [
+      | then-entry-n w ↦ rw w.n-inside-is (put_left c.args.entry c.n.inside w.insert.new.tree c.n.invariant behind w.if-entry-n.true w.insert.ensures.entries w.insert.ensures.alone w.insert.ensures.not_lower w.insert.ensures.not_higher)
+      | else-entry-n w ↦ rw w.n-inside-is (put_right c.args.entry c.n.inside w.insert-else-entry-n.new.tree c.n.invariant behind w.if-entry-n.false rise w.insert-else-entry-n.ensures.entries w.insert-else-entry-n.ensures.alone w.insert-else-entry-n.ensures.not_lower w.insert-else-entry-n.ensures.not_higher)
+    ] in
+    leaf_bare c.if-entry-n.n-inside c.take-left.new.self c.take-right.new.self m.here c.take-left.ensures.after c.take-right.ensures.after
+
+pub returns-then-is_even-clause-entries : goal.returns-then-is_even-clause-entries
+returns-then-is_even-clause-entries g t c =
+    let is : c.args.tree.now ≡ Some c.in-Some.top = sym c.take.ensures.value ∙ c.in-Some.is in
+    let view : shape_of c.n.inside ≡ c.in-Some.top.value = c.n.view_is ∙ c.deref_mut-n.ensures.value in
+    let whole : entries_in c.args.tree.now ≡ tree_of c.n.inside = ap entries_in is ∙ sym (ap (λ (s : Shape g.row.T.Denot). s.entries) view) in
+    let high : height_of c.args.tree.now ≡ c.n.inside.height = ap height_of is ∙ sym (ap (λ (s : Shape g.row.T.Denot). s.height) view) in
+    let rise : KeysRise (tree_of c.n.inside) = subst (λ (es : List (Entry g.row.T.Denot)). KeysRise es) whole c.requires.rising in
+    let behind : length_of c.n.inside.next ≡ 0 = ap (λ (s : Shape g.row.T.Denot). s.behind) view ∙ (rw is at c.requires.alone) in
+    let m : IsPutIn c.args.entry c.n.inside c.if-entry-n.n-inside = elim c.if-entry-n.branch [
+      | then-entry-n w ↦ rw w.n-inside-is (put_left c.args.entry c.n.inside w.insert.new.tree c.n.invariant behind w.if-entry-n.true w.insert.ensures.entries w.insert.ensures.alone w.insert.ensures.not_lower w.insert.ensures.not_higher)
+      | else-entry-n w ↦ rw w.n-inside-is (put_right c.args.entry c.n.inside w.insert-else-entry-n.new.tree c.n.invariant behind w.if-entry-n.false rise w.insert-else-entry-n.ensures.entries w.insert-else-entry-n.ensures.alone w.insert-else-entry-n.ensures.not_lower w.insert-else-entry-n.ensures.not_higher)
+    ] in
+    m.entries ∙ sym (ap (with_entry c.args.entry) whole)
+
+pub returns-else-is_even-clause-entries : goal.returns-else-is_even-clause-entries
+returns-else-is_even-clause-entries g t c =
+    let is : c.args.tree.now ≡ Some c.in-Some.top = sym c.take.ensures.value ∙ c.in-Some.is in
+    let view : shape_of c.n.inside ≡ c.in-Some.top.value = c.n.view_is ∙ c.deref_mut-n.ensures.value in
+    let whole : entries_in c.args.tree.now ≡ tree_of c.n.inside = ap entries_in is ∙ sym (ap (λ (s : Shape g.row.T.Denot). s.entries) view) in
+    let high : height_of c.args.tree.now ≡ c.n.inside.height = ap height_of is ∙ sym (ap (λ (s : Shape g.row.T.Denot). s.height) view) in
+    let rise : KeysRise (tree_of c.n.inside) = subst (λ (es : List (Entry g.row.T.Denot)). KeysRise es) whole c.requires.rising in
+    let behind : length_of c.n.inside.next ≡ 0 = ap (λ (s : Shape g.row.T.Denot). s.behind) view ∙ (rw is at c.requires.alone) in
+    let m : IsPutIn c.args.entry c.n.inside c.if-entry-n.n-inside = elim c.if-entry-n.branch [
+      | then-entry-n w ↦ rw w.n-inside-is (put_left c.args.entry c.n.inside w.insert.new.tree c.n.invariant behind w.if-entry-n.true w.insert.ensures.entries w.insert.ensures.alone w.insert.ensures.not_lower w.insert.ensures.not_higher)
+      | else-entry-n w ↦ rw w.n-inside-is (put_right c.args.entry c.n.inside w.insert-else-entry-n.new.tree c.n.invariant behind w.if-entry-n.false rise w.insert-else-entry-n.ensures.entries w.insert-else-entry-n.ensures.alone w.insert-else-entry-n.ensures.not_lower w.insert-else-entry-n.ensures.not_higher)
+    ] in
+    let one = one_bare c.if-entry-n.n-inside c.take-left.new.self c.take-right.new.self c.take-left.ensures.after c.take-right.ensures.after in
+    joined_again c.if-entry-n.n-inside c.balance.result.value.entries _ c.take-left.result c.take-right.result c.take-left.ensures.value c.take-right.ensures.value c.balance.ensures.entries one ∙ m.entries ∙ sym (ap (with_entry c.args.entry) whole)

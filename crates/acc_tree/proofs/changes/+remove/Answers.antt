@@ -1,134 +1,215 @@
-use Rattle.std.proofs.Common.{◌≡◌, ◌∷◌, ◌++◌, [], arith, rules, refl, sym, ap, ◌∙◌, List, Option, Some, None, IsSome, subst}
+use Rattle.std.proofs.Common.{◌≡◌, ◌∷◌, [], arith, sym, ap, subst, ◌∙◌, List, Some, IsSome}
+use Rattle.std.specs.Prelude.{IfSome}
 use Rattle.acc_tree.specs.declared.entries.Entry.{Entry}
 use Rattle.acc_tree.specs.Shape.{Shape}
-use Rattle.acc_tree.specs.Listing.{at_key, without_key}
-use Rattle.acc_tree.specs.Nodes.{entries_in, height_of}
-use Rattle.acc_tree.proofs.Leaves.{around}
-use Rattle.acc_tree.proofs.Steps.{Sides, sides_of, at_left, at_here, at_right, without_left, without_here, without_right}
+use Rattle.acc_tree.specs.Listing.{KeysRise, at_key, without_key}
+use Rattle.acc_tree.specs.Nodes.{entries_in, height_of, length_of, shape_of, tree_of}
+use Rattle.acc_tree.proofs.Steps.{Sides, sides, at_left, at_here, at_right, without_here}
+use Rattle.acc_tree.proofs.Mending.{IsTakenOut, avl_open, avl_over, avl_bare, leaf_bare, one_bare, joined_again, out_left, out_right}
 use Rattle.acc_tree.proofs.changes.+remove.Goals as goal
+use Rattle.acc_tree.proofs.changes.+remove.Goals.{then-key-here-2, else-key-here-2}
 
-pub unreachable-requires : goal.unreachable-requires
-unreachable-requires g t c =
-    let l = entries_in c.split-left.result.0 in
-    let r = entries_in c.split-left.result.2 in
-    let x = c.entry_of-here.result in
-    let top = c.split-left.result.1.value.entries in
-    let one : top ≡ x ∷ [] = ap (λ (s : Shape g.row.T.Denot). s.entries) (sym c.deref.ensures) ∙ c.entry_of-here.ensures in
-    let old = around _ l top r x c.split-left.ensures.entries one in
-    let d : Sides l x r = sides_of c.args.tree.value.entries l top r x c.split-left.ensures.entries one c.requires.rising in
-    let there : IsSome (at_key c.args.key l) = subst (λ (o : Option (Entry g.row.T.Denot)). IsSome o) (ap (at_key c.args.key) old ∙ at_left c.args.key l x r c.if-key-here.true d) c.requires.there in
-    let none : at_key c.args.key l ≡ None = rw c.in_default.is refl in
-    absurd (search (rules, rw none at there))
+pub returns-then-key-here-clause-entry : goal.returns-then-key-here-clause-entry
+returns-then-key-here-clause-entry g t c =
+    let is : c.args.tree.now ≡ Some c.in-Some.top = sym c.take.ensures.value ∙ c.in-Some.is in
+    let view : shape_of c.n.inside ≡ c.in-Some.top.value = c.n.view_is ∙ c.deref_mut-n.ensures.value in
+    let whole : entries_in c.args.tree.now ≡ tree_of c.n.inside = ap entries_in is ∙ sym (ap (λ (s : Shape g.row.T.Denot). s.entries) view) in
+    let high : height_of c.args.tree.now ≡ c.n.inside.height = ap height_of is ∙ sym (ap (λ (s : Shape g.row.T.Denot). s.height) view) in
+    let rise : KeysRise (tree_of c.n.inside) = subst (λ (es : List (Entry g.row.T.Denot)). KeysRise es) whole c.requires.rising in
+    let l = entries_in c.n.inside.left in
+    let r = entries_in c.n.inside.right in
+    let x = c.n.inside.entry in
+    let d : Sides l x r = sides l x r rise in
+    let found = ap (at_key c.args.key) whole ∙ at_here c.args.key l x r (omega arith) d in
+    let one = one_bare c.n.inside c.take-left.new.self c.take-right.new.self c.take-left.ensures.after c.take-right.ensures.after in
+    rw found one
 
-pub remove-entry-requires : goal.remove-entry-requires
-remove-entry-requires g t c κs within =
-    let l = entries_in c.split-left.result.0 in
-    let r = entries_in c.split-left.result.2 in
-    let x = c.entry_of-here.result in
-    let top = c.split-left.result.1.value.entries in
-    let one : top ≡ x ∷ [] = ap (λ (s : Shape g.row.T.Denot). s.entries) (sym c.deref.ensures) ∙ c.entry_of-here.ensures in
-    let old = around _ l top r x c.split-left.ensures.entries one in
-    let d : Sides l x r = sides_of c.args.tree.value.entries l top r x c.split-left.ensures.entries one c.requires.rising in
-    let there : IsSome (at_key c.args.key l) = subst (λ (o : Option (Entry g.row.T.Denot)). IsSome o) (ap (at_key c.args.key) old ∙ at_left c.args.key l x r c.if-key-here.true d) c.requires.there in
-    let is : c.split-left.result.0 ≡ Some c.in-Some.left = c.in-Some.is in
-    let h : height_of c.split-left.result.0 ≡ c.in-Some.left.value.height = ap height_of is in
-    (omega (arith, c.split-left.ensures.height), (within, (rw is at c.split-left.ensures.balanced.left, (omega (arith, c.split-left.ensures.height), (rw is at d.left, rw is at there)))))
+pub returns-then-key-here-clause-entries : goal.returns-then-key-here-clause-entries
+returns-then-key-here-clause-entries g t c =
+    let is : c.args.tree.now ≡ Some c.in-Some.top = sym c.take.ensures.value ∙ c.in-Some.is in
+    let view : shape_of c.n.inside ≡ c.in-Some.top.value = c.n.view_is ∙ c.deref_mut-n.ensures.value in
+    let whole : entries_in c.args.tree.now ≡ tree_of c.n.inside = ap entries_in is ∙ sym (ap (λ (s : Shape g.row.T.Denot). s.entries) view) in
+    let high : height_of c.args.tree.now ≡ c.n.inside.height = ap height_of is ∙ sym (ap (λ (s : Shape g.row.T.Denot). s.height) view) in
+    let rise : KeysRise (tree_of c.n.inside) = subst (λ (es : List (Entry g.row.T.Denot)). KeysRise es) whole c.requires.rising in
+    let l = entries_in c.n.inside.left in
+    let r = entries_in c.n.inside.right in
+    let x = c.n.inside.entry in
+    let d : Sides l x r = sides l x r rise in
+    c.merge.ensures.entries ∙ rw (c.take-left.ensures.value, c.take-right.ensures.value) (sym (without_here c.args.key l x r (omega arith) d)) ∙ sym (ap (without_key c.args.key) whole)
 
-pub unreachable-requires-in_default-right : goal.unreachable-requires-in_default-right
-unreachable-requires-in_default-right g t c =
-    let l = entries_in c.split-left.result.0 in
-    let r = entries_in c.split-left.result.2 in
-    let x = c.entry_of-here.result in
-    let top = c.split-left.result.1.value.entries in
-    let one : top ≡ x ∷ [] = ap (λ (s : Shape g.row.T.Denot). s.entries) (sym c.deref.ensures) ∙ c.entry_of-here.ensures in
-    let old = around _ l top r x c.split-left.ensures.entries one in
-    let d : Sides l x r = sides_of c.args.tree.value.entries l top r x c.split-left.ensures.entries one c.requires.rising in
-    let there : IsSome (at_key c.args.key r) = subst (λ (o : Option (Entry g.row.T.Denot)). IsSome o) (ap (at_key c.args.key) old ∙ at_right c.args.key l x r c.if-here-key.true d) c.requires.there in
-    let none : at_key c.args.key r ≡ None = rw c.in_default-right.is refl in
-    absurd (search (rules, rw none at there))
+pub remove-freed-requires : goal.remove-freed-requires
+remove-freed-requires g t c κs within =
+    let is : c.args.tree.now ≡ Some c.in-Some.top = sym c.take.ensures.value ∙ c.in-Some.is in
+    let view : shape_of c.n.inside ≡ c.in-Some.top.value = c.n.view_is ∙ c.deref_mut-n.ensures.value in
+    let whole : entries_in c.args.tree.now ≡ tree_of c.n.inside = ap entries_in is ∙ sym (ap (λ (s : Shape g.row.T.Denot). s.entries) view) in
+    let high : height_of c.args.tree.now ≡ c.n.inside.height = ap height_of is ∙ sym (ap (λ (s : Shape g.row.T.Denot). s.height) view) in
+    let rise : KeysRise (tree_of c.n.inside) = subst (λ (es : List (Entry g.row.T.Denot)). KeysRise es) whole c.requires.rising in
+    let l = entries_in c.n.inside.left in
+    let r = entries_in c.n.inside.right in
+    let x = c.n.inside.entry in
+    let d : Sides l x r = sides l x r rise in
+    let at = ap (at_key c.args.key) whole ∙ at_left c.args.key l x r c.if-key-here-2.true d in
+    let some : IsSome (at_key c.args.key l) = rw at at c.requires.there in
+    (omega (arith, c.n.invariant.height), (within, (c.n.invariant.left, (omega (arith, c.n.invariant.height), (d.left, some)))))
 
-pub remove-entry-requires-then-here-key : goal.remove-entry-requires-then-here-key
-remove-entry-requires-then-here-key g t c κs within =
-    let l = entries_in c.split-left.result.0 in
-    let r = entries_in c.split-left.result.2 in
-    let x = c.entry_of-here.result in
-    let top = c.split-left.result.1.value.entries in
-    let one : top ≡ x ∷ [] = ap (λ (s : Shape g.row.T.Denot). s.entries) (sym c.deref.ensures) ∙ c.entry_of-here.ensures in
-    let old = around _ l top r x c.split-left.ensures.entries one in
-    let d : Sides l x r = sides_of c.args.tree.value.entries l top r x c.split-left.ensures.entries one c.requires.rising in
-    let there : IsSome (at_key c.args.key r) = subst (λ (o : Option (Entry g.row.T.Denot)). IsSome o) (ap (at_key c.args.key) old ∙ at_right c.args.key l x r c.if-here-key.true d) c.requires.there in
-    let is : c.split-left.result.2 ≡ Some c.in-Some-right.right = c.in-Some-right.is in
-    let h : height_of c.split-left.result.2 ≡ c.in-Some-right.right.value.height = ap height_of is in
-    (omega (arith, c.split-left.ensures.height), (within, (rw is at c.split-left.ensures.balanced.right, (omega (arith, c.split-left.ensures.height), (rw is at d.right, rw is at there)))))
+pub remove-freed-requires-else-key-here-2 : goal.remove-freed-requires-else-key-here-2
+remove-freed-requires-else-key-here-2 g t c κs within =
+    let is : c.args.tree.now ≡ Some c.in-Some.top = sym c.take.ensures.value ∙ c.in-Some.is in
+    let view : shape_of c.n.inside ≡ c.in-Some.top.value = c.n.view_is ∙ c.deref_mut-n.ensures.value in
+    let whole : entries_in c.args.tree.now ≡ tree_of c.n.inside = ap entries_in is ∙ sym (ap (λ (s : Shape g.row.T.Denot). s.entries) view) in
+    let high : height_of c.args.tree.now ≡ c.n.inside.height = ap height_of is ∙ sym (ap (λ (s : Shape g.row.T.Denot). s.height) view) in
+    let rise : KeysRise (tree_of c.n.inside) = subst (λ (es : List (Entry g.row.T.Denot)). KeysRise es) whole c.requires.rising in
+    let l = entries_in c.n.inside.left in
+    let r = entries_in c.n.inside.right in
+    let x = c.n.inside.entry in
+    let d : Sides l x r = sides l x r rise in
+    let at = ap (at_key c.args.key) whole ∙ at_right c.args.key l x r (omega arith) d in
+    let some : IsSome (at_key c.args.key r) = rw at at c.requires.there in
+    (omega (arith, c.n.invariant.height), (within, (c.n.invariant.right, (omega (arith, c.n.invariant.height), (d.right, some)))))
 
-pub returns-in-Some-clause-entry : goal.returns-in-Some-clause-entry
-returns-in-Some-clause-entry g t c =
-    let l = entries_in c.split-left.result.0 in
-    let r = entries_in c.split-left.result.2 in
-    let x = c.entry_of-here.result in
-    let top = c.split-left.result.1.value.entries in
-    let one : top ≡ x ∷ [] = ap (λ (s : Shape g.row.T.Denot). s.entries) (sym c.deref.ensures) ∙ c.entry_of-here.ensures in
-    let old = around _ l top r x c.split-left.ensures.entries one in
-    let d : Sides l x r = sides_of c.args.tree.value.entries l top r x c.split-left.ensures.entries one c.requires.rising in
-    let is : c.split-left.result.0 ≡ Some c.in-Some.left = c.in-Some.is in
-    ap (at_key c.args.key) old ∙ at_left c.args.key l x r c.if-key-here.true d ∙ ap (λ (k : List (Entry g.row.T.Denot)). at_key c.args.key k) (ap entries_in is) ∙ c.remove-entry.ensures.entry
+pub invariant_of-n : goal.invariant_of-n
+invariant_of-n g t c =
+    let is : c.args.tree.now ≡ Some c.in-Some.top = sym c.take.ensures.value ∙ c.in-Some.is in
+    let view : shape_of c.n.inside ≡ c.in-Some.top.value = c.n.view_is ∙ c.deref_mut-n.ensures.value in
+    let whole : entries_in c.args.tree.now ≡ tree_of c.n.inside = ap entries_in is ∙ sym (ap (λ (s : Shape g.row.T.Denot). s.entries) view) in
+    let high : height_of c.args.tree.now ≡ c.n.inside.height = ap height_of is ∙ sym (ap (λ (s : Shape g.row.T.Denot). s.height) view) in
+    let rise : KeysRise (tree_of c.n.inside) = subst (λ (es : List (Entry g.row.T.Denot)). KeysRise es) whole c.requires.rising in
+    let behind : length_of c.n.inside.next ≡ 0 = ap (λ (s : Shape g.row.T.Denot). s.behind) view ∙ (rw is at c.requires.alone) in
+    avl_bare c.n.inside c.take-left.new.self c.take-right.new.self (avl_open c.n.inside c.n.invariant behind) c.take-left.ensures.after c.take-right.ensures.after
 
-pub returns-in-Some-clause-entries : goal.returns-in-Some-clause-entries
-returns-in-Some-clause-entries g t c =
-    let l = entries_in c.split-left.result.0 in
-    let r = entries_in c.split-left.result.2 in
-    let x = c.entry_of-here.result in
-    let top = c.split-left.result.1.value.entries in
-    let one : top ≡ x ∷ [] = ap (λ (s : Shape g.row.T.Denot). s.entries) (sym c.deref.ensures) ∙ c.entry_of-here.ensures in
-    let old = around _ l top r x c.split-left.ensures.entries one in
-    let d : Sides l x r = sides_of c.args.tree.value.entries l top r x c.split-left.ensures.entries one c.requires.rising in
-    let new = around _ (entries_in c.remove-entry.result.2) top r x c.balance.ensures.entries one in
-    let is : c.split-left.result.0 ≡ Some c.in-Some.left = c.in-Some.is in
-    new ∙ ap (λ (es : List (Entry g.row.T.Denot)). es ++ x ∷ r) (c.remove-entry.ensures.entries ∙ ap (without_key c.args.key) (sym (ap entries_in is))) ∙ sym (without_left c.args.key l x r c.if-key-here.true d) ∙ sym (ap (without_key c.args.key) old)
+pub returns-then-key-here-clause-leaf : goal.returns-then-key-here-clause-leaf
+returns-then-key-here-clause-leaf g t c =
+    let is : c.args.tree.now ≡ Some c.in-Some.top = sym c.take.ensures.value ∙ c.in-Some.is in
+    let view : shape_of c.n.inside ≡ c.in-Some.top.value = c.n.view_is ∙ c.deref_mut-n.ensures.value in
+    let whole : entries_in c.args.tree.now ≡ tree_of c.n.inside = ap entries_in is ∙ sym (ap (λ (s : Shape g.row.T.Denot). s.entries) view) in
+    let high : height_of c.args.tree.now ≡ c.n.inside.height = ap height_of is ∙ sym (ap (λ (s : Shape g.row.T.Denot). s.height) view) in
+    let rise : KeysRise (tree_of c.n.inside) = subst (λ (es : List (Entry g.row.T.Denot)). KeysRise es) whole c.requires.rising in
+    let behind : length_of c.n.inside.next ≡ 0 = ap (λ (s : Shape g.row.T.Denot). s.behind) view ∙ (rw is at c.requires.alone) in
+    leaf_bare c.n.inside c.take-left.new.self c.take-right.new.self (avl_open c.n.inside c.n.invariant behind) c.take-left.ensures.after c.take-right.ensures.after
 
-pub returns-in-Some-right-clause-entry : goal.returns-in-Some-right-clause-entry
-returns-in-Some-right-clause-entry g t c =
-    let l = entries_in c.split-left.result.0 in
-    let r = entries_in c.split-left.result.2 in
-    let x = c.entry_of-here.result in
-    let top = c.split-left.result.1.value.entries in
-    let one : top ≡ x ∷ [] = ap (λ (s : Shape g.row.T.Denot). s.entries) (sym c.deref.ensures) ∙ c.entry_of-here.ensures in
-    let old = around _ l top r x c.split-left.ensures.entries one in
-    let d : Sides l x r = sides_of c.args.tree.value.entries l top r x c.split-left.ensures.entries one c.requires.rising in
-    let is : c.split-left.result.2 ≡ Some c.in-Some-right.right = c.in-Some-right.is in
-    ap (at_key c.args.key) old ∙ at_right c.args.key l x r c.if-here-key.true d ∙ ap (λ (k : List (Entry g.row.T.Denot)). at_key c.args.key k) (ap entries_in is) ∙ c.remove-entry-then-here-key.ensures.entry
+pub invariant_of-n-then-is_even : goal.invariant_of-n-then-is_even
+invariant_of-n-then-is_even g t c =
+    let is : c.args.tree.now ≡ Some c.in-Some.top = sym c.take.ensures.value ∙ c.in-Some.is in
+    let view : shape_of c.n.inside ≡ c.in-Some.top.value = c.n.view_is ∙ c.deref_mut-n.ensures.value in
+    let whole : entries_in c.args.tree.now ≡ tree_of c.n.inside = ap entries_in is ∙ sym (ap (λ (s : Shape g.row.T.Denot). s.entries) view) in
+    let high : height_of c.args.tree.now ≡ c.n.inside.height = ap height_of is ∙ sym (ap (λ (s : Shape g.row.T.Denot). s.height) view) in
+    let rise : KeysRise (tree_of c.n.inside) = subst (λ (es : List (Entry g.row.T.Denot)). KeysRise es) whole c.requires.rising in
+    let behind : length_of c.n.inside.next ≡ 0 = ap (λ (s : Shape g.row.T.Denot). s.behind) view ∙ (rw is at c.requires.alone) in
+    let m : IsTakenOut c.args.key c.n.inside c.if-key-here-2.n-inside c.if-key-here-2.freed.value = elim c.if-key-here-2.branch [
+      | then-key-here-2 w ↦ rw (w.n-inside-is, w.freed-is) (out_left c.args.key c.n.inside w.remove-freed.new.tree w.remove-freed.result.value c.n.invariant behind w.if-key-here-2.true rise w.remove-freed.ensures.leaf w.remove-freed.ensures.entry w.remove-freed.ensures.entries w.remove-freed.ensures.length w.remove-freed.ensures.alone w.remove-freed.ensures.height)
+      | else-key-here-2 w ↦ rw (w.n-inside-is, w.freed-is) (out_right c.args.key c.n.inside w.remove-freed-else-key-here-2.new.tree w.remove-freed-else-key-here-2.result.value c.n.invariant behind (omega arith) rise w.remove-freed-else-key-here-2.ensures.leaf w.remove-freed-else-key-here-2.ensures.entry w.remove-freed-else-key-here-2.ensures.entries w.remove-freed-else-key-here-2.ensures.length w.remove-freed-else-key-here-2.ensures.alone w.remove-freed-else-key-here-2.ensures.height)
+    ] in
+    avl_over c.if-key-here-2.n-inside c.height_over-n-inside.result c.greatest_over-n-inside.result m.here c.if-is_even.ensures.0 c.if-is_even.ensures.1 c.height_over-n-inside.ensures.value c.height_over-n-inside.ensures.tall c.greatest_over-n-inside.ensures
 
-pub returns-in-Some-right-clause-entries : goal.returns-in-Some-right-clause-entries
-returns-in-Some-right-clause-entries g t c =
-    let l = entries_in c.split-left.result.0 in
-    let r = entries_in c.split-left.result.2 in
-    let x = c.entry_of-here.result in
-    let top = c.split-left.result.1.value.entries in
-    let one : top ≡ x ∷ [] = ap (λ (s : Shape g.row.T.Denot). s.entries) (sym c.deref.ensures) ∙ c.entry_of-here.ensures in
-    let old = around _ l top r x c.split-left.ensures.entries one in
-    let d : Sides l x r = sides_of c.args.tree.value.entries l top r x c.split-left.ensures.entries one c.requires.rising in
-    let new = around _ l top (entries_in c.remove-entry-then-here-key.result.2) x c.balance-then-here-key.ensures.entries one in
-    let is : c.split-left.result.2 ≡ Some c.in-Some-right.right = c.in-Some-right.is in
-    new ∙ ap (λ (es : List (Entry g.row.T.Denot)). l ++ x ∷ es) (c.remove-entry-then-here-key.ensures.entries ∙ ap (without_key c.args.key) (sym (ap entries_in is))) ∙ sym (without_right c.args.key l x r c.if-here-key.true d) ∙ sym (ap (without_key c.args.key) old)
+pub invariant_of-n-else-is_even : goal.invariant_of-n-else-is_even
+invariant_of-n-else-is_even g t c =
+    let is : c.args.tree.now ≡ Some c.in-Some.top = sym c.take.ensures.value ∙ c.in-Some.is in
+    let view : shape_of c.n.inside ≡ c.in-Some.top.value = c.n.view_is ∙ c.deref_mut-n.ensures.value in
+    let whole : entries_in c.args.tree.now ≡ tree_of c.n.inside = ap entries_in is ∙ sym (ap (λ (s : Shape g.row.T.Denot). s.entries) view) in
+    let high : height_of c.args.tree.now ≡ c.n.inside.height = ap height_of is ∙ sym (ap (λ (s : Shape g.row.T.Denot). s.height) view) in
+    let rise : KeysRise (tree_of c.n.inside) = subst (λ (es : List (Entry g.row.T.Denot)). KeysRise es) whole c.requires.rising in
+    let behind : length_of c.n.inside.next ≡ 0 = ap (λ (s : Shape g.row.T.Denot). s.behind) view ∙ (rw is at c.requires.alone) in
+    let m : IsTakenOut c.args.key c.n.inside c.if-key-here-2.n-inside c.if-key-here-2.freed.value = elim c.if-key-here-2.branch [
+      | then-key-here-2 w ↦ rw (w.n-inside-is, w.freed-is) (out_left c.args.key c.n.inside w.remove-freed.new.tree w.remove-freed.result.value c.n.invariant behind w.if-key-here-2.true rise w.remove-freed.ensures.leaf w.remove-freed.ensures.entry w.remove-freed.ensures.entries w.remove-freed.ensures.length w.remove-freed.ensures.alone w.remove-freed.ensures.height)
+      | else-key-here-2 w ↦ rw (w.n-inside-is, w.freed-is) (out_right c.args.key c.n.inside w.remove-freed-else-key-here-2.new.tree w.remove-freed-else-key-here-2.result.value c.n.invariant behind (omega arith) rise w.remove-freed-else-key-here-2.ensures.leaf w.remove-freed-else-key-here-2.ensures.entry w.remove-freed-else-key-here-2.ensures.entries w.remove-freed-else-key-here-2.ensures.length w.remove-freed-else-key-here-2.ensures.alone w.remove-freed-else-key-here-2.ensures.height)
+    ] in
+    avl_bare c.if-key-here-2.n-inside c.take-left-else-is_even.new.self c.take-right-else-is_even.new.self m.here c.take-left-else-is_even.ensures.after c.take-right-else-is_even.ensures.after
 
-pub returns-else-here-key-clause-entry : goal.returns-else-here-key-clause-entry
-returns-else-here-key-clause-entry g t c =
-    let l = entries_in c.split-left.result.0 in
-    let r = entries_in c.split-left.result.2 in
-    let x = c.entry_of-here.result in
-    let top = c.split-left.result.1.value.entries in
-    let one : top ≡ x ∷ [] = ap (λ (s : Shape g.row.T.Denot). s.entries) (sym c.deref.ensures) ∙ c.entry_of-here.ensures in
-    let old = around _ l top r x c.split-left.ensures.entries one in
-    let d : Sides l x r = sides_of c.args.tree.value.entries l top r x c.split-left.ensures.entries one c.requires.rising in
-    ap (at_key c.args.key) old ∙ at_here c.args.key l x r (omega arith) d
+pub balance-requires-clause-leaf : goal.balance-requires-clause-leaf
+balance-requires-clause-leaf g t c =
+    let is : c.args.tree.now ≡ Some c.in-Some.top = sym c.take.ensures.value ∙ c.in-Some.is in
+    let view : shape_of c.n.inside ≡ c.in-Some.top.value = c.n.view_is ∙ c.deref_mut-n.ensures.value in
+    let whole : entries_in c.args.tree.now ≡ tree_of c.n.inside = ap entries_in is ∙ sym (ap (λ (s : Shape g.row.T.Denot). s.entries) view) in
+    let high : height_of c.args.tree.now ≡ c.n.inside.height = ap height_of is ∙ sym (ap (λ (s : Shape g.row.T.Denot). s.height) view) in
+    let rise : KeysRise (tree_of c.n.inside) = subst (λ (es : List (Entry g.row.T.Denot)). KeysRise es) whole c.requires.rising in
+    let behind : length_of c.n.inside.next ≡ 0 = ap (λ (s : Shape g.row.T.Denot). s.behind) view ∙ (rw is at c.requires.alone) in
+    let m : IsTakenOut c.args.key c.n.inside c.if-key-here-2.n-inside c.if-key-here-2.freed.value = elim c.if-key-here-2.branch [
+      | then-key-here-2 w ↦ rw (w.n-inside-is, w.freed-is) (out_left c.args.key c.n.inside w.remove-freed.new.tree w.remove-freed.result.value c.n.invariant behind w.if-key-here-2.true rise w.remove-freed.ensures.leaf w.remove-freed.ensures.entry w.remove-freed.ensures.entries w.remove-freed.ensures.length w.remove-freed.ensures.alone w.remove-freed.ensures.height)
+      | else-key-here-2 w ↦ rw (w.n-inside-is, w.freed-is) (out_right c.args.key c.n.inside w.remove-freed-else-key-here-2.new.tree w.remove-freed-else-key-here-2.result.value c.n.invariant behind (omega arith) rise w.remove-freed-else-key-here-2.ensures.leaf w.remove-freed-else-key-here-2.ensures.entry w.remove-freed-else-key-here-2.ensures.entries w.remove-freed-else-key-here-2.ensures.length w.remove-freed-else-key-here-2.ensures.alone w.remove-freed-else-key-here-2.ensures.height)
+    ] in
+    leaf_bare c.if-key-here-2.n-inside c.take-left-else-is_even.new.self c.take-right-else-is_even.new.self m.here c.take-left-else-is_even.ensures.after c.take-right-else-is_even.ensures.after
 
-pub returns-else-here-key-clause-entries : goal.returns-else-here-key-clause-entries
-returns-else-here-key-clause-entries g t c =
-    let l = entries_in c.split-left.result.0 in
-    let r = entries_in c.split-left.result.2 in
-    let x = c.entry_of-here.result in
-    let top = c.split-left.result.1.value.entries in
-    let one : top ≡ x ∷ [] = ap (λ (s : Shape g.row.T.Denot). s.entries) (sym c.deref.ensures) ∙ c.entry_of-here.ensures in
-    let old = around _ l top r x c.split-left.ensures.entries one in
-    let d : Sides l x r = sides_of c.args.tree.value.entries l top r x c.split-left.ensures.entries one c.requires.rising in
-    c.merge.ensures.entries ∙ sym (without_here c.args.key l x r (omega arith) d) ∙ sym (ap (without_key c.args.key) old)
+pub returns-then-is_even-clause-leaf : goal.returns-then-is_even-clause-leaf
+returns-then-is_even-clause-leaf g t c =
+    let is : c.args.tree.now ≡ Some c.in-Some.top = sym c.take.ensures.value ∙ c.in-Some.is in
+    let view : shape_of c.n.inside ≡ c.in-Some.top.value = c.n.view_is ∙ c.deref_mut-n.ensures.value in
+    let whole : entries_in c.args.tree.now ≡ tree_of c.n.inside = ap entries_in is ∙ sym (ap (λ (s : Shape g.row.T.Denot). s.entries) view) in
+    let high : height_of c.args.tree.now ≡ c.n.inside.height = ap height_of is ∙ sym (ap (λ (s : Shape g.row.T.Denot). s.height) view) in
+    let rise : KeysRise (tree_of c.n.inside) = subst (λ (es : List (Entry g.row.T.Denot)). KeysRise es) whole c.requires.rising in
+    let behind : length_of c.n.inside.next ≡ 0 = ap (λ (s : Shape g.row.T.Denot). s.behind) view ∙ (rw is at c.requires.alone) in
+    let m : IsTakenOut c.args.key c.n.inside c.if-key-here-2.n-inside c.if-key-here-2.freed.value = elim c.if-key-here-2.branch [
+      | then-key-here-2 w ↦ rw (w.n-inside-is, w.freed-is) (out_left c.args.key c.n.inside w.remove-freed.new.tree w.remove-freed.result.value c.n.invariant behind w.if-key-here-2.true rise w.remove-freed.ensures.leaf w.remove-freed.ensures.entry w.remove-freed.ensures.entries w.remove-freed.ensures.length w.remove-freed.ensures.alone w.remove-freed.ensures.height)
+      | else-key-here-2 w ↦ rw (w.n-inside-is, w.freed-is) (out_right c.args.key c.n.inside w.remove-freed-else-key-here-2.new.tree w.remove-freed-else-key-here-2.result.value c.n.invariant behind (omega arith) rise w.remove-freed-else-key-here-2.ensures.leaf w.remove-freed-else-key-here-2.ensures.entry w.remove-freed-else-key-here-2.ensures.entries w.remove-freed-else-key-here-2.ensures.length w.remove-freed-else-key-here-2.ensures.alone w.remove-freed-else-key-here-2.ensures.height)
+    ] in
+    m.leaf
+
+pub returns-then-is_even-clause-entry : goal.returns-then-is_even-clause-entry
+returns-then-is_even-clause-entry g t c =
+    let is : c.args.tree.now ≡ Some c.in-Some.top = sym c.take.ensures.value ∙ c.in-Some.is in
+    let view : shape_of c.n.inside ≡ c.in-Some.top.value = c.n.view_is ∙ c.deref_mut-n.ensures.value in
+    let whole : entries_in c.args.tree.now ≡ tree_of c.n.inside = ap entries_in is ∙ sym (ap (λ (s : Shape g.row.T.Denot). s.entries) view) in
+    let high : height_of c.args.tree.now ≡ c.n.inside.height = ap height_of is ∙ sym (ap (λ (s : Shape g.row.T.Denot). s.height) view) in
+    let rise : KeysRise (tree_of c.n.inside) = subst (λ (es : List (Entry g.row.T.Denot)). KeysRise es) whole c.requires.rising in
+    let behind : length_of c.n.inside.next ≡ 0 = ap (λ (s : Shape g.row.T.Denot). s.behind) view ∙ (rw is at c.requires.alone) in
+    let m : IsTakenOut c.args.key c.n.inside c.if-key-here-2.n-inside c.if-key-here-2.freed.value = elim c.if-key-here-2.branch [
+      | then-key-here-2 w ↦ rw (w.n-inside-is, w.freed-is) (out_left c.args.key c.n.inside w.remove-freed.new.tree w.remove-freed.result.value c.n.invariant behind w.if-key-here-2.true rise w.remove-freed.ensures.leaf w.remove-freed.ensures.entry w.remove-freed.ensures.entries w.remove-freed.ensures.length w.remove-freed.ensures.alone w.remove-freed.ensures.height)
+      | else-key-here-2 w ↦ rw (w.n-inside-is, w.freed-is) (out_right c.args.key c.n.inside w.remove-freed-else-key-here-2.new.tree w.remove-freed-else-key-here-2.result.value c.n.invariant behind (omega arith) rise w.remove-freed-else-key-here-2.ensures.leaf w.remove-freed-else-key-here-2.ensures.entry w.remove-freed-else-key-here-2.ensures.entries w.remove-freed-else-key-here-2.ensures.length w.remove-freed-else-key-here-2.ensures.alone w.remove-freed-else-key-here-2.ensures.height)
+    ] in
+    subst (λ (es : List (Entry g.row.T.Denot)). IfSome (at_key c.args.key es) (λ e. c.if-key-here-2.freed.value.entries ≡ e ∷ [])) (sym whole) m.entry
+
+pub returns-else-is_even-clause-leaf : goal.returns-else-is_even-clause-leaf
+returns-else-is_even-clause-leaf g t c =
+    let is : c.args.tree.now ≡ Some c.in-Some.top = sym c.take.ensures.value ∙ c.in-Some.is in
+    let view : shape_of c.n.inside ≡ c.in-Some.top.value = c.n.view_is ∙ c.deref_mut-n.ensures.value in
+    let whole : entries_in c.args.tree.now ≡ tree_of c.n.inside = ap entries_in is ∙ sym (ap (λ (s : Shape g.row.T.Denot). s.entries) view) in
+    let high : height_of c.args.tree.now ≡ c.n.inside.height = ap height_of is ∙ sym (ap (λ (s : Shape g.row.T.Denot). s.height) view) in
+    let rise : KeysRise (tree_of c.n.inside) = subst (λ (es : List (Entry g.row.T.Denot)). KeysRise es) whole c.requires.rising in
+    let behind : length_of c.n.inside.next ≡ 0 = ap (λ (s : Shape g.row.T.Denot). s.behind) view ∙ (rw is at c.requires.alone) in
+    let m : IsTakenOut c.args.key c.n.inside c.if-key-here-2.n-inside c.if-key-here-2.freed.value = elim c.if-key-here-2.branch [
+      | then-key-here-2 w ↦ rw (w.n-inside-is, w.freed-is) (out_left c.args.key c.n.inside w.remove-freed.new.tree w.remove-freed.result.value c.n.invariant behind w.if-key-here-2.true rise w.remove-freed.ensures.leaf w.remove-freed.ensures.entry w.remove-freed.ensures.entries w.remove-freed.ensures.length w.remove-freed.ensures.alone w.remove-freed.ensures.height)
+      | else-key-here-2 w ↦ rw (w.n-inside-is, w.freed-is) (out_right c.args.key c.n.inside w.remove-freed-else-key-here-2.new.tree w.remove-freed-else-key-here-2.result.value c.n.invariant behind (omega arith) rise w.remove-freed-else-key-here-2.ensures.leaf w.remove-freed-else-key-here-2.ensures.entry w.remove-freed-else-key-here-2.ensures.entries w.remove-freed-else-key-here-2.ensures.length w.remove-freed-else-key-here-2.ensures.alone w.remove-freed-else-key-here-2.ensures.height)
+    ] in
+    m.leaf
+
+pub returns-else-is_even-clause-entry : goal.returns-else-is_even-clause-entry
+returns-else-is_even-clause-entry g t c =
+    let is : c.args.tree.now ≡ Some c.in-Some.top = sym c.take.ensures.value ∙ c.in-Some.is in
+    let view : shape_of c.n.inside ≡ c.in-Some.top.value = c.n.view_is ∙ c.deref_mut-n.ensures.value in
+    let whole : entries_in c.args.tree.now ≡ tree_of c.n.inside = ap entries_in is ∙ sym (ap (λ (s : Shape g.row.T.Denot). s.entries) view) in
+    let high : height_of c.args.tree.now ≡ c.n.inside.height = ap height_of is ∙ sym (ap (λ (s : Shape g.row.T.Denot). s.height) view) in
+    let rise : KeysRise (tree_of c.n.inside) = subst (λ (es : List (Entry g.row.T.Denot)). KeysRise es) whole c.requires.rising in
+    let behind : length_of c.n.inside.next ≡ 0 = ap (λ (s : Shape g.row.T.Denot). s.behind) view ∙ (rw is at c.requires.alone) in
+    let m : IsTakenOut c.args.key c.n.inside c.if-key-here-2.n-inside c.if-key-here-2.freed.value = elim c.if-key-here-2.branch [
+      | then-key-here-2 w ↦ rw (w.n-inside-is, w.freed-is) (out_left c.args.key c.n.inside w.remove-freed.new.tree w.remove-freed.result.value c.n.invariant behind w.if-key-here-2.true rise w.remove-freed.ensures.leaf w.remove-freed.ensures.entry w.remove-freed.ensures.entries w.remove-freed.ensures.length w.remove-freed.ensures.alone w.remove-freed.ensures.height)
+      | else-key-here-2 w ↦ rw (w.n-inside-is, w.freed-is) (out_right c.args.key c.n.inside w.remove-freed-else-key-here-2.new.tree w.remove-freed-else-key-here-2.result.value c.n.invariant behind (omega arith) rise w.remove-freed-else-key-here-2.ensures.leaf w.remove-freed-else-key-here-2.ensures.entry w.remove-freed-else-key-here-2.ensures.entries w.remove-freed-else-key-here-2.ensures.length w.remove-freed-else-key-here-2.ensures.alone w.remove-freed-else-key-here-2.ensures.height)
+    ] in
+    subst (λ (es : List (Entry g.row.T.Denot)). IfSome (at_key c.args.key es) (λ e. c.if-key-here-2.freed.value.entries ≡ e ∷ [])) (sym whole) m.entry
+
+pub returns-then-is_even-clause-entries : goal.returns-then-is_even-clause-entries
+returns-then-is_even-clause-entries g t c =
+    let is : c.args.tree.now ≡ Some c.in-Some.top = sym c.take.ensures.value ∙ c.in-Some.is in
+    let view : shape_of c.n.inside ≡ c.in-Some.top.value = c.n.view_is ∙ c.deref_mut-n.ensures.value in
+    let whole : entries_in c.args.tree.now ≡ tree_of c.n.inside = ap entries_in is ∙ sym (ap (λ (s : Shape g.row.T.Denot). s.entries) view) in
+    let high : height_of c.args.tree.now ≡ c.n.inside.height = ap height_of is ∙ sym (ap (λ (s : Shape g.row.T.Denot). s.height) view) in
+    let rise : KeysRise (tree_of c.n.inside) = subst (λ (es : List (Entry g.row.T.Denot)). KeysRise es) whole c.requires.rising in
+    let behind : length_of c.n.inside.next ≡ 0 = ap (λ (s : Shape g.row.T.Denot). s.behind) view ∙ (rw is at c.requires.alone) in
+    let m : IsTakenOut c.args.key c.n.inside c.if-key-here-2.n-inside c.if-key-here-2.freed.value = elim c.if-key-here-2.branch [
+      | then-key-here-2 w ↦ rw (w.n-inside-is, w.freed-is) (out_left c.args.key c.n.inside w.remove-freed.new.tree w.remove-freed.result.value c.n.invariant behind w.if-key-here-2.true rise w.remove-freed.ensures.leaf w.remove-freed.ensures.entry w.remove-freed.ensures.entries w.remove-freed.ensures.length w.remove-freed.ensures.alone w.remove-freed.ensures.height)
+      | else-key-here-2 w ↦ rw (w.n-inside-is, w.freed-is) (out_right c.args.key c.n.inside w.remove-freed-else-key-here-2.new.tree w.remove-freed-else-key-here-2.result.value c.n.invariant behind (omega arith) rise w.remove-freed-else-key-here-2.ensures.leaf w.remove-freed-else-key-here-2.ensures.entry w.remove-freed-else-key-here-2.ensures.entries w.remove-freed-else-key-here-2.ensures.length w.remove-freed-else-key-here-2.ensures.alone w.remove-freed-else-key-here-2.ensures.height)
+    ] in
+    m.entries ∙ sym (ap (without_key c.args.key) whole)
+
+pub returns-else-is_even-clause-entries : goal.returns-else-is_even-clause-entries
+returns-else-is_even-clause-entries g t c =
+    let is : c.args.tree.now ≡ Some c.in-Some.top = sym c.take.ensures.value ∙ c.in-Some.is in
+    let view : shape_of c.n.inside ≡ c.in-Some.top.value = c.n.view_is ∙ c.deref_mut-n.ensures.value in
+    let whole : entries_in c.args.tree.now ≡ tree_of c.n.inside = ap entries_in is ∙ sym (ap (λ (s : Shape g.row.T.Denot). s.entries) view) in
+    let high : height_of c.args.tree.now ≡ c.n.inside.height = ap height_of is ∙ sym (ap (λ (s : Shape g.row.T.Denot). s.height) view) in
+    let rise : KeysRise (tree_of c.n.inside) = subst (λ (es : List (Entry g.row.T.Denot)). KeysRise es) whole c.requires.rising in
+    let behind : length_of c.n.inside.next ≡ 0 = ap (λ (s : Shape g.row.T.Denot). s.behind) view ∙ (rw is at c.requires.alone) in
+    let m : IsTakenOut c.args.key c.n.inside c.if-key-here-2.n-inside c.if-key-here-2.freed.value = elim c.if-key-here-2.branch [
+      | then-key-here-2 w ↦ rw (w.n-inside-is, w.freed-is) (out_left c.args.key c.n.inside w.remove-freed.new.tree w.remove-freed.result.value c.n.invariant behind w.if-key-here-2.true rise w.remove-freed.ensures.leaf w.remove-freed.ensures.entry w.remove-freed.ensures.entries w.remove-freed.ensures.length w.remove-freed.ensures.alone w.remove-freed.ensures.height)
+      | else-key-here-2 w ↦ rw (w.n-inside-is, w.freed-is) (out_right c.args.key c.n.inside w.remove-freed-else-key-here-2.new.tree w.remove-freed-else-key-here-2.result.value c.n.invariant behind (omega arith) rise w.remove-freed-else-key-here-2.ensures.leaf w.remove-freed-else-key-here-2.ensures.entry w.remove-freed-else-key-here-2.ensures.entries w.remove-freed-else-key-here-2.ensures.length w.remove-freed-else-key-here-2.ensures.alone w.remove-freed-else-key-here-2.ensures.height)
+    ] in
+    let one = one_bare c.if-key-here-2.n-inside c.take-left-else-is_even.new.self c.take-right-else-is_even.new.self c.take-left-else-is_even.ensures.after c.take-right-else-is_even.ensures.after in
+    joined_again c.if-key-here-2.n-inside c.balance.result.value.entries _ c.take-left-else-is_even.result c.take-right-else-is_even.result c.take-left-else-is_even.ensures.value c.take-right-else-is_even.ensures.value c.balance.ensures.entries one ∙ m.entries ∙ sym (ap (without_key c.args.key) whole)

@@ -1,4 +1,5 @@
+use Rattle.acc_tree.specs.Nodes.{height_of}
 use Rattle.acc_tree.proofs.changes.+remove.Given as goal
 
 abbrev pub decreases-remove : goal.decreases-remove
-decreases-remove g l = l.tree.value.height
+decreases-remove g l = height_of l.tree.now

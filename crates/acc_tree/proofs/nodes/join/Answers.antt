@@ -2,25 +2,22 @@ use Rattle.std.proofs.Common.{◌≡◌, ◌+◌, ◌∷◌, ◌++◌, [], lengt
 use Rattle.acc_tree.specs.Shape.{Shape}
 use Rattle.acc_tree.proofs.Leaves.{single}
 use Rattle.acc_tree.specs.Nodes.{entries_in, tree_of}
-use Rattle.acc_tree.proofs.Tall.{tall_join, greatest_size-append}
+use Rattle.acc_tree.proofs.Tall.{greatest_size-append}
 use Rattle.acc_tree.proofs.nodes.join.Goals as goal
 
 pub invariant_of-n : goal.invariant_of-n
 invariant_of-n g c =
     let b = c.requires.balanced in
-    let hl = c.height.ensures.value in
-    let hr = c.height-2.ensures.value in
-    let t = tall_join c.height.result c.height-2.result _ _ c.height.ensures.tall c.height-2.ensures.tall (omega (arith, b.not_left)) (omega (arith, b.not_right)) in
     let e : length (entries_in c.args.left ++ c.n.inside.entry ∷ entries_in c.args.right) ≡ length (entries_in c.args.left) + (length (entries_in c.args.right) + 1) = omega (arith, length-append (entries_in c.args.left) (c.n.inside.entry ∷ entries_in c.args.right)) in
     record {
       left = b.left;
       right = b.right;
       chain = c.n.invariant.chain;
-      height = omega arith;
+      height = c.height_over-n-inside.ensures.value;
       not_left = b.not_left;
       not_right = b.not_right;
-      greatest = omega (arith, greatest_size-append (entries_in c.args.left) c.n.inside.entry (entries_in c.args.right), c.greatest.ensures, c.greatest-2.ensures);
-      tall = rw (e, c.max-high.ensures) t;
+      greatest = omega (arith, greatest_size-append (entries_in c.args.left) c.n.inside.entry (entries_in c.args.right), c.greatest_over-n-inside.ensures);
+      tall = rw e c.height_over-n-inside.ensures.tall;
     }
 
 pub returns-clause-entries : goal.returns-clause-entries

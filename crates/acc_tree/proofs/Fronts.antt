@@ -1,15 +1,16 @@
 -- The first entry that is large enough, by the greatest sizes, and the front that is taken of it.
-use Rattle.std.proofs.Common.{ℕ, ◌≡◌, ◌+◌, ◌-◌, ◌^◌, ◌<◌, ◌≤◌, refl, ap, ◌∙◌, Bool, true, false, cond, List, [], ◌∷◌, ◌++◌, Option, Some, None, IsSome, inl, inr, arith, rules}
+use Rattle.std.proofs.Common.{ℕ, ◌≡◌, ◌+◌, ◌-◌, ◌^◌, ◌<◌, ◌≤◌, refl, ap, subst, ◌∙◌, Bool, true, false, cond, List, [], ◌∷◌, ◌++◌, length, Option, Some, None, IsSome, inl, inr, arith, rules}
 use Rattle.std.specs.Prelude.{◌==◌, ◌&&◌, nat_le}
 use Rattle.std.specs.List.{AllByRecursion}
 use Rattle.std.specs.Option.{option_or}
 use Rattle.std.proofs.lemmas.Bool.Decides.{nat_tests}
 use Rattle.std.proofs.lemmas.Bool.{cases_lt}
 use Rattle.std.proofs.lemmas.List.Folds.{find-append}
-use Rattle.acc_base.proofs.Elements.{AllByRecursion-weaker, find-none}
+use Rattle.acc_base.proofs.Elements.{AllByRecursion-weaker, find-none, found_has}
+use Rattle.acc_base.proofs.Keyed as keyed
 use Rattle.acc_tree.specs.declared.entries.Entry.{Entry}
-use Rattle.acc_tree.specs.Listing.{KeysRise, AreRanges, first_large, first_large_from, greatest_size, cut_before, without_front}
-use Rattle.acc_tree.proofs.Steps.{Sides, all_in_front, find-behind}
+use Rattle.acc_tree.specs.Listing.{KeysRise, AreRanges, at_key, first_large, first_large_from, greatest_size, cut_before, without_key, without_front}
+use Rattle.acc_tree.proofs.Steps.{Sides, all_in_front, find-behind, kept_over}
 
 or_left : {X : Type 0} (o p : Option X) → IsSome o → option_or o p ≡ o
 or_left None p some = cc
@@ -148,3 +149,45 @@ module _ {T : Type 0} where
     | inl less ↦ let t : nat_le size e.size ≡ false = grind (arith, nat_tests) in rw t (over-front e.key size es s.0, rise-front size es s.1 (record { apart = a.apart.1; within = a.within.1 }))
     | inr le ↦ let t : nat_le size e.size ≡ true = grind (arith, nat_tests) in rw t (rise-cut size e es le s.1 a.apart.0)
   ]
+
+  -- where the first that is so large is just so large, it is the one that goes
+  pub front_removed : (size : ℕ) (es : List (Entry T)) (e : Entry T) → KeysRise es → first_large size es ≡ Some e → e.size ≡ size → without_key e.key es ≡ without_front size es
+  front_removed size [] e rise is same = cc
+  front_removed size (x ∷ es) e rise is same = go (λ k. front_removed size es e rise.1 k same) (nat_le size x.size) refl is
+    where
+      go : (first_large size es ≡ Some e → without_key e.key es ≡ without_front size es) → (b : Bool) → nat_le size x.size ≡ b → cond b (Some x) (first_large size es) ≡ Some e → without_key e.key (x ∷ es) ≡ cond b (cut_before size x es) (x ∷ without_front size es)
+      go rest true t k =
+          let here : x ≡ e = cc in
+          let long : x.size ≡ size = ap (λ (f : Entry T). f.size) here ∙ same in
+          let key : x.key ≡ e.key = ap (λ (f : Entry T). f.key) here in
+          let u : (x.key == e.key) ≡ true = grind (arith, nat_tests) in
+          let s : (x.size == size) ≡ true = grind (arith, nat_tests) in
+          rw (u, s) (kept_over e.key x es (omega arith) rise.0)
+      go rest false t k =
+          let behind = found_has (λ (y : Entry T). x.key < y.key) (λ y. nat_le size y.size) es e rise.0 k in
+          let less : x.key < e.key = behind.0 in
+          let u : (x.key == e.key) ≡ false = grind (arith, nat_tests) in
+          rw u (ap (λ (xs : List (Entry T)). x ∷ xs) (rest k))
+
+  pub large_there : (size : ℕ) (es : List (Entry T)) (e : Entry T) → KeysRise es → first_large size es ≡ Some e → at_key e.key es ≡ Some e
+  large_there size es e rise is = keyed.at-found (λ (x : Entry T). x.key) (λ x. nat_le size x.size) es e rise is
+
+  pub large_least : (size : ℕ) (es : List (Entry T)) (e : Entry T) → first_large size es ≡ Some e → size ≤ e.size
+  large_least size [] e is = cc
+  large_least size (x ∷ es) e is = go (λ k. large_least size es e k) (nat_le size x.size) refl is
+    where
+      go : (first_large size es ≡ Some e → size ≤ e.size) → (b : Bool) → nat_le size x.size ≡ b → cond b (Some x) (first_large size es) ≡ Some e → size ≤ e.size
+      go rest true t k = let same : x ≡ e = cc in let le : size ≤ x.size = grind (arith, nat_tests) in subst (λ (f : Entry T). size ≤ f.size) same le
+      go rest false t k = rest k
+
+  pub length-front : (size : ℕ) (es : List (Entry T)) (e : Entry T) → first_large size es ≡ Some e → e.size ≡ size → length (without_front size es) + 1 ≡ length es
+  length-front size [] e is same = cc
+  length-front size (x ∷ es) e is same = go (λ k. length-front size es e k same) (nat_le size x.size) refl is
+    where
+      go : (first_large size es ≡ Some e → length (without_front size es) + 1 ≡ length es) → (b : Bool) → nat_le size x.size ≡ b → cond b (Some x) (first_large size es) ≡ Some e → length (cond b (cut_before size x es) (x ∷ without_front size es)) + 1 ≡ length (x ∷ es)
+      go rest true t k =
+          let here : x ≡ e = cc in
+          let long : x.size ≡ size = ap (λ (f : Entry T). f.size) here ∙ same in
+          let s : (x.size == size) ≡ true = grind (arith, nat_tests) in
+          rw s (omega arith)
+      go rest false t k = omega (arith, rest k)

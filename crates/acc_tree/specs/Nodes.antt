@@ -65,11 +65,6 @@ module _ {T : Type 0} where
     pub not_left : height_of l ≤ height_of r + 1
     pub not_right : height_of r ≤ height_of l + 1
 
-  -- a node that became free, if one did
-  abbrev pub IsFreed : Option (Box (Shape T) Global) → Type 0
-  IsFreed None = Unit {0}
-  IsFreed (Some b) = IsLeaf b.value
-
 -- the height of a tree that lost a node, or none
 abbrev pub IsLowered : ℕ → ℕ → Type 0
 IsLowered old new = (new ≤ old) × (old ≤ new + 1)

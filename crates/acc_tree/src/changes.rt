@@ -1,13 +1,11 @@
 //! Entries put into a tree and taken out of it.
 ghost use Rattle.std.specs.Prelude.{◌≡◌, ◌+◌, ◌^◌, ◌<◌, ◌≤◌, [], ◌∷◌, length, Some, IsSome, IfSome};
 ghost use Rattle.acc_tree.specs.Listing.{KeysRise, AreRanges, at_key, first_large, greatest_size, with_entry, without_key, without_front};
-ghost use Rattle.acc_tree.specs.Nodes.{entries_in, height_of, length_of, IsAlone, IsLeaf, IsFreed, IsLowered};
+ghost use Rattle.acc_tree.specs.Nodes.{entries_in, height_of, length_of, IsAlone, IsLeaf, IsLowered};
 
 use crate::balances::{balance, merge};
 use crate::entries::Entry;
-use crate::nodes::{
-    Link, Node, entry_of, fill, greatest, greatest_over, height_over, is_even, join, split,
-};
+use crate::nodes::{Link, Node, fill, greatest, greatest_over, height_over, is_even};
 
 /// Puts an entry into a tree, in a node that waits. Nodes on the way change in place, but for those that rotate.
 pub fn insert<T: Copy>(tree: &mut Link<T>, node: Box<Node<T>>, entry: Entry<T>)
@@ -88,40 +86,37 @@ pub fn remove<T: Copy>(tree: &mut Link<T>, key: u128) -> Box<Node<T>>
     freed
 }
 
-/// Takes the first `size` of the first entry that is so large, and the node that held it where nothing is left.
-pub fn take_front<T: Copy>(tree: Box<Node<T>>, size: u64) -> (Entry<T>, Link<T>, Link<T>)
-    requires alone { tree.value.behind ≡ 0 }
-    requires limit { tree.value.height < 2 ^ 62 }
-    requires ranges { AreRanges tree.value.entries }
+/// Takes the first `size` of the first entry that is so large, where it is larger, and returns it as it was. An entry
+/// that is just so large stays, and its node is to be taken out. No node moves here.
+pub fn cut_front<T: Copy>(tree: &mut Link<T>, size: u64) -> Entry<T>
+    requires ranges { AreRanges (entries_in tree.old) }
     requires some { 0 < size }
-    requires fits { size ≤ greatest_size tree.value.entries }
-    ensures entry { first_large size tree.value.entries ≡ Some result.0 }
-    ensures freed { IsFreed result.1 }
-    ensures entries { entries_in result.2 ≡ without_front size tree.value.entries }
-    ensures length { length (entries_in result.2) + length_of result.1 ≡ length tree.value.entries }
-    ensures alone { IsAlone result.2 }
-    ensures height { IsLowered tree.value.height (height_of result.2) }
+    requires fits { size ≤ greatest_size (entries_in tree.old) }
+    ensures entry { first_large size (entries_in tree.old) ≡ Some result }
+    ensures cut { size < result.size → entries_in tree.new ≡ without_front size (entries_in tree.old) }
+    ensures whole { result.size ≡ size → entries_in tree.new ≡ entries_in tree.old }
+    ensures length { length (entries_in tree.new) ≡ length (entries_in tree.old) }
+    ensures height { height_of tree.new ≡ height_of tree.old }
+    ensures behind { length_of tree.new ≡ length_of tree.old }
 {
-    let (left, top, right) = split(tree);
-    if greatest(&left) >= size {
-        let Some(left) = left else { unreachable!() };
-        let (entry, freed, left) = take_front(left, size);
-        return (entry, freed, Some(balance(left, top, right)));
-    }
-    let here = entry_of(&top);
-    if here.size < size {
-        let Some(right) = right else { unreachable!() };
-        let (entry, freed, right) = take_front(right, size);
-        return (entry, freed, Some(balance(left, top, right)));
-    }
-    if here.size == size {
-        (here, Some(top), merge(left, right))
+    let Some(node) = tree else { unreachable!() };
+    let node: &mut Node<T> = node;
+    if greatest(&node.left) >= size {
+        let entry = cut_front(&mut node.left, size);
+        node.greatest = greatest_over(&node.left, node.entry.size, &node.right);
+        entry
+    } else if node.entry.size < size {
+        let entry = cut_front(&mut node.right, size);
+        node.greatest = greatest_over(&node.left, node.entry.size, &node.right);
+        entry
     } else {
-        let rest = Entry {
-            key: here.key + size as u128,
-            size: here.size - size,
-            value: here.value,
-        };
-        (here, None, Some(join(left, fill(top, rest), right)))
+        let entry = node.entry;
+        if entry.size == size {
+            return entry;
+        }
+        node.entry.key += size as u128;
+        node.entry.size -= size;
+        node.greatest = greatest_over(&node.left, node.entry.size, &node.right);
+        entry
     }
 }

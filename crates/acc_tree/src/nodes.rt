@@ -1,7 +1,7 @@
 //! Nodes of a tree, and the two steps that change which subtrees hang from one.
 ghost use Rattle.std.specs.Prelude.{◌≡◌, ◌+◌, ◌^◌, ◌<◌, ◌≤◌, [], ◌∷◌, ◌++◌, max, length, Some, IfSome, MatchBool};
 ghost use Rattle.acc_tree.specs.Listing.{greatest_size};
-ghost use Rattle.acc_tree.specs.Nodes.{entries_in, height_of, length_of, IsTall, IsLeaf, IsChain, IsFreed, IsBalanced};
+ghost use Rattle.acc_tree.specs.Nodes.{entries_in, height_of, length_of, IsTall, IsLeaf, IsChain, IsBalanced};
 
 use crate::entries::Entry;
 use std::alloc::Global;
@@ -190,18 +190,4 @@ pub fn pop<T: Copy>(mut chain: Box<Node<T>>) -> (Box<Node<T>>, Link<T>)
     let n = &mut *chain;
     let next = n.next.take();
     (chain, next)
-}
-
-/// Puts a node that became free, if one did, before a chain, and returns how many did.
-pub fn put_away<T: Copy>(chain: Link<T>, freed: Link<T>) -> (Link<T>, u64)
-    requires leaf { IsFreed freed }
-    requires chain { IsChain chain }
-    ensures chain { IsChain result.0 }
-    ensures length { length_of result.0 ≡ length_of chain + length_of freed }
-    ensures count { result.1 ≡ length_of freed }
-{
-    match freed {
-        None => (chain, 0),
-        Some(node) => (push(chain, node), 1),
-    }
 }

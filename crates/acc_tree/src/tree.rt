@@ -5,7 +5,7 @@ ghost use Rattle.acc_tree.specs.Growing.{with_range, IsClear};
 ghost use Rattle.acc_tree.specs.Nodes.{length_of, IsChain};
 
 use crate::entries::{Around, Entry};
-use crate::nodes::{Link, entry_of, height_law, new_node, pop, push, put_away};
+use crate::nodes::{Link, entry_of, height_law, new_node, pop, push};
 use crate::{changes, walks};
 use acc_base::{Fault, Steps};
 use std::alloc::Global;
@@ -262,15 +262,10 @@ impl<T: Copy> Tree<T> {
         ensures entries { self.new.entries ≡ without_front size self.old.entries }
         ensures nodes { length self.new.entries + self.new.room ≡ length self.old.entries + self.old.room }
     {
-        height_law(&self.root);
-        let Some(root) = self.root.take() else {
-            unreachable!()
-        };
-        let (entry, freed, root) = changes::take_front(root, size);
-        self.root = root;
-        let (spare, count) = put_away(self.spare.take(), freed);
-        self.spare = spare;
-        self.len -= count;
+        let entry = changes::cut_front(&mut self.root, size);
+        if entry.size == size {
+            self.remove(entry.key);
+        }
         entry
     }
 

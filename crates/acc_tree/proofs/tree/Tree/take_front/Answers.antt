@@ -1,40 +1,70 @@
-use Rattle.std.proofs.Common.{◌≡◌, ◌≤◌, arith, sym, ap, subst, ◌∙◌, List, length, Some, IsSome}
+use Rattle.std.proofs.Common.{◌≡◌, ◌<◌, arith, refl, sym, ap, subst, ◌∙◌, List, length, Some, IsSome}
 use Rattle.acc_tree.specs.declared.entries.Entry.{Entry}
-use Rattle.acc_tree.specs.Listing.{Listing, KeysRise, AreRanges, first_large}
-use Rattle.acc_tree.specs.Nodes.{entries_in, height_of, length_of}
-use Rattle.acc_tree.proofs.Tall.{low}
-use Rattle.acc_tree.proofs.Fronts.{large_fits, rise-front}
+use Rattle.acc_tree.specs.Listing.{Listing, KeysRise, AreRanges, at_key, first_large, without_key, without_front}
+use Rattle.acc_tree.specs.Nodes.{entries_in}
+use Rattle.acc_tree.proofs.Values.{alone_same}
+use Rattle.acc_tree.proofs.Fronts.{large_fits, large_least, large_there, length-front, rise-front, front_removed}
 use Rattle.acc_tree.proofs.tree.Tree.take_front.Goals as goal
 
-pub take_front-entry-requires-clause-limit : goal.take_front-entry-requires-clause-limit
-take_front-entry-requires-clause-limit g c =
-    let l : height_of c.self.inside.root ≤ 128 = low (height_of c.self.inside.root) (length (entries_in c.self.inside.root)) c.height_law.ensures (omega (arith, c.self.invariant.nodes, c.self.invariant.limit)) in
-    let is : c.self.inside.root ≡ Some c.in-Some.root = sym c.take.ensures.value ∙ c.in-Some.is in
-    let es : entries_in c.self.inside.root ≡ c.in-Some.root.value.entries = ap entries_in is in
-    let h : height_of c.self.inside.root ≡ c.in-Some.root.value.height = ap height_of is in
-    omega arith
+pub cut_front-entry-requires-clause-fits : goal.cut_front-entry-requires-clause-fits
+cut_front-entry-requires-clause-fits g c =
+    let es = entries_in c.self.inside.root in
+    let seen : es ≡ c.args.self.now.entries = ap (λ (l : Listing g.row.T.Denot). l.entries) c.self.view_is in
+    let there : IsSome (first_large c.args.size es) = subst (λ (k : List (Entry g.row.T.Denot)). IsSome (first_large c.args.size k)) (sym seen) c.requires.fits in
+    large_fits c.args.size es there
 
-pub take_front-entry-requires-clause-fits : goal.take_front-entry-requires-clause-fits
-take_front-entry-requires-clause-fits g c =
-    let seen : entries_in c.self.inside.root ≡ c.args.self.now.entries = ap (λ (l : Listing g.row.T.Denot). l.entries) c.self.view_is in
-    let is : c.self.inside.root ≡ Some c.in-Some.root = sym c.take.ensures.value ∙ c.in-Some.is in
-    let es : entries_in c.self.inside.root ≡ c.in-Some.root.value.entries = ap entries_in is in
-    let there : IsSome (first_large c.args.size c.in-Some.root.value.entries) = subst (λ (k : List (Entry g.row.T.Denot)). IsSome (first_large c.args.size k)) (sym seen ∙ es) c.requires.fits in
-    large_fits c.args.size c.in-Some.root.value.entries there
+pub remove-requires : goal.remove-requires
+remove-requires g c =
+    let es = entries_in c.self.inside.root in
+    let seen : es ≡ c.args.self.now.entries = ap (λ (l : Listing g.row.T.Denot). l.entries) c.self.view_is in
+    let e = c.cut_front-entry.result in
+    let root = entries_in c.cut_front-entry.new.tree in
+    let kept : root ≡ es = c.cut_front-entry.ensures.whole c.if-entry-size.true in
+    let there : at_key e.key es ≡ Some e = large_there c.args.size es e c.self.invariant.rising c.cut_front-entry.ensures.entry in
+    record { there = rw (kept, there) refl }
 
-pub invariant_of-self : goal.invariant_of-self
-invariant_of-self g c =
-    let seen : entries_in c.self.inside.root ≡ c.args.self.now.entries = ap (λ (l : Listing g.row.T.Denot). l.entries) c.self.view_is in
-    let is : c.self.inside.root ≡ Some c.in-Some.root = sym c.take.ensures.value ∙ c.in-Some.is in
-    let es : entries_in c.self.inside.root ≡ c.in-Some.root.value.entries = ap entries_in is in
-    let ranges : AreRanges c.in-Some.root.value.entries = subst (λ (k : List (Entry g.row.T.Denot)). AreRanges k) (sym seen ∙ es) c.requires.ranges in
-    let rising : KeysRise c.in-Some.root.value.entries = subst (λ (k : List (Entry g.row.T.Denot)). KeysRise k) es c.self.invariant.rising in
-    let same : length_of c.take-2.result ≡ length_of c.self.inside.spare = ap length_of c.take-2.ensures.value in
+pub invariant_of-self-else-entry-size : goal.invariant_of-self-else-entry-size
+invariant_of-self-else-entry-size g c =
+    let es = entries_in c.self.inside.root in
+    let seen : es ≡ c.args.self.now.entries = ap (λ (l : Listing g.row.T.Denot). l.entries) c.self.view_is in
+    let least = large_least c.args.size es c.cut_front-entry.result c.cut_front-entry.ensures.entry in
+    let more : c.args.size < c.cut_front-entry.result.size = omega arith in
+    let new = c.cut_front-entry.ensures.cut more in
+    let ranges : AreRanges es = subst (λ (k : List (Entry g.row.T.Denot)). AreRanges k) (sym seen) c.requires.ranges in
     record {
-      rising = subst (λ (k : List (Entry g.row.T.Denot)). KeysRise k) (sym c.take_front-entry.ensures.entries) (rise-front c.args.size c.in-Some.root.value.entries rising ranges);
-      alone = c.take_front-entry.ensures.alone;
-      chain = c.put_away-spare.ensures.chain;
-      len = omega (arith, c.self.invariant.len, c.take_front-entry.ensures.length, ap length es, c.put_away-spare.ensures.count);
-      nodes = omega (arith, c.self.invariant.nodes, c.take_front-entry.ensures.length, ap length es, same, c.put_away-spare.ensures.length);
+      rising = subst (λ (k : List (Entry g.row.T.Denot)). KeysRise k) (sym new) (rise-front c.args.size es c.self.invariant.rising ranges);
+      alone = alone_same _ c.self.inside.root c.cut_front-entry.ensures.behind c.self.invariant.alone;
+      chain = c.self.invariant.chain;
+      len = omega (arith, c.self.invariant.len, c.cut_front-entry.ensures.length);
+      nodes = omega (arith, c.self.invariant.nodes, c.cut_front-entry.ensures.length);
       limit = c.self.invariant.limit;
     }
+
+pub returns-then-entry-size-clause-entries : goal.returns-then-entry-size-clause-entries
+returns-then-entry-size-clause-entries g c =
+    let es = entries_in c.self.inside.root in
+    let seen : es ≡ c.args.self.now.entries = ap (λ (l : Listing g.row.T.Denot). l.entries) c.self.view_is in
+    let e = c.cut_front-entry.result in
+    let root = entries_in c.cut_front-entry.new.tree in
+    let kept : root ≡ es = c.cut_front-entry.ensures.whole c.if-entry-size.true in
+    c.remove.ensures.entries ∙ ap (without_key e.key) kept ∙ front_removed c.args.size es e c.self.invariant.rising c.cut_front-entry.ensures.entry c.if-entry-size.true ∙ ap (without_front c.args.size) seen
+
+pub returns-then-entry-size-clause-nodes : goal.returns-then-entry-size-clause-nodes
+returns-then-entry-size-clause-nodes g c =
+    let es = entries_in c.self.inside.root in
+    let seen : es ≡ c.args.self.now.entries = ap (λ (l : Listing g.row.T.Denot). l.entries) c.self.view_is in
+    let e = c.cut_front-entry.result in
+    let root = entries_in c.cut_front-entry.new.tree in
+    let kept : root ≡ es = c.cut_front-entry.ensures.whole c.if-entry-size.true in
+    let gone = c.remove.ensures.entries ∙ ap (without_key e.key) kept ∙ front_removed c.args.size es e c.self.invariant.rising c.cut_front-entry.ensures.entry c.if-entry-size.true in
+    let room = ap (λ (l : Listing g.row.T.Denot). l.room) c.self.view_is in
+    omega (arith, ap length gone, length-front c.args.size es e c.cut_front-entry.ensures.entry c.if-entry-size.true, ap length seen, room, c.remove.ensures.room)
+
+pub returns-else-entry-size-clause-entries : goal.returns-else-entry-size-clause-entries
+returns-else-entry-size-clause-entries g c =
+    let es = entries_in c.self.inside.root in
+    let seen : es ≡ c.args.self.now.entries = ap (λ (l : Listing g.row.T.Denot). l.entries) c.self.view_is in
+    let least = large_least c.args.size es c.cut_front-entry.result c.cut_front-entry.ensures.entry in
+    let more : c.args.size < c.cut_front-entry.result.size = omega arith in
+    let new = c.cut_front-entry.ensures.cut more in
+    new ∙ ap (without_front c.args.size) seen

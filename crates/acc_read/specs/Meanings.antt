@@ -1,5 +1,5 @@
 -- What statements and clauses of the code say, without where they lie in memory.
-use Rattle.std.specs.Prelude.{◌≡◌, true, false, List, length, ◌==◌}
+use Rattle.std.specs.Prelude.{◌≡◌, true, false, List, [], ◌∷◌, Option, Some, None, length, ◌==◌}
 use Rattle.acc_read.specs.declared.kept.Kept.{Kept}
 use Rattle.acc_read.specs.declared.clauses.Clauses.{Clauses}
 use Rattle.acc_read.specs.declared.clauses.Unfinished.{Unfinished}
@@ -28,9 +28,14 @@ clauses_read clauses = record { items = clauses.items; has_option = clauses.has_
 
 -- ---- lists that are being filled
 
+-- the items of a list, or one alone
+abbrev pub IsAll : {A : Type 0} → Option A → List A → List A → Type 0
+IsAll None items all = items ≡ all
+IsAll (Some item) items all = (items ≡ []) × (item ∷ [] ≡ all)
+
 -- what is kept of a list is all of it; or memory was refused for an item of it
 pub record IsKept {A : Type 0} (kept : Kept A) (items : List A) : Type 0 where
-  pub all : kept.is_wanting ≡ false → kept.items.items ≡ items
+  pub all : kept.is_wanting ≡ false → IsAll kept.alone kept.items.items items
   pub some : kept.is_wanting ≡ true → (length items == 0) ≡ false
 
 -- what is kept of clauses and options that were read

@@ -6,11 +6,14 @@ ghost use Rattle.acc_read.specs.Meanings.{IsKept};
 use acc_base::List as Items;
 use std::alloc::{AllocError, Global};
 
-/// What is kept of the items of a line. Once memory was refused for one of them no more are kept, and the rest of the
-/// line can still be read for its faults.
+/// What is kept of the items of a line. One alone takes no memory. Once memory was refused for one of them no more are
+/// kept, and the rest of the line can still be read for its faults.
 #[derive(Drop)]
 pub struct Kept<T> {
+    // All items but the one that stands alone.
     items: Vec<T>,
+    // The first item, as long as no other follows it.
+    alone: Option<T>,
     is_wanting: bool,
 }
 
@@ -21,6 +24,7 @@ impl<T: Copy> Kept<T> {
     {
         Kept {
             items: Vec::new(alloc),
+            alone: None,
             is_wanting: false,
         }
     }
@@ -29,8 +33,16 @@ impl<T: Copy> Kept<T> {
     pub fn push(&mut self, item: T)
         ensures { (items : List T) → IsKept self.old items → IsKept self.new (items ++ item ∷ []) }
     {
-        if !self.is_wanting && self.items.push(item).is_err() {
-            self.is_wanting = true;
+        if self.is_wanting {
+            return;
+        }
+        match self.alone {
+            None if self.items.is_empty() => self.alone = Some(item),
+            None => self.is_wanting = self.items.push(item).is_err(),
+            Some(first) => {
+                self.alone = None;
+                self.is_wanting = self.items.push(first).is_err() || self.items.push(item).is_err();
+            }
         }
     }
 
@@ -47,8 +59,8 @@ impl<T: Copy> Kept<T> {
             return Err(AllocError);
         }
         let mut items = self.items;
-        if let [item] = items.as_slice() {
-            return Ok(Items::one(*item));
+        if let Some(item) = self.alone {
+            return Ok(Items::one(item));
         }
         items.shrink_to_fit();
         Ok(Items::from_vec(items))

@@ -1,9 +1,10 @@
 -- The lease that a serial number names: where it stands, and what comes of it.
-use Rattle.std.proofs.Common.{ℕ, ◌≡◌, ◌<◌, refl, sym, ap, subst, ◌∙◌, arith, cond, List, [], ◌∷◌, ◌++◌, length, Option, Some, None, Result, Ok, Err, inl, inr}
-use Rattle.std.specs.Prelude.{Bool, true, false, find, nat_lt, slice_get, slice_set, slice_index_or, suc, zero, MatchBool, MatchResult, MatchOption, ◌==◌}
+use Rattle.std.proofs.Common.{ℕ, ◌≡◌, ◌<◌, refl, sym, ap, subst, ◌∙◌, ◌+◌, arith, cond, length-append, List, [], ◌∷◌, ◌++◌, length, Option, Some, None, Result, Ok, Err, inl, inr}
+use Rattle.std.specs.Prelude.{Bool, true, false, find, nat_lt, slice_get, slice_set, slice_index_or, suc, zero, MatchBool, MatchResult, MatchOption, ◌==◌, not}
 use Rattle.std.specs.List.{position, position_or_len, remove}
 use Rattle.std.proofs.lemmas.List.{set-get_or}
-use Rattle.std.proofs.lemmas.List.Folds.{find_at}
+use Rattle.std.proofs.lemmas.List.Folds.{find_at, prefix_len-append}
+use Rattle.std.proofs.lemmas.List.Sums.{prefix_len-le-length}
 use Rattle.std.proofs.lemmas.Option.{slice_get-get_or, slice_get_past}
 use Rattle.std.proofs.lemmas.Bool.Decides.{nat_tests}
 use Rattle.std.proofs.lemmas.List.Quantifiers.{position-Some}
@@ -56,6 +57,54 @@ no_place serial leases place = find_at (is_serial serial) leases ∙ past (nat_l
     past : (b : Bool) → nat_lt (position_or_len (is_serial serial) leases) (length leases) ≡ b → cond b (Some (position_or_len (is_serial serial) leases)) None ≡ None → slice_get leases (position_or_len (is_serial serial) leases) ≡ None
     past true e h = cc
     past false e h = slice_get_past leases (position_or_len (is_serial serial) leases) (grind (arith, nat_tests))
+
+-- a search goes on in a second list where it found nothing in the first
+module _ {X : Type 0} (p : X → Bool) where
+  first_at : (xs : List X) (at : ℕ) → position p xs ≡ Some at → (position_or_len p xs ≡ at) × (at < length xs)
+  first_at xs at e = go (nat_lt (position_or_len p xs) (length xs)) refl e
+    where
+      go : (b : Bool) → nat_lt (position_or_len p xs) (length xs) ≡ b → cond b (Some (position_or_len p xs)) None ≡ Some at → (position_or_len p xs ≡ at) × (at < length xs)
+      go true t h = let same : position_or_len p xs ≡ at = cc in (same, grind (arith, nat_tests))
+      go false t h = cc
+
+  none_at : (xs : List X) → position p xs ≡ None → position_or_len p xs ≡ length xs
+  none_at xs e = go (nat_lt (position_or_len p xs) (length xs)) refl e
+    where
+      go : (b : Bool) → nat_lt (position_or_len p xs) (length xs) ≡ b → cond b (Some (position_or_len p xs)) None ≡ None → position_or_len p xs ≡ length xs
+      go true t h = cc
+      go false t h = grind (arith, nat_tests, prefix_len-le-length (λ x. not (p x)) xs)
+
+  found_at : (xs : List X) (at : ℕ) → position_or_len p xs ≡ at → at < length xs → position p xs ≡ Some at
+  found_at xs at e within =
+      let t : nat_lt (position_or_len p xs) (length xs) ≡ true = grind (arith, nat_tests) in
+      rw t (ap Some e)
+
+  pub place-front : (xs ys : List X) (at : ℕ) → position p xs ≡ Some at → position p (xs ++ ys) ≡ Some at
+  place-front xs ys at e =
+      let f = first_at xs at e in
+      let before : position_or_len p xs ≡ at = f.0 in
+      let within : at < length xs = f.1 in
+      let t : (position_or_len p xs == length xs) ≡ false = grind (arith, nat_tests) in
+      found_at (xs ++ ys) at (prefix_len-append (λ x. not (p x)) xs ys ∙ rw t before) (omega (arith, length-append xs ys))
+
+  rest_at : (xs ys : List X) → position p xs ≡ None → position_or_len p (xs ++ ys) ≡ length xs + position_or_len p ys
+  rest_at xs ys none =
+      let past : position_or_len p xs ≡ length xs = none_at xs none in
+      let t : (position_or_len p xs == length xs) ≡ true = grind (arith, nat_tests) in
+      prefix_len-append (λ x. not (p x)) xs ys ∙ rw t refl
+
+  pub place-back : (xs ys : List X) (at : ℕ) → position p xs ≡ None → position p ys ≡ Some at → position p (xs ++ ys) ≡ Some (length xs + at)
+  place-back xs ys at none e =
+      let f = first_at ys at e in
+      let within : at < length ys = f.1 in
+      found_at (xs ++ ys) (length xs + at) (rest_at xs ys none ∙ ap (λ k. length xs + k) f.0) (omega (arith, length-append xs ys))
+
+  pub place-none : (xs ys : List X) → position p xs ≡ None → position p ys ≡ None → position p (xs ++ ys) ≡ None
+  place-none xs ys none e =
+      let past : position_or_len p ys ≡ length ys = none_at ys e in
+      let rest : position_or_len p (xs ++ ys) ≡ length xs + position_or_len p ys = rest_at xs ys none in
+      let t : nat_lt (position_or_len p (xs ++ ys)) (length (xs ++ ys)) ≡ false = grind (arith, nat_tests, length-append xs ys) in
+      rw t refl
 
 -- what stands in a place for a while leaves no trace when it is taken out, or when what stood there comes back
 pub remove_set : (leases : List Leased) (at : ℕ) (other : Leased) → remove (slice_set leases at other) at ≡ remove leases at

@@ -14,6 +14,7 @@ use acc_base::{Config, Directive, List};
 use acc_lend::Lease;
 use acc_table::{Call, Reply, Table, abandon, abandon_all};
 use std::alloc::Global;
+use std::collections::VecDeque;
 use std::marker::Model;
 
 /// A table, and the leases of the blocks that it has lent, in the order in which they were lent. C names a lease by its
@@ -22,7 +23,8 @@ use std::marker::Model;
 /// Contracts see the table's world and what the leases hold.
 pub struct Environment {
     pub(crate) table: Table,
-    pub(crate) leases: Vec<Lease>,
+    // A ring, so that the oldest lease comes back without a move of the others.
+    pub(crate) leases: VecDeque<Lease>,
 }
 
 impl Model for Environment {
@@ -36,7 +38,7 @@ impl Model for Environment {
 impl Drop for Environment {
     fn drop(self) {
         let Environment { table, leases } = self;
-        abandon_all(leases);
+        abandon_all(leases.into_vec());
         drop(table);
     }
 }
@@ -71,7 +73,7 @@ impl Environment {
         let table = Table::new(alloc, config)?;
         Ok(Environment {
             table,
-            leases: Vec::new(alloc),
+            leases: VecDeque::new(alloc),
         })
     }
 

@@ -1,6 +1,7 @@
 //! Loans of blocks to kernels: a block is lent, the bytes of its lease are read and written, and it is brought back.
 
-ghost use Rattle.std.specs.Prelude.{◌≡◌, ◌+◌, ◌<◌, ◌≤◌, ◌++◌, slice_index_or, slice_set, vec_len, vec_capacity};
+ghost use Rattle.std.specs.Prelude.{◌≡◌, ◌+◌, ◌<◌, ◌≤◌, ◌++◌, slice_index_or, slice_set};
+ghost use Rattle.std.specs.VecDeque.{deque_len, deque_capacity};
 ghost use Rattle.std.specs.List.{position};
 ghost use Rattle.acc_table.specs.Turns.{lent_by};
 ghost use Rattle.lamwiest_c.specs.Statuses.{IsAnswered, IsNumberAnswered};
@@ -14,28 +15,42 @@ use acc_base::{Fault, Section};
 use acc_lend::Lease;
 use acc_table::{Call, Reply, abandon};
 use std::alloc::Global;
+use std::collections::VecDeque;
 use std::mem;
 
-fn place_of(leases: &[Lease], serial: u64) -> Option<usize>
+/// The place of a lease in a row, by its serial number.
+fn place_in(leases: &[Lease], serial: u64) -> Option<usize>
     ensures { result ≡ position (is_serial serial) leases.now }
 {
     leases.iter().position(|lease| lease.serial() == serial)
 }
 
+/// The place of a lease in the list, which lies in two rows one behind the other.
+fn place_of(leases: &VecDeque<Lease>, serial: u64) -> Option<usize>
+    ensures { result ≡ position (is_serial serial) leases.now.items }
+{
+    let (front, back) = leases.as_slices();
+    if let Some(at) = place_in(front, serial) {
+        return Some(at);
+    }
+    let at = place_in(back, serial)?;
+    Some(front.len() + at)
+}
+
 /// Takes the lease at a place out of the list. One of no bytes stands there until it comes back.
-fn take_lease(alloc: Global, leases: &mut Vec<Lease>, at: usize) -> Lease
-    requires { at < vec_len leases.old }
+fn take_lease(alloc: Global, leases: &mut VecDeque<Lease>, at: usize) -> Lease
+    requires { at < deque_len leases.old }
     ensures value { result ≡ slice_index_or leases.old.items at result }
     ensures left { leases.new.items ≡ slice_set leases.old.items at lease_of_nothing }
-    ensures len { vec_len leases.new ≡ vec_len leases.old }
+    ensures len { deque_len leases.new ≡ deque_len leases.old }
 {
     let nothing = Lease::of(0, 0, 0, 0, Vec::new(alloc), 0);
     mem::replace(&mut leases[at], nothing)
 }
 
 /// Puts the lease of a call that came back at its place.
-fn restore(call: Call, leases: &mut Vec<Lease>, at: usize)
-    requires { at < vec_len leases.old }
+fn restore(call: Call, leases: &mut VecDeque<Lease>, at: usize)
+    requires { at < deque_len leases.old }
     ensures { leases.new.items ≡ slice_set leases.old.items at (lease_in call (slice_index_or leases.old.items at lease_of_nothing)) }
 {
     match call {
@@ -45,15 +60,15 @@ fn restore(call: Call, leases: &mut Vec<Lease>, at: usize)
 }
 
 /// Puts the lease of a reply at the end of the list, where there is room for it, and returns the number of the reply.
-fn keep(reply: Reply, leases: &mut Vec<Lease>) -> u64
-    requires room { vec_len leases.old + 1 ≤ vec_capacity leases.old }
+fn keep(reply: Reply, leases: &mut VecDeque<Lease>) -> u64
+    requires room { deque_len leases.old + 1 ≤ deque_capacity leases.old }
     ensures value { result ≡ number_in reply }
     ensures leases { leases.new.items ≡ leases.old.items ++ lent_by reply }
 {
     match reply {
         Reply::Lease(lease) => {
             let serial = lease.serial();
-            leases.push_reserved(lease);
+            leases.push_back_reserved(lease);
             serial
         }
         Reply::Done => 1,
@@ -88,7 +103,10 @@ impl Environment {
         let lease = take_lease(alloc, &mut self.leases, at);
         match self.table.apply(Call::Gather(lease)) {
             Ok(reply) => {
-                self.leases.remove(at).abandon();
+                let Some(nothing) = self.leases.remove(at) else {
+                    unreachable!()
+                };
+                nothing.abandon();
                 Ok(number_in(reply))
             }
             Err((call, fault)) => {

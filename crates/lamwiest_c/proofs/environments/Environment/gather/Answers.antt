@@ -13,20 +13,20 @@ use Rattle.lamwiest_c.proofs.environments.Environment.gather.Goals as goal
 pub returns-in_default : goal.returns-in_default
 returns-in_default c =
     let e : DataEnvironment = record { world = c.self.inside.table; leases = c.self.inside.leases.items } in
-    let place : position (is_serial c.args.serial) c.self.inside.leases.items ≡ None = subst (λ xs. position (is_serial c.args.serial) xs ≡ None) c.deref.ensures.value (sym c.place_of.ensures ∙ c.in_default.is) in
+    let place : position (is_serial c.args.serial) c.self.inside.leases.items ≡ None = sym c.place_of.ensures ∙ c.in_default.is in
     let T : Told = λ r. Err (OfTable (NoLease c.args.serial)) ≡ r in
     subst (λ (x : DataEnvironment). IsGathered x c.args.serial T x) c.self.view_is (none_gathered e e c.args.serial T place refl refl)
 
-pub returns-in-Ok : goal.returns-in-Ok
-returns-in-Ok c =
+pub returns-in-Some-remove : goal.returns-in-Some-remove
+returns-in-Some-remove c =
     let leases : List Leased = c.self.inside.leases.items in
     let e : DataEnvironment = record { world = c.self.inside.table; leases = leases } in
     let v : DataEnvironment = record { world = c.apply.new.self; leases = c.remove.new.self.items } in
     let at = c.in-Some.at in let lease = c.take_lease-lease.result in
-    let place : position (is_serial c.args.serial) leases ≡ Some at = subst (λ xs. position (is_serial c.args.serial) xs ≡ Some at) c.deref.ensures.value (sym c.place_of.ensures ∙ c.in-Some.is) in
+    let place : position (is_serial c.args.serial) leases ≡ Some at = sym c.place_of.ensures ∙ c.in-Some.is in
     let is : IsAt c.args.serial leases at lease = at_place place c.take_lease-lease.ensures.value in
     let T : Told = λ r. Ok c.number_in.result ≡ r in
-    let left : v.leases ≡ remove leases at = c.remove.ensures.items ∙ (ap (λ (xs : List Leased). remove xs at) c.take_lease-lease.ensures.left ∙ remove_set leases at lease_of_nothing) in
+    let left : v.leases ≡ remove leases at = c.in-Some-remove.ensures.items ∙ (ap (λ (xs : List Leased). remove xs at) c.take_lease-lease.ensures.left ∙ remove_set leases at lease_of_nothing) in
     subst (λ (x : DataEnvironment). IsGathered x c.args.serial T v) c.self.view_is (done_gathered e v c.args.serial at lease T is c.in-Ok.reply c.in-Ok.ensures.done left (ap Ok c.number_in.ensures))
 
 pub returns-in-Err : goal.returns-in-Err
@@ -35,7 +35,7 @@ returns-in-Err c =
     let e : DataEnvironment = record { world = c.self.inside.table; leases = leases } in
     let v : DataEnvironment = record { world = c.apply.new.self; leases = c.restore.new.leases.items } in
     let at = c.in-Some.at in let lease = c.take_lease-lease.result in
-    let place : position (is_serial c.args.serial) leases ≡ Some at = subst (λ xs. position (is_serial c.args.serial) xs ≡ Some at) c.deref.ensures.value (sym c.place_of.ensures ∙ c.in-Some.is) in
+    let place : position (is_serial c.args.serial) leases ≡ Some at = sym c.place_of.ensures ∙ c.in-Some.is in
     let is : IsAt c.args.serial leases at lease = at_place place c.take_lease-lease.ensures.value in
     let T : Told = λ r. Err (OfTable c.in-Err.fault) ≡ r in
     let back = ap (λ (x : Call Leased). slice_set c.take_lease-lease.new.leases.items at (lease_in x (slice_index_or c.take_lease-lease.new.leases.items at lease_of_nothing))) c.in-Err.ensures.same.0 in

@@ -11,14 +11,14 @@ use Rattle.lamwiest_c.proofs.environments.Environment.lease_read.Goals as goal
 pub returns-in_default : goal.returns-in_default
 returns-in_default c =
     let e : DataEnvironment = record { world = c.self.inside.table; leases = c.self.inside.leases.items } in
-    let place : position (is_serial c.args.serial) c.self.inside.leases.items ≡ None = subst (λ xs. position (is_serial c.args.serial) xs ≡ None) c.deref.ensures.value (sym c.place_of.ensures ∙ c.in_default.is) in
+    let place : position (is_serial c.args.serial) c.self.inside.leases.items ≡ None = sym c.place_of.ensures ∙ c.in_default.is in
     let T : Told = λ r. Err (OfTable (NoLease c.args.serial)) ≡ r in
     subst (λ (x : DataEnvironment). IsLeaseRead x c.args.serial c.args.into.now c.args.into.now T) c.self.view_is (none_read e c.args.serial c.args.into.now c.args.into.now T place refl refl)
 
 pub returns-then-into-bytes : goal.returns-then-into-bytes
 returns-then-into-bytes c =
     let e : DataEnvironment = record { world = c.self.inside.table; leases = c.self.inside.leases.items } in
-    let place : position (is_serial c.args.serial) c.self.inside.leases.items ≡ Some c.in-Some.at = subst (λ xs. position (is_serial c.args.serial) xs ≡ Some c.in-Some.at) c.deref.ensures.value (sym c.place_of.ensures ∙ c.in-Some.is) in
+    let place : position (is_serial c.args.serial) c.self.inside.leases.items ≡ Some c.in-Some.at = sym c.place_of.ensures ∙ c.in-Some.is in
     let is : IsAt c.args.serial e.leases c.in-Some.at c.index.result.now = at_place place c.index.ensures in
     let n = length c.bytes-bytes.result.now in
     let T : Told = λ r. Err (BadLength n) ≡ r in
@@ -27,7 +27,7 @@ returns-then-into-bytes c =
 pub returns : goal.returns
 returns c =
     let e : DataEnvironment = record { world = c.self.inside.table; leases = c.self.inside.leases.items } in
-    let place : position (is_serial c.args.serial) c.self.inside.leases.items ≡ Some c.in-Some.at = subst (λ xs. position (is_serial c.args.serial) xs ≡ Some c.in-Some.at) c.deref.ensures.value (sym c.place_of.ensures ∙ c.in-Some.is) in
+    let place : position (is_serial c.args.serial) c.self.inside.leases.items ≡ Some c.in-Some.at = sym c.place_of.ensures ∙ c.in-Some.is in
     let is : IsAt c.args.serial e.leases c.in-Some.at c.index.result.now = at_place place c.index.ensures in
     let n = length c.bytes-bytes.result.now in
     let T : Told = λ r. Ok n ≡ r in

@@ -13,14 +13,14 @@ use Rattle.lamwiest_c.proofs.environments.Environment.lease_write.Goals as goal
 pub returns-in_default : goal.returns-in_default
 returns-in_default c =
     let e : DataEnvironment = record { world = c.self.inside.table; leases = c.self.inside.leases.items } in
-    let place : position (is_serial c.args.serial) c.self.inside.leases.items ≡ None = subst (λ xs. position (is_serial c.args.serial) xs ≡ None) c.deref.ensures.value (sym c.place_of.ensures ∙ c.in_default.is) in
+    let place : position (is_serial c.args.serial) c.self.inside.leases.items ≡ None = sym c.place_of.ensures ∙ c.in_default.is in
     let T : Told = λ r. Err (OfTable (NoLease c.args.serial)) ≡ r in
     subst (λ (x : DataEnvironment). IsLeaseWritten x c.args.serial c.args.bytes.now T x) c.self.view_is (none_written e e c.args.serial c.args.bytes.now T place refl refl)
 
 pub returns-then-bytes-len : goal.returns-then-bytes-len
 returns-then-bytes-len c =
     let e : DataEnvironment = record { world = c.self.inside.table; leases = c.self.inside.leases.items } in
-    let place : position (is_serial c.args.serial) c.self.inside.leases.items ≡ Some c.in-Some.at = subst (λ xs. position (is_serial c.args.serial) xs ≡ Some c.in-Some.at) c.deref.ensures.value (sym c.place_of.ensures ∙ c.in-Some.is) in
+    let place : position (is_serial c.args.serial) c.self.inside.leases.items ≡ Some c.in-Some.at = sym c.place_of.ensures ∙ c.in-Some.is in
     let is : IsAt c.args.serial e.leases c.in-Some.at c.index.result.now = at_place place c.index.ensures in
     let T : Told = λ r. Err (BadLength c.len-len.result) ≡ r in
     subst (λ (x : DataEnvironment). IsLeaseWritten x c.args.serial c.args.bytes.now T x) c.self.view_is (short_written e e c.args.serial c.args.bytes.now T c.in-Some.at c.index.result.now is c.len-len.result c.len-len.ensures.value c.if-bytes-len.true refl refl)
@@ -28,7 +28,7 @@ returns-then-bytes-len c =
 pub returns : goal.returns
 returns c =
     let e : DataEnvironment = record { world = c.self.inside.table; leases = c.self.inside.leases.items } in
-    let place : position (is_serial c.args.serial) c.self.inside.leases.items ≡ Some c.in-Some.at = subst (λ xs. position (is_serial c.args.serial) xs ≡ Some c.in-Some.at) c.deref.ensures.value (sym c.place_of.ensures ∙ c.in-Some.is) in
+    let place : position (is_serial c.args.serial) c.self.inside.leases.items ≡ Some c.in-Some.at = sym c.place_of.ensures ∙ c.in-Some.is in
     let seen : IsAt c.args.serial e.leases c.in-Some.at c.index.result.now = at_place place c.index.ensures in
     let is : IsAt c.args.serial e.leases c.in-Some.at c.index_mut.result.now = at_place place c.index_mut.ensures.value in
     let T : Told = λ r. Ok c.len-len.result ≡ r in

@@ -5,7 +5,7 @@ use Rattle.std.specs.List.{AllByRecursion, remove}
 use Rattle.std.proofs.lemmas.Bool.Decides.{nat_tests}
 use Rattle.acc_base.specs.Register.{Region, region_at, newest_region, holdings_at, with_region, without_region}
 use Rattle.acc_base.specs.Splits.{IsSplitBy}
-use Rattle.acc_base.proofs.Elements.{EachPair-filter, filter-map, find-map}
+use Rattle.acc_base.proofs.Elements.{AllByRecursion-weaker, EachPair-filter, filter-map, find-map}
 use Rattle.acc_base.proofs.Lookups.{at}
 use Rattle.acc_base.proofs.Options.{from_none, from_some}
 use Rattle.acc_present.specs.declared.register.OpenRegion.{OpenRegion}
@@ -27,6 +27,41 @@ numbers_above n (x ∷ xs) h = (h.0, numbers_above n xs h.1)
 pub are_numbered : (xs : List OpenRegion) → AreNumbersRising xs → AreNumbered (map region_of xs)
 are_numbered [] h = tt
 are_numbered (x ∷ xs) h = (numbers_above x.number xs h.0, are_numbered xs h.1)
+
+-- all numbers are below one where that of the last region is
+all_below : (number : ℕ) (xs : List OpenRegion) (i : ℕ) (d : OpenRegion) → AreNumbersRising xs → suc i ≡ length xs → (get_or xs i d).number < number → AllByRecursion (λ (o : OpenRegion). nat_lt o.number number ≡ true) xs
+all_below number [] i d rise e less = absurd (omega (arith, e))
+all_below number (x ∷ []) zero d rise e less = (grind (arith, nat_tests), tt)
+all_below number (x ∷ []) (suc i) d rise e less = absurd (omega (arith, e))
+all_below number (x ∷ y ∷ ys) zero d rise e less = absurd (omega (arith, e))
+all_below number (x ∷ y ∷ ys) (suc i) d rise e less =
+    let rest = all_below number (y ∷ ys) i d rise.1 (omega (arith, e)) less in
+    let first : nat_lt y.number number ≡ true = rest.0 in
+    let before : x.number < y.number = rise.0.0 in
+    (grind (arith, nat_tests), rest)
+
+none_behind : (P : OpenRegion → Type 0) (xs : List OpenRegion) (n : ℕ) → length xs ≤ n → AllByRecursion P (drop n xs)
+none_behind P [] zero past = tt
+none_behind P [] (suc n) past = tt
+none_behind P (x ∷ xs) zero past = absurd (omega arith)
+none_behind P (x ∷ xs) (suc n) past = none_behind P xs n (omega arith)
+
+-- the place of a number above all is behind all
+pub split_behind : (number : ℕ) (xs : List OpenRegion) (i n : ℕ) (d : OpenRegion) → AreNumbersRising xs → suc i ≡ n → n ≡ length xs → (get_or xs i d).number < number → IsSplitBy (keyed.is_key_below number_key number) xs n
+split_behind number xs i n d rise e len less = record {
+  bound = omega (arith, len);
+  passed = keyed.all-take (λ (o : OpenRegion). nat_lt o.number number ≡ true) xs n (all_below number xs i d rise (omega (arith, e, len)) less);
+  failed = none_behind (λ (o : OpenRegion). nat_lt o.number number ≡ false) xs n (omega (arith, len));
+}
+
+-- the place of a number that is above none is before all
+pub split_before : (number : ℕ) (xs : List OpenRegion) (d : OpenRegion) → AreNumbersRising xs → number ≤ (get_or xs 0 d).number → IsSplitBy (keyed.is_key_below number_key number) xs 0
+split_before number [] d rise least = record { bound = omega arith; passed = tt; failed = tt }
+split_before number (x ∷ xs) d rise least = record {
+  bound = omega arith;
+  passed = tt;
+  failed = (grind (arith, nat_tests), AllByRecursion-weaker (λ (o : OpenRegion). x.number < o.number) (λ (o : OpenRegion). nat_lt o.number number ≡ false) xs (λ o more. grind (arith, nat_tests)) rise.0);
+}
 
 -- the region of a number
 pub region_at-map : (number : ℕ) (xs : List OpenRegion) → region_at number (map region_of xs) ≡ option_map region_of (at number_key number xs)

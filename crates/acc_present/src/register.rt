@@ -28,6 +28,17 @@ fn place_of(regions: &VecDeque<OpenRegion>, number: u64) -> usize
     requires { AreNumbersRising regions.now.items }
     ensures { IsSplitBy (λ o. nat_lt o.number number) regions.now.items result }
 {
+    // A new region mostly comes behind all, and the one that is asked for is often the oldest.
+    if let Some(newest) = regions.back()
+        && newest.number < number
+    {
+        return regions.len();
+    }
+    if let Some(oldest) = regions.front()
+        && number <= oldest.number
+    {
+        return 0;
+    }
     regions.partition_point(|o| o.number < number)
 }
 

@@ -148,7 +148,7 @@ impl<T: Copy> Tree<T> {
         ensures steps { (d : ℕ) → length self.now.entries < 2 ^ d → steps.new ≤ steps.old + 2 * d }
     {
         height_law(&self.root);
-        let (before, from) = walks::find_around(&self.root, key, None, None, steps);
+        let (before, from) = walks::find_around(&self.root, key, steps);
         Around {
             before: before.copied(),
             from: from.copied(),

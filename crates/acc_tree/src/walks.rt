@@ -3,7 +3,6 @@ ghost use Rattle.std.specs.Prelude.{◌≡◌, ◌+◌, ◌^◌, ◌<◌, ◌≤
 ghost use Rattle.acc_tree.specs.Listing.{KeysRise, at_key, first_from, last_before, first_large, first_large_from, with_value};
 ghost use Rattle.acc_tree.specs.Growing.{with_range};
 ghost use Rattle.acc_tree.specs.Nodes.{entries_in, height_of, length_of};
-ghost use Rattle.std.specs.Option.{option_or};
 ghost use Rattle.acc_tree.specs.Listing.{seen};
 
 use crate::entries::Entry;
@@ -93,35 +92,35 @@ pub fn find_large_from<'a, T: Copy>(tree: &'a Link<T>, key: u128, size: u64) -> 
     }
 }
 
-/// The last entry before a key and the first from it on, or else those that are handed in, which are found so far. Each
-/// node on the way is a step.
+/// The last entry before a key and the first from it on. Each node on the way is a step.
 pub fn find_around<'a, T: Copy>(
     tree: &'a Link<T>,
     key: u128,
-    before: Option<&'a Entry<T>>,
-    from: Option<&'a Entry<T>>,
     steps: &mut Steps,
 ) -> (Option<&'a Entry<T>>, Option<&'a Entry<T>>)
     requires rising { KeysRise (entries_in tree.now) }
     requires limit { steps.old + height_of tree.now ≤ 2 ^ 33 }
-    ensures before { seen result.0 ≡ option_or (last_before key (entries_in tree.now)) (seen before.entry) }
-    ensures from { seen result.1 ≡ option_or (first_from key (entries_in tree.now)) (seen from.entry) }
+    ensures before { seen result.0 ≡ last_before key (entries_in tree.now) }
+    ensures from { seen result.1 ≡ first_from key (entries_in tree.now) }
     ensures not_fewer { steps.old ≤ steps.new }
     ensures steps { steps.new ≤ steps.old + height_of tree.now }
 {
-    match tree {
-        None => (before, from),
-        Some(node) => {
-            let node: &Node<T> = node;
-            let here = node.entry.key;
-            steps.tick();
-            if here < key {
-                find_around(&node.right, key, Some(&node.entry), from, steps)
-            } else {
-                find_around(&node.left, key, before, Some(&node.entry), steps)
-            }
+    let mut before: Option<&'a Entry<T>> = None;
+    let mut from: Option<&'a Entry<T>> = None;
+    let mut rest = tree;
+    'down: while let Some(node) = rest {
+        let node: &'a Node<T> = node;
+        let here = node.entry.key;
+        steps.tick();
+        if here < key {
+            before = Some(&node.entry);
+            rest = &node.right;
+        } else {
+            from = Some(&node.entry);
+            rest = &node.left;
         }
     }
+    (before, from)
 }
 
 /// Writes the value of a key, if it is there.

@@ -172,9 +172,10 @@ impl DeviceData {
         ensures only { IfErr result (λ fault. fault ≡ Memory) }
         ensures needed { OnErr result (LacksRoom lens.now regions holdings pointers self.old.room) }
     {
-        // Most directives need no room, and what follows would look at each list for it.
+        // Most directives need no room, and what follows would look at each list for it. What was made for births that
+        // never came is given up all the same.
         if lens.is_empty() && regions == 0 && holdings == 0 && pointers == 0 {
-            return Ok(());
+            return self.environment.device.reserve(&[]);
         }
         self.grow(lens, regions, holdings, pointers)
     }

@@ -95,8 +95,9 @@ fn take_out(regions: &mut VecDeque<OpenRegion>, number: u64)
 
 /// The open regions.
 ///
-/// A number is searched for by halves. A region that is opened or left moves those of higher numbers or those of lower
-/// ones, whichever are fewer. So neither the newest nor the oldest one moves any other when it is left.
+/// A number is searched for by halves, unless it comes behind all others, or is not behind the oldest one. A region that
+/// is opened or left moves those of higher numbers or those of lower ones, whichever are fewer. So neither the newest nor
+/// the oldest one moves any other when it is left.
 #[derive(Drop)]
 pub struct Register {
     alloc: Global,

@@ -16,7 +16,7 @@ pub trait ByteTest {
         ensures { result ≡ test byte };
 }
 
-/// Each of the bytes passes. All of them are looked at, whichever fails.
+/// Each byte of a run passes. All of them are looked at, whichever fails.
 #[inline(always)]
 fn all_in<T: ByteTest>(run: &[u8]) -> bool
     ensures { result ≡ list_all T.test run.now }
@@ -29,7 +29,6 @@ fn all_in<T: ByteTest>(run: &[u8]) -> bool
 }
 
 /// Each of the bytes passes.
-
 pub fn all_pass<T: ByteTest>(bytes: &[u8]) -> bool
     ensures { result ≡ list_all T.test bytes.now }
 {
@@ -48,7 +47,6 @@ pub fn all_pass<T: ByteTest>(bytes: &[u8]) -> bool
 }
 
 /// How many bytes at the front pass.
-
 pub fn passing_len<T: ByteTest>(bytes: &[u8]) -> usize
     ensures count { result ≡ prefix_len T.test bytes.now }
     ensures bound { result ≤ length bytes.now }

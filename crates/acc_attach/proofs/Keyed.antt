@@ -143,10 +143,10 @@ put_count block pointer count es lt some =
 none_without : (key : ℕ) (es : List (Entry ℕ)) → AllByRecursion (λ e. (e.key == key) ≡ false) es → without_key key es ≡ es
 none_without key es h = filter-kept (λ e. not (e.key == key)) es (AllByRecursion-weaker (λ (e : Entry ℕ). (e.key == key) ≡ false) (λ e. not (e.key == key) ≡ true) es (λ e off. rw off refl) h)
 
-pub added-counters : (block pointer : ℕ) (es : List (Entry ℕ)) → pointer < 2 ^ 64 → find (is_of block pointer) (counters_in es) ≡ None → counters_in (with_entry (entry_of block pointer 1) es) ≡ with_count block pointer 1 (counters_in es)
-added-counters block pointer es lt none =
+pub added-counters : (block pointer count : ℕ) (es : List (Entry ℕ)) → pointer < 2 ^ 64 → 0 < count → find (is_of block pointer) (counters_in es) ≡ None → counters_in (with_entry (entry_of block pointer count) es) ≡ with_count block pointer count (counters_in es)
+added-counters block pointer count es lt some none =
     let off = none_without (key_of block pointer) es (find_none (λ e. e.key == key_of block pointer) es (key_missing block pointer es lt none)) in
-    ap (λ (xs : List (Entry ℕ)). counters_in (with_entry (entry_of block pointer 1) xs)) (sym off) ∙ put_count block pointer 1 es lt (omega arith)
+    ap (λ (xs : List (Entry ℕ)). counters_in (with_entry (entry_of block pointer count) xs)) (sym off) ∙ put_count block pointer count es lt some
 
 -- a value that is written is one put in the place of the old one
 written_put : (block pointer count : ℕ) (es : List (Entry ℕ)) → KeysRise es → IsSome (at_key (key_of block pointer) es) → counters_in (with_value (key_of block pointer) count es) ≡ counters_in (with_entry (entry_of block pointer count) (without_key (key_of block pointer) es))

@@ -4,7 +4,7 @@ ghost use Rattle.std.specs.Prelude.{◌≡◌, ◌+◌, ◌^◌, ◌<◌, ◌≤
 ghost use Rattle.acc_base.specs.Attachments.{count_at, with_count, attach, detach, attached_by, without_attachments, is_skipped, next_pointer};
 ghost use Rattle.acc_attach.specs.Attached.{AreAttached, left_of};
 
-use crate::counters::Counters;
+use crate::counters::{Counters, Found};
 use crate::left::Left;
 use acc_base::{Aim, Attachment, Fault};
 use std::alloc::Global;
@@ -68,7 +68,7 @@ impl Attached {
     pub fn count(&self, block: u64, pointer: u64) -> u64
         ensures { result ≡ count_at block pointer self.now.attached }
     {
-        self.counters.count(block, pointer)
+        self.counters.find(block, pointer).count
     }
 
     /// Attaches a pointer of a block to a target (OpenACC 3.3, section 2.7.2). Where it is attached and aimed there
@@ -93,13 +93,13 @@ impl Attached {
         ensures taken { OnOk result (self.old.spare ≤ self.new.spare + 1) }
         ensures kept { OnErr result (self.old.spare ≤ self.new.spare) }
     {
-        let count = self.counters.count(block, pointer);
-        if count == 0 {
+        let found = self.counters.find(block, pointer);
+        if found.count == 0 {
             self.counters.reserve(1)?;
-        } else if now == target && self.counter_max <= count {
+        } else if now == target && self.counter_max <= found.count {
             return Err(Fault::CounterFull { item: 0 });
         }
-        Ok(self.attach_reserved(block, pointer, target, now))
+        Ok(self.attach_found(block, pointer, target, now, found))
     }
 
     /// As [`Attached::attach`], where the counter has not reached its limit and there is room for one more if it is
@@ -112,15 +112,49 @@ impl Attached {
         ensures counter_max { self.new.counter_max ≡ self.old.counter_max }
         ensures spare { self.old.spare ≤ self.new.spare + 1 }
     {
-        if self.counters.count(block, pointer) > 0 && now == target {
-            self.aim_again(block, pointer);
+        let found = self.counters.find(block, pointer);
+        self.attach_found(block, pointer, target, now, found)
+    }
+
+    /// As [`Attached::attach_reserved`], of a counter that was searched for.
+    fn attach_found(&mut self, block: u64, pointer: u64, target: u64, now: u64, found: Found) -> Aim
+        requires found { found.count ≡ count_at block pointer self.old.attached }
+        requires room { count_at block pointer self.old.attached ≡ 0 → 1 ≤ self.old.spare }
+        requires not_full { IsOk (attach self.old.counter_max 0 block pointer target now self.old.attached) }
+        ensures aim { attach self.old.counter_max 0 block pointer target now self.old.attached ≡ Ok result }
+        ensures attached { self.new.attached ≡ attached_by result self.old.attached }
+        ensures counter_max { self.new.counter_max ≡ self.old.counter_max }
+        ensures spare { self.old.spare ≤ self.new.spare + 1 }
+    {
+        self.laws();
+        if found.count > 0 && now == target {
+            let again = found.count + 1;
+            self.put(block, pointer, again, found);
             return Aim::Again { pointer, block };
         }
-        self.aim_reserved(block, pointer);
+        self.put(block, pointer, 1, found);
         Aim::New {
             pointer,
             block,
             target,
+        }
+    }
+
+    /// Sets a counter that was searched for to a number above zero, where there is room for it.
+    fn put(&mut self, block: u64, pointer: u64, count: u64, found: Found)
+        requires some { 0 < count }
+        requires most { count ≤ self.old.counter_max }
+        requires found { found.count ≡ count_at block pointer self.old.attached }
+        requires room { count_at block pointer self.old.attached ≡ 0 → 1 ≤ self.old.spare }
+        ensures attached { self.new.attached ≡ with_count block pointer count self.old.attached }
+        ensures counter_max { self.new.counter_max ≡ self.old.counter_max }
+        ensures taken { self.old.spare ≤ self.new.spare + 1 }
+        ensures kept { 0 < found.count → self.old.spare ≤ self.new.spare }
+    {
+        if found.count == 0 {
+            self.counters.add(block, pointer, count, found.place);
+        } else {
+            self.counters.set(block, pointer, count, found.place);
         }
     }
 
@@ -132,11 +166,8 @@ impl Attached {
         ensures counter_max { self.new.counter_max ≡ self.old.counter_max }
         ensures spare { self.old.spare ≤ self.new.spare + 1 }
     {
-        if self.counters.count(block, pointer) == 0 {
-            self.counters.add(block, pointer);
-        } else {
-            self.counters.set(block, pointer, 1);
-        }
+        let found = self.counters.find(block, pointer);
+        self.put(block, pointer, 1, found);
     }
 
     /// Raises the counter of an attached pointer of a block by one. It has not reached its limit.
@@ -147,8 +178,8 @@ impl Attached {
         ensures counter_max { self.new.counter_max ≡ self.old.counter_max }
         ensures spare { self.old.spare ≤ self.new.spare }
     {
-        let count = self.counters.count(block, pointer);
-        self.counters.set(block, pointer, count + 1);
+        let found = self.counters.find(block, pointer);
+        self.put(block, pointer, found.count + 1, found);
     }
 
     /// Detaches a pointer of a block (OpenACC 3.3, section 2.7.2): its counter falls by one, or stays zero. `pointer`
@@ -159,11 +190,11 @@ impl Attached {
         ensures counter_max { self.new.counter_max ≡ self.old.counter_max }
         ensures spare { self.old.spare ≤ self.new.spare }
     {
-        let count = self.counters.count(block, pointer);
-        if count <= 1 {
-            return self.detach_now(block, pointer);
+        let found = self.counters.find(block, pointer);
+        if found.count <= 1 {
+            return self.clear(block, pointer, found);
         }
-        self.counters.set(block, pointer, count - 1);
+        self.put(block, pointer, found.count - 1, found);
         Left::Less
     }
 
@@ -174,10 +205,22 @@ impl Attached {
         ensures counter_max { self.new.counter_max ≡ self.old.counter_max }
         ensures spare { self.old.spare ≤ self.new.spare }
     {
-        if self.counters.count(block, pointer) == 0 {
+        let found = self.counters.find(block, pointer);
+        self.clear(block, pointer, found)
+    }
+
+    /// As [`Attached::detach_now`], of a counter that was searched for.
+    fn clear(&mut self, block: u64, pointer: u64, found: Found) -> Left
+        requires found { found.count ≡ count_at block pointer self.old.attached }
+        ensures left { result ≡ left_of true (count_at block pointer self.old.attached) }
+        ensures attached { self.new.attached ≡ attached_by (detach true block pointer self.old.attached) self.old.attached }
+        ensures counter_max { self.new.counter_max ≡ self.old.counter_max }
+        ensures spare { self.old.spare ≤ self.new.spare }
+    {
+        if found.count == 0 {
             return Left::Nothing;
         }
-        self.counters.take_out(block, pointer);
+        self.counters.take_out(block, pointer, found.place);
         Left::Zero
     }
 

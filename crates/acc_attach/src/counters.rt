@@ -23,13 +23,14 @@ fn key_of(block: u64, pointer: u64) -> u128
     u128::from(block) * ADDRESSES + u128::from(pointer)
 }
 
-/// The entry of a key, if there is one.
-fn entry_of(rows: &Rows<u64>, key: u128) -> Option<Entry<u64>>
-    ensures { result ≡ at_key key rows.now.entries }
+/// The entry of a key, if there is one, and where it stands or would be put.
+fn entry_of(rows: &Rows<u64>, key: u128) -> (Option<Entry<u64>>, Place)
+    ensures { result.0 ≡ at_key key rows.now.entries }
 {
-    match rows.get(key, Place::default()) {
-        Some(entry) => Some(*entry),
-        None => None,
+    let (found, place) = rows.look_up(key);
+    match found {
+        Some(entry) => (Some(*entry), place),
+        None => (None, place),
     }
 }
 
@@ -59,6 +60,15 @@ fn begins_by(counter: Attachment, block: u64, address: u64) -> bool
     ensures { result ≡ (counter.block == block && nat_le counter.pointer address) }
 {
     counter.block == block && counter.pointer <= address
+}
+
+/// What a search finds of a counter.
+#[derive(Clone, Copy)]
+pub struct Found {
+    /// How often the pointer is attached.
+    pub count: u64,
+    /// Where the counter stands, or would be put.
+    pub place: Place,
 }
 
 /// The counters above zero, and room for more of them.
@@ -105,13 +115,17 @@ impl Counters {
         copy_counters_of(&self.rows, alloc)
     }
 
-    /// How often a pointer of a block is attached.
-    pub fn count(&self, block: u64, pointer: u64) -> u64
-        ensures { result ≡ count_at block pointer self.now.counters }
+    /// How often a pointer of a block is attached, and where its counter stands.
+    pub fn find(&self, block: u64, pointer: u64) -> Found
+        ensures { result.count ≡ count_at block pointer self.now.counters }
     {
-        match entry_of(&self.rows, key_of(block, pointer)) {
-            Some(entry) => entry.value,
-            None => 0,
+        let (entry, place) = entry_of(&self.rows, key_of(block, pointer));
+        match entry {
+            Some(entry) => Found {
+                count: entry.value,
+                place,
+            },
+            None => Found { count: 0, place },
         }
     }
 
@@ -150,39 +164,40 @@ impl Counters {
         }
     }
 
-    /// A counter that was zero is one, where there is room for it.
-    pub fn add(&mut self, block: u64, pointer: u64)
+    /// Gives a counter that is zero another value, where there is room for it. It is put near a place.
+    pub fn add(&mut self, block: u64, pointer: u64, count: u64, near: Place)
+        requires some { 0 < count }
         requires new { find (is_of block pointer) self.old.counters ≡ None }
         requires room { 1 ≤ self.old.room }
-        ensures counters { self.new.counters ≡ with_count block pointer 1 self.old.counters }
+        ensures counters { self.new.counters ≡ with_count block pointer count self.old.counters }
         ensures room { self.old.room ≤ self.new.room + 1 }
     {
-        self.rows.insert(Entry {
+        let entry = Entry {
             key: key_of(block, pointer),
             size: 0,
-            value: 1,
-        });
+            value: count,
+        };
+        self.rows.insert_near(entry, near);
     }
 
-    /// Gives a counter that is not zero another value, which is not zero.
-    pub fn set(&mut self, block: u64, pointer: u64, count: u64)
+    /// Gives a counter that is not zero another value, which is not zero. It is looked for first near a place.
+    pub fn set(&mut self, block: u64, pointer: u64, count: u64, near: Place)
         requires some { 0 < count }
         requires there { IsSome (find (is_of block pointer) self.old.counters) }
         ensures counters { self.new.counters ≡ with_count block pointer count self.old.counters }
         ensures room { self.old.room ≤ self.new.room }
     {
         self.rows.laws();
-        self.rows
-            .set(key_of(block, pointer), count, Place::default());
+        self.rows.set(key_of(block, pointer), count, near);
     }
 
-    /// Takes out a counter, which then is zero.
-    pub fn take_out(&mut self, block: u64, pointer: u64)
+    /// Takes out a counter, which then is zero. It is looked for first near a place.
+    pub fn take_out(&mut self, block: u64, pointer: u64, near: Place)
         requires { IsSome (find (is_of block pointer) self.old.counters) }
         ensures counters { self.new.counters ≡ without_attachment block pointer self.old.counters }
         ensures room { self.old.room ≤ self.new.room }
     {
-        self.rows.remove(key_of(block, pointer), Place::default());
+        self.rows.remove(key_of(block, pointer), near);
     }
 
     /// Takes out the counters of a block.
@@ -191,7 +206,7 @@ impl Counters {
         ensures room { self.old.room ≤ self.new.room }
     {
         while let Some(pointer) = self.next(block, 0) {
-            self.take_out(block, pointer);
+            self.take_out(block, pointer, Place::default());
         }
     }
 }

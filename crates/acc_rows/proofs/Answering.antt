@@ -39,6 +39,10 @@ module _ {T : Type 0} where
   rows_some key [] place p some = absurd (omega (arith, p.split.bound))
   rows_some key (row ∷ rows) place p some = omega arith
 
+  pub got_rows : (rows : List (Vec (Entry T) Global)) (n : ℕ) (e : Entry T) → slice_get (side_by_side rows) n ≡ Some e → 0 < length rows
+  got_rows [] n e is = cc
+  got_rows (row ∷ rows) n e is = omega arith
+
   pub key_of_found : (key : ℕ) (es : List (Entry T)) (e : Entry T) → at_key key es ≡ Some e → e.key ≡ key
   key_of_found key [] e is = cc
   key_of_found key (f ∷ es) e is = go (key_of_found key es e) (f.key == key) refl is

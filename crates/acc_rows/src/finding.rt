@@ -1,4 +1,5 @@
 //! Where an entry stands, or would stand.
+ghost use Rattle.std.specs.Bool.{OnTrue};
 ghost use Rattle.std.specs.Prelude.{◌≡◌, ℕ, ◌+◌, ◌-◌, ◌*◌, ◌^◌, ◌<◌, ◌≤◌, length, IfSome, IsSome, None, slice_get};
 ghost use Rattle.std.specs.List.{AllByRecursion};
 ghost use Rattle.acc_tree.specs.Listing.{at_key, seen};
@@ -6,7 +7,7 @@ ghost use Rattle.acc_rows.specs.Laid.{side_by_side, IsRow, AreInRows};
 ghost use Rattle.acc_rows.specs.Spots.{index_of, IsTaken, IsInRow, IsPlaceOf, IsEntryAt};
 
 use crate::places::Place;
-use crate::search::count_below;
+use crate::search::{count_below, parts};
 use acc_base::Steps;
 use acc_tree::Entry;
 
@@ -77,9 +78,33 @@ pub fn entry_of<'a, T: Copy>(
     None
 }
 
+/// Whether an entry of a key would be put at a place. That is never told of a place before all entries.
+#[inline]
+fn fits<T: Copy>(firsts: &[u128], rows: &[Vec<Entry<T>>], key: u128, place: Place) -> bool
+    requires in_rows { AreInRows firsts.now rows.now }
+    ensures { OnTrue result (IsPlaceOf key rows.now place) }
+{
+    if place.row >= rows.len() || !parts(firsts, key, place.row + 1) {
+        return false;
+    }
+    parts(&rows[place.row], key, place.at)
+}
+
+/// Where an entry of a key would be put. It is looked for first at a place.
+#[inline]
+pub fn find_near<T: Copy>(firsts: &[u128], rows: &[Vec<Entry<T>>], key: u128, near: Place) -> Place
+    requires in_rows { AreInRows firsts.now rows.now }
+    ensures { IsPlaceOf key rows.now result }
+{
+    if fits(firsts, rows, key, near) {
+        return near;
+    }
+    find(firsts, rows, key, &mut Steps::new())
+}
+
 /// The place itself, or the first of the next row where it is behind all entries of its row.
 #[inline]
-fn ahead<T: Copy>(rows: &[Vec<Entry<T>>], place: Place) -> Place
+pub fn ahead<T: Copy>(rows: &[Vec<Entry<T>>], place: Place) -> Place
     requires each { AllByRecursion IsRow rows.now }
     requires within { IsInRow rows.now place }
     requires some { index_of rows.now place < length (side_by_side rows.now) }

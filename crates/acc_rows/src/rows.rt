@@ -5,7 +5,7 @@ ghost use Rattle.acc_rows.specs.Laid.{side_by_side};
 
 use crate::changes::{make_place, make_rows, put, start, take_out, write};
 use crate::counting::count_in;
-use crate::finding::{entry_before, entry_from, entry_of, find, locate};
+use crate::finding::{ahead, entry_before, entry_from, entry_of, find, find_near, locate};
 use crate::places::Place;
 use acc_base::{Fault, Steps};
 use acc_tree::Entry;
@@ -100,6 +100,22 @@ impl<T: Copy> Rows<T> {
         if entry.key == key { Some(entry) } else { None }
     }
 
+    /// The entry of a key, if it is there, and where it stands. Else the place is the one where it would be put.
+    #[inline]
+    pub fn look_up(&self, key: u128) -> (Option<&Entry<T>>, Place)
+        ensures { seen result.0 ≡ at_key key self.now.entries }
+    {
+        let place = find(&self.firsts, &self.rows, key, &mut Steps::new());
+        let Some(entry) = entry_from(&self.rows, place) else {
+            return (None, place);
+        };
+        if entry.key == key {
+            (Some(entry), ahead(&self.rows, place))
+        } else {
+            (None, place)
+        }
+    }
+
     /// The entries on both sides of a key.
     #[inline]
     pub fn around(&self, key: u128) -> Around<'_, T>
@@ -152,11 +168,21 @@ impl<T: Copy> Rows<T> {
         ensures entries { self.new.entries ≡ with_entry entry self.old.entries }
         ensures room { self.old.room ≤ self.new.room + 1 }
     {
+        self.insert_near(entry, Place::default())
+    }
+
+    /// As [`Rows::insert`], but the place is looked for first near another.
+    pub fn insert_near(&mut self, entry: Entry<T>, near: Place) -> Place
+        requires room { 1 ≤ self.old.room }
+        requires new { at_key entry.key self.old.entries ≡ None }
+        ensures entries { self.new.entries ≡ with_entry entry self.old.entries }
+        ensures room { self.old.room ≤ self.new.room + 1 }
+    {
         if self.rows.is_empty() {
             start(&mut self.firsts, &mut self.rows, &mut self.spare, entry);
             return Place { row: 0, at: 0 };
         }
-        let found = find(&self.firsts, &self.rows, entry.key, &mut Steps::new());
+        let found = find_near(&self.firsts, &self.rows, entry.key, near);
         let place = make_place(&mut self.firsts, &mut self.rows, &mut self.spare, found);
         put(&mut self.firsts, &mut self.rows, place, entry);
         place

@@ -4,6 +4,7 @@ pub mod Searched
 pub mod Placing
 pub mod Reading
 pub mod Changing
+pub mod Passing
 pub mod Starting
 pub mod Answering
 pub mod Joining

@@ -7,7 +7,7 @@ ghost use Rattle.acc_rows.specs.Laid.{side_by_side, IsRow, AreInRows};
 ghost use Rattle.acc_rows.specs.Spots.{index_of, IsTaken, IsInRow, IsPlaceOf, IsEntryAt};
 
 use crate::places::Place;
-use crate::search::{count_below, parts};
+use crate::search::{count_below, count_few, count_many, parts};
 use acc_base::Steps;
 use acc_tree::Entry;
 
@@ -27,6 +27,30 @@ pub fn find<T: Copy>(firsts: &[u128], rows: &[Vec<Entry<T>>], key: u128, steps: 
     let row = behind - 1;
     let at = count_below(&rows[row], key, steps);
     Place { row, at }
+}
+
+/// As [`find`], by at most thirty steps beside one for each binary digit of the number of entries. It takes no branch by a
+/// key: which one a search takes in the end cannot be foreseen.
+#[inline]
+pub fn place_of<T: Copy>(
+    firsts: &[u128],
+    rows: &[Vec<Entry<T>>],
+    key: u128,
+    steps: &mut Steps,
+) -> Place
+    requires in_rows { AreInRows firsts.now rows.now }
+    requires limit { steps.old ≤ 2 ^ 32 }
+    ensures place { IsPlaceOf key rows.now result }
+    ensures not_fewer { steps.old ≤ steps.new }
+    ensures steps { (d : ℕ) → length (side_by_side rows.now) < 2 ^ d → steps.new ≤ steps.old + d + 30 }
+{
+    let behind = count_many(firsts, key, steps);
+    if behind == 0 {
+        return Place { row: 0, at: 0 };
+    }
+    let number = behind - 1;
+    let at = count_few(&rows[number], key, steps);
+    Place { row: number, at }
 }
 
 /// The first entry from a place on, if there is one.
@@ -99,7 +123,7 @@ pub fn find_near<T: Copy>(firsts: &[u128], rows: &[Vec<Entry<T>>], key: u128, ne
     if fits(firsts, rows, key, near) {
         return near;
     }
-    find(firsts, rows, key, &mut Steps::new())
+    place_of(firsts, rows, key, &mut Steps::new())
 }
 
 /// The place itself, or the first of the next row where it is behind all entries of its row.
@@ -132,5 +156,5 @@ pub fn locate<T: Copy>(firsts: &[u128], rows: &[Vec<Entry<T>>], key: u128, near:
     if entry_of(rows, key, near).is_some() {
         return near;
     }
-    ahead(rows, find(firsts, rows, key, &mut Steps::new()))
+    ahead(rows, place_of(firsts, rows, key, &mut Steps::new()))
 }

@@ -5,7 +5,9 @@ ghost use Rattle.acc_rows.specs.Laid.{side_by_side};
 
 use crate::changes::{make_place, make_rows, put, start, take_out, write};
 use crate::counting::count_in;
-use crate::finding::{ahead, entry_before, entry_from, entry_of, find, find_near, locate};
+use crate::finding::{
+    ahead, entry_before, entry_from, entry_of, find, find_near, locate, place_of,
+};
 use crate::places::Place;
 use acc_base::{Fault, Steps};
 use acc_tree::Entry;
@@ -26,7 +28,7 @@ pub struct Around<'a, T> {
 /// Entries by rising key, and room for more of them.
 ///
 /// They stand in rows of up to 64, and the least key of each row in a list of its own. A look-up is a search by halves
-/// in that list and one in a row. A change moves entries of one row or two. Where a row comes or goes, it also moves
+/// in that list and one in a row. Where no steps are counted, it takes no branch by a key. A change moves entries of one row or two. Where a row comes or goes, it also moves
 /// the list of rows behind it, which grows with the number of entries. Memory is asked for by [`Rows::reserve`] alone:
 /// an entry more uses up at most one row that waits.
 #[derive(Drop)]
@@ -95,7 +97,7 @@ impl<T: Copy> Rows<T> {
         if let Some(entry) = entry_of(&self.rows, key, near) {
             return Some(entry);
         }
-        let place = find(&self.firsts, &self.rows, key, &mut Steps::new());
+        let place = place_of(&self.firsts, &self.rows, key, &mut Steps::new());
         let entry = entry_from(&self.rows, place)?;
         if entry.key == key { Some(entry) } else { None }
     }
@@ -105,7 +107,7 @@ impl<T: Copy> Rows<T> {
     pub fn look_up(&self, key: u128) -> (Option<&Entry<T>>, Place)
         ensures { seen result.0 ≡ at_key key self.now.entries }
     {
-        let place = find(&self.firsts, &self.rows, key, &mut Steps::new());
+        let place = place_of(&self.firsts, &self.rows, key, &mut Steps::new());
         let Some(entry) = entry_from(&self.rows, place) else {
             return (None, place);
         };
@@ -155,10 +157,12 @@ impl<T: Copy> Rows<T> {
     }
 
     /// The entry of least key from `key` on.
+    #[inline]
     pub fn next(&self, key: u128) -> Option<&Entry<T>>
         ensures { seen result ≡ first_from key self.now.entries }
     {
-        self.around(key).from
+        let place = place_of(&self.firsts, &self.rows, key, &mut Steps::new());
+        entry_from(&self.rows, place)
     }
 
     /// Puts an entry in its place by its key, which is not there yet, and returns where it stands. It needs no memory.

@@ -7,6 +7,7 @@ ghost use Rattle.acc_attach.specs.Attached.{AreAttached, left_of};
 use crate::counters::{Counters, Found};
 use crate::left::Left;
 use acc_base::{Aim, Attachment, Fault};
+use acc_rows::Place;
 use std::alloc::Global;
 use std::marker::Model;
 
@@ -250,6 +251,14 @@ impl Attached {
         ensures { result ≡ next_pointer block from self.now.attached }
     {
         self.counters.next(block, from)
+    }
+
+    /// As [`Attached::next_pointer`], and where its counter stands. It is looked for first at a place and right behind
+    /// it: by the place of one pointer the next one is found without a search. Any place may be handed in.
+    pub fn next_pointer_near(&self, block: u64, from: u64, near: Place) -> (Option<u64>, Place)
+        ensures { result.0 ≡ next_pointer block from self.now.attached }
+    {
+        self.counters.next_near(block, from, near)
     }
 
     // ---- copies

@@ -44,6 +44,17 @@ fn entry_from(rows: &Rows<u64>, key: u128) -> Option<Entry<u64>>
     }
 }
 
+/// As [`entry_from`], and where that entry stands. It is looked for first at a place and right behind it.
+fn entry_near(rows: &Rows<u64>, key: u128, near: Place) -> (Option<Entry<u64>>, Place)
+    ensures { result.0 ≡ first_from key rows.now.entries }
+{
+    let (found, place) = rows.next_near(key, near);
+    match found {
+        Some(entry) => (Some(*entry), place),
+        None => (None, place),
+    }
+}
+
 /// The counter that an entry stands for: its key is the block and the pointer, its value how often that is attached.
 pub fn to_counter(entry: Entry<u64>) -> Attachment
     ensures { result ≡ counter_in entry }
@@ -153,6 +164,34 @@ impl Counters {
         }
     }
 
+    /// As [`Counters::first_from`], and where that counter stands. It is looked for first at a place and right behind it.
+    fn first_near(&self, block: u64, pointer: u64, near: Place) -> (Option<Attachment>, Place)
+        ensures found { result.0 ≡ find (is_from block pointer) self.now.counters }
+        ensures rising { EachPair IsBefore self.now.counters }
+    {
+        self.rows.laws();
+        let (entry, place) = entry_near(&self.rows, key_of(block, pointer), near);
+        match entry {
+            Some(entry) => (Some(to_counter(entry)), place),
+            None => (None, place),
+        }
+    }
+
+    /// As [`Counters::next`], and where the counter stands. It is looked for first at a place and right behind it.
+    pub fn next_near(&self, block: u64, from: u64, near: Place) -> (Option<u64>, Place)
+        ensures { result.0 ≡ next_pointer block from self.now.counters }
+    {
+        let (first, place) = self.first_near(block, from, near);
+        let Some(counter) = first else {
+            return (None, place);
+        };
+        if counter.block == block {
+            (Some(counter.pointer), place)
+        } else {
+            (None, place)
+        }
+    }
+
     /// The address is one of the eight bytes of an attached pointer of the block.
     pub fn skips(&self, block: u64, address: u64) -> bool
         ensures { result ≡ is_skipped block self.now.counters address }
@@ -205,8 +244,15 @@ impl Counters {
         ensures counters { self.new.counters ≡ without_attachments block self.old.counters }
         ensures room { self.old.room ≤ self.new.room }
     {
-        while let Some(pointer) = self.next(block, 0) {
-            self.take_out(block, pointer, Place::default());
+        let mut near = Place::default();
+        loop {
+            let (next, place) = self.next_near(block, 0, near);
+            let Some(pointer) = next else {
+                return;
+            };
+            self.take_out(block, pointer, place);
+            // The next one moves up to there.
+            near = place;
         }
     }
 }

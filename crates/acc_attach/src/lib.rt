@@ -8,5 +8,6 @@ mod copying;
 mod counters;
 mod left;
 
+pub use acc_rows::Place;
 pub use attaching::Attached;
 pub use left::Left;

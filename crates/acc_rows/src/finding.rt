@@ -126,6 +126,27 @@ pub fn find_near<T: Copy>(firsts: &[u128], rows: &[Vec<Entry<T>>], key: u128, ne
     place_of(firsts, rows, key, &mut Steps::new())
 }
 
+/// As [`find_near`], but it is looked for first right behind the place.
+#[inline]
+pub fn find_behind<T: Copy>(
+    firsts: &[u128],
+    rows: &[Vec<Entry<T>>],
+    key: u128,
+    near: Place,
+) -> Place
+    requires in_rows { AreInRows firsts.now rows.now }
+    ensures { IsPlaceOf key rows.now result }
+{
+    let behind = Place {
+        row: near.row,
+        at: near.at.saturating_add(1),
+    };
+    if fits(firsts, rows, key, behind) {
+        return behind;
+    }
+    find_near(firsts, rows, key, near)
+}
+
 /// The place itself, or the first of the next row where it is behind all entries of its row.
 #[inline]
 pub fn ahead<T: Copy>(rows: &[Vec<Entry<T>>], place: Place) -> Place

@@ -6,7 +6,7 @@ ghost use Rattle.acc_rows.specs.Laid.{side_by_side};
 use crate::changes::{make_place, make_rows, put, start, take_out, write};
 use crate::counting::count_in;
 use crate::finding::{
-    ahead, entry_before, entry_from, entry_of, find, find_near, locate, place_of,
+    ahead, entry_before, entry_from, entry_of, find, find_behind, find_near, locate, place_of,
 };
 use crate::places::Place;
 use acc_base::{Fault, Steps};
@@ -163,6 +163,18 @@ impl<T: Copy> Rows<T> {
     {
         let place = place_of(&self.firsts, &self.rows, key, &mut Steps::new());
         entry_from(&self.rows, place)
+    }
+
+    /// As [`Rows::next`], and where that entry stands. It is looked for first at a place and right behind it.
+    #[inline]
+    pub fn next_near(&self, key: u128, near: Place) -> (Option<&Entry<T>>, Place)
+        ensures { seen result.0 ≡ first_from key self.now.entries }
+    {
+        let place = find_behind(&self.firsts, &self.rows, key, near);
+        let Some(entry) = entry_from(&self.rows, place) else {
+            return (None, place);
+        };
+        (Some(entry), ahead(&self.rows, place))
     }
 
     /// Puts an entry in its place by its key, which is not there yet, and returns where it stands. It needs no memory.

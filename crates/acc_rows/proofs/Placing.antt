@@ -1,7 +1,10 @@
 -- A search among the least keys and then in one row finds the place of a key among all entries.
-use Rattle.std.proofs.Common.{ℕ, zero, suc, ◌≡◌, ◌+◌, ◌<◌, ◌≤◌, refl, sym, ap, subst, true, false, List, [], ◌∷◌, ◌++◌, length, take, drop, length-append, ◌-◌, arith}
+use Rattle.std.proofs.Common.{ℕ, zero, suc, ◌≡◌, ◌+◌, ◌<◌, ◌≤◌, refl, sym, ap, subst, true, false, List, [], ◌∷◌, ◌++◌, length, get_or, take, drop, length-append, ◌-◌, ◌∙◌, arith}
 use Rattle.std.specs.Prelude.{map, nat_lt}
+use Rattle.std.specs.Bool.{OnTrue}
 use Rattle.std.specs.List.{AllByRecursion}
+use Rattle.std.proofs.Math.Dec.{leb}
+use Rattle.std.proofs.lemmas.Bool.{leb-true, OnTrue_from}
 use Rattle.std.specs.declared.alloc.Global.{Global}
 use Rattle.std.specs.declared.vec.Vec.{Vec}
 use Rattle.std.proofs.lemmas.Bool.Decides.{nat_tests}
@@ -14,6 +17,8 @@ use Rattle.acc_tree.specs.Listing.{KeysRise}
 use Rattle.acc_tree.proofs.Steps.{all_in_front, all_behind}
 use Rattle.acc_rows.specs.Laid.{side_by_side, least_key, least_key_in, IsRow, AreInRows}
 use Rattle.acc_rows.specs.Spots.{index_of, IsRowAt, IsInRow, IsPlaceOf}
+use Rattle.acc_rows.specs.declared.places.Place.{Place}
+use Rattle.acc_rows.proofs.Halving.{failed_down}
 use Rattle.acc_rows.proofs.Laying.{row_number_at, sides_of_row}
 use Rattle.acc_rows.proofs.Searched.{IsSplitAt}
 
@@ -135,6 +140,15 @@ module _ {T : Type 0} where
       in_first : (rs : List (Vec (Entry T) Global)) → 0 < length rs → IsInRow rs (record { row = 0; at = 0 })
       in_first [] some = absurd (omega arith)
       in_first (row ∷ rs) some = record { row = row; row_is = record { before = []; behind = rs; is = refl; number_is = refl }; bound = omega arith }
+
+  -- where the first key is not below a key, that is before all entries
+  pub before_all : (key : ℕ) (firsts : List ℕ) (rows : List (Vec (Entry T) Global)) (place : Place) → AreInRows firsts rows → place.row ≡ 0 → place.at ≡ 0 → 0 < length rows → OnTrue (leb key (get_or firsts 0 0)) (IsPlaceOf key rows place)
+  before_all key firsts rows place h row at some = OnTrue_from (leb key (get_or firsts 0 0)) (IsPlaceOf key rows place) (λ le.
+      let long = ap length h.firsts_are ∙ length-map rows least_key_in in
+      let rise : EachPair (λ (x : ℕ) (y : ℕ). x < y) firsts = rw h.firsts_are (firsts_rise rows h.rising h.each) in
+      let split : IsSplitBy (λ k. nat_lt k key) firsts 0 = record { bound = omega arith; passed = tt; failed = failed_down (λ (k : ℕ). k) key firsts 0 0 rise (omega (arith, long, some)) (leb-true key (get_or firsts 0 0) le) } in
+      let same : record { row = 0; at = 0 } ≡ place = ap (λ r. record { row = r; at = 0 }) (sym row) ∙ ap (λ a. record { row = place.row; at = a }) (sym at) in
+      subst (λ (p : Place). IsPlaceOf key rows p) same (place_first key firsts rows h split))
 
   -- ---- how many there are
 

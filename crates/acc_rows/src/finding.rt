@@ -102,13 +102,19 @@ pub fn entry_of<'a, T: Copy>(
     None
 }
 
-/// Whether an entry of a key would be put at a place. That is never told of a place before all entries.
+/// Whether an entry of a key would be put at a place.
 #[inline]
 fn fits<T: Copy>(firsts: &[u128], rows: &[Vec<Entry<T>>], key: u128, place: Place) -> bool
     requires in_rows { AreInRows firsts.now rows.now }
     ensures { OnTrue result (IsPlaceOf key rows.now place) }
 {
-    if place.row >= rows.len() || !parts(firsts, key, place.row + 1) {
+    if place.row >= rows.len() {
+        return false;
+    }
+    if place.row == 0 && place.at == 0 {
+        return key <= firsts[0];
+    }
+    if !parts(firsts, key, place.row + 1) {
         return false;
     }
     parts(&rows[place.row], key, place.at)

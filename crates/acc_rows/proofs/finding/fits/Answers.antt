@@ -2,8 +2,11 @@ use Rattle.std.proofs.Common.{◌≡◌, suc, ◌+◌, arith, true}
 use Rattle.std.proofs.lemmas.Bool.{OnTrue_at, OnTrue_from}
 use Rattle.acc_rows.specs.Spots.{IsPlaceOf}
 use Rattle.acc_rows.proofs.Laying.{row_at}
-use Rattle.acc_rows.proofs.Placing.{firsts_rise, place_found, row_rises}
+use Rattle.acc_rows.proofs.Placing.{firsts_rise, before_all, place_found, row_rises}
 use Rattle.acc_rows.proofs.finding.fits.Goals as goal
+
+pub returns-then-place-eq0-2 : goal.returns-then-place-eq0-2
+returns-then-place-eq0-2 g c = before_all c.args.key c.args.firsts.now c.args.rows.now c.args.place c.requires.in_rows c.if-place-eq0.true c.if-place-eq0-2.true (omega arith)
 
 pub parts-requires : goal.parts-requires
 parts-requires g c = record { rising = rw c.requires.in_rows.firsts_are (firsts_rise c.args.rows.now c.requires.in_rows.rising c.requires.in_rows.each) }

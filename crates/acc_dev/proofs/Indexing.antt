@@ -1,15 +1,9 @@
 -- The index: entries that are gone stand in it and say nothing.
-use Rattle.std.proofs.Common.{ℕ, zero, suc, ◌≡◌, ◌-◌, ◌<◌, ◌≤◌, refl, sym, ap, ◌∙◌, Bool, true, false, cond, List, [], ◌∷◌, ◌++◌, length, get_or, set, take, subst, Option, Some, None, Result, Ok, Err, arith, inl, inr}
-use Rattle.std.specs.Prelude.{map, filter, not, slice_get, option_to_list, IfSome, IfNone}
+use Rattle.std.proofs.Common.{ℕ, zero, suc, ◌≡◌, ◌-◌, ◌<◌, ◌≤◌, refl, sym, ap, ◌∙◌, Bool, true, false, cond, List, [], ◌∷◌, ◌++◌, length, get_or, set, take, subst, Option, Some, None, arith, inl, inr}
+use Rattle.std.specs.Prelude.{◌+◌, map, filter, not, slice_get, option_to_list}
 use Rattle.std.specs.List.{AllByRecursion, remove}
-use Rattle.std.specs.List.Sorted.{IsSearchInRange, IsBinarySearchResult, IsNonDecreasingBy}
-use Rattle.std.specs.Ordering.{nat_cmp, ordering_index}
-use Rattle.std.specs.Result.{result_ok}
 use Rattle.std.proofs.lemmas.Bool.{cases_lt, cases_eq}
-use Rattle.std.proofs.lemmas.Bool.Decides.{nat_tests}
 use Rattle.std.proofs.lemmas.Option.{same_Some}
-use Rattle.std.proofs.lemmas.Cmp.{ranked}
-use Rattle.std.proofs.lemmas.List.Sorted.{IsNonDecreasingBy-from_default}
 use Rattle.acc_base.proofs.Keyed.{all_from}
 use Rattle.std.proofs.lemmas.List.{map-append}
 use Rattle.std.proofs.lemmas.List.Elements.{filter-append}
@@ -59,23 +53,104 @@ rise_to xs i j r le within = elim (cases_eq i j) [
   | inr differs ↦ omega (arith, rise_at xs i j r (omega arith) within)
 ]
 
--- the comparisons with a number rise along the index, as a binary search asks
-comparisons_rise : (xs : List Entry) (n : ℕ) → AreEntriesRising xs → IsNonDecreasingBy (λ (e : Entry). ordering_index (nat_cmp e.number n)) xs
-comparisons_rise xs n r = IsNonDecreasingBy-from_default (λ (e : Entry). ordering_index (nat_cmp e.number n)) xs blank_entry (λ i j le within.
-    let up : (get_or xs i blank_entry).number ≤ (get_or xs j blank_entry).number = rise_to xs i j r le within in
-    grind (arith, nat_tests))
+-- the numbers rise by one at least from place to place
+rise_far : (xs : List Entry) (i j : ℕ) → AreEntriesRising xs → i ≤ j → j < length xs → (get_or xs i blank_entry).number + (j - i) ≤ (get_or xs j blank_entry).number
+rise_far xs i zero r le within = let same : i ≡ 0 = omega arith in rw same (omega arith)
+rise_far xs i (suc k) r le within = elim (cases_lt k i) [
+  | inl last ↦ let same : i ≡ suc k = omega arith in rw same (omega arith)
+  | inr before ↦
+      let far : (get_or xs i blank_entry).number + (k - i) ≤ (get_or xs k blank_entry).number = rise_far xs i k r before (omega arith) in
+      let more : (get_or xs k blank_entry).number < (get_or xs (suc k) blank_entry).number = rise_at xs k (suc k) r (omega arith) within in
+      omega arith
+]
 
--- a binary search ends at the number, or the number is not there
-pub searched : (xs : List Entry) (n : ℕ) (r : Result ℕ ℕ) → AreEntriesRising xs → IsSearchInRange r (length xs) → IsBinarySearchResult (λ (e : Entry). nat_cmp e.number n) xs r → IfSome (result_ok r) (IsNumberAt xs n) × IfNone (result_ok r) (AllByRecursion (λ (e : Entry). e.number ≡ n → ⊥) xs)
-searched xs n (Ok at) rise range equal = (record { in_bounds = range; is = ranked _ n _ (sym (equal blank_entry)) }, tt)
-searched xs n (Err at) rise range parted =
-    let parts = parted (comparisons_rise xs n rise) in (
-      tt,
-      all_from (λ (e : Entry). e.number ≡ n → ⊥) xs blank_entry (λ k within same. elim (cases_lt k at) [
-        | inl below ↦ let less : (get_or xs k blank_entry).number < n = ranked _ n _ (sym (parts.0 k blank_entry (omega arith) below)) in omega arith
-        | inr above ↦ let more : n < (get_or xs k blank_entry).number = ranked _ n _ (sym (parts.1 k blank_entry above within)) in omega arith
-      ]),
-    )
+first_at : (xs : List Entry) (x : Entry) → slice_get xs 0 ≡ Some x → (get_or xs 0 blank_entry ≡ x) × (0 < length xs)
+first_at [] x e = cc
+first_at (y ∷ ys) x e = (same_Some y x e, omega arith)
+
+last_at : (xs : List Entry) (x : Entry) → slice_get xs (length xs - 1) ≡ Some x → (get_or xs (length xs - 1) blank_entry ≡ x) × (0 < length xs)
+last_at [] x e = cc
+last_at (y ∷ []) x e = (same_Some y x e, omega arith)
+last_at (y ∷ z ∷ ys) x e =
+    let place : length (y ∷ z ∷ ys) - 1 ≡ suc (length (z ∷ ys) - 1) = omega arith in
+    let rest = last_at (z ∷ ys) x (ap (slice_get (y ∷ z ∷ ys)) (sym place) ∙ e) in
+    (ap (λ (i : ℕ). get_or (y ∷ z ∷ ys) i blank_entry) place ∙ rest.0, omega arith)
+
+-- a list without a first entry has none
+pub none_first : (xs : List Entry) (n : ℕ) → slice_get xs 0 ≡ None → AllByRecursion (λ (e : Entry). e.number ≡ n → ⊥) xs
+none_first [] n e = tt
+none_first (y ∷ ys) n e = cc
+
+pub none_last : (xs : List Entry) (n : ℕ) → slice_get xs (length xs - 1) ≡ None → AllByRecursion (λ (e : Entry). e.number ≡ n → ⊥) xs
+none_last [] n e = tt
+none_last (y ∷ []) n e = cc
+none_last (y ∷ z ∷ ys) n e =
+    let place : length (y ∷ z ∷ ys) - 1 ≡ suc (length (z ∷ ys) - 1) = omega arith in
+    absurd (some_last (z ∷ ys) (omega arith) (ap (slice_get (y ∷ z ∷ ys)) (sym place) ∙ e))
+  where
+    some_last : (zs : List Entry) → 0 < length zs → slice_get zs (length zs - 1) ≡ None → ⊥
+    some_last [] lt e = omega arith
+    some_last (w ∷ []) lt e = cc
+    some_last (w ∷ v ∷ zs) lt e =
+        let place : length (w ∷ v ∷ zs) - 1 ≡ suc (length (v ∷ zs) - 1) = omega arith in
+        some_last (v ∷ zs) (omega arith) (ap (slice_get (w ∷ v ∷ zs)) (sym place) ∙ e)
+
+-- no number below the first stands in the list, and none above the last
+pub none_below : (xs : List Entry) (x : Entry) (n : ℕ) → AreEntriesRising xs → slice_get xs 0 ≡ Some x → n < x.number → AllByRecursion (λ (e : Entry). e.number ≡ n → ⊥) xs
+none_below xs x n rise first below = all_from (λ (e : Entry). e.number ≡ n → ⊥) xs blank_entry (λ k within same.
+    let up : (get_or xs 0 blank_entry).number ≤ (get_or xs k blank_entry).number = rise_to xs 0 k rise (omega arith) within in
+    let is : (get_or xs 0 blank_entry).number ≡ x.number = ap (λ (e : Entry). e.number) (first_at xs x first).0 in
+    omega arith)
+
+pub none_above : (xs : List Entry) (x : Entry) (n : ℕ) → AreEntriesRising xs → slice_get xs (length xs - 1) ≡ Some x → x.number < n → AllByRecursion (λ (e : Entry). e.number ≡ n → ⊥) xs
+none_above xs x n rise last above = all_from (λ (e : Entry). e.number ≡ n → ⊥) xs blank_entry (λ k within same.
+    let up : (get_or xs k blank_entry).number ≤ (get_or xs (length xs - 1) blank_entry).number = rise_to xs k (length xs - 1) rise (omega arith) (omega arith) in
+    let is : (get_or xs (length xs - 1) blank_entry).number ≡ x.number = ap (λ (e : Entry). e.number) (last_at xs x last).0 in
+    omega arith)
+
+-- the window of a number between the first and the last is not empty, and holds its place
+pub window_some : (xs : List Entry) (x y : Entry) (n : ℕ) → AreEntriesRising xs → slice_get xs 0 ≡ Some x → slice_get xs (length xs - 1) ≡ Some y → x.number ≤ n → n ≤ y.number → ((length xs - 1) - (y.number - n) ≤ n - x.number) × (0 < length xs)
+window_some xs x y n rise first last low high =
+    let some : 0 < length xs = (first_at xs x first).1 in
+    let far : (get_or xs 0 blank_entry).number + (length xs - 1 - 0) ≤ (get_or xs (length xs - 1) blank_entry).number = rise_far xs 0 (length xs - 1) rise (omega arith) (omega arith) in
+    let is_x : (get_or xs 0 blank_entry).number ≡ x.number = ap (λ (e : Entry). e.number) (first_at xs x first).0 in
+    let is_y : (get_or xs (length xs - 1) blank_entry).number ≡ y.number = ap (λ (e : Entry). e.number) (last_at xs y last).0 in
+    (omega arith, some)
+
+pub window_holds : (xs : List Entry) (x y : Entry) (n at : ℕ) → AreEntriesRising xs → slice_get xs 0 ≡ Some x → slice_get xs (length xs - 1) ≡ Some y → IsNumberAt xs n at → ((length xs - 1) - (y.number - n) ≤ at) × (at ≤ n - x.number)
+window_holds xs x y n at rise first last found =
+    let within : at < length xs = found.in_bounds in
+    let is : (get_or xs at blank_entry).number ≡ n = found.is in
+    let before : (get_or xs 0 blank_entry).number + (at - 0) ≤ (get_or xs at blank_entry).number = rise_far xs 0 at rise (omega arith) within in
+    let behind : (get_or xs at blank_entry).number + (length xs - 1 - at) ≤ (get_or xs (length xs - 1) blank_entry).number = rise_far xs at (length xs - 1) rise (omega arith) (omega arith) in
+    let is_x : (get_or xs 0 blank_entry).number ≡ x.number = ap (λ (e : Entry). e.number) (first_at xs x first).0 in
+    let is_y : (get_or xs (length xs - 1) blank_entry).number ≡ y.number = ap (λ (e : Entry). e.number) (last_at xs y last).0 in
+    (omega arith, omega arith)
+
+-- ---- a window is halved
+
+-- each place of the number is one of so many from a place on
+abbrev pub IsHeld : List Entry → ℕ → ℕ → ℕ → Type 0
+IsHeld xs n from count = (at : ℕ) → IsNumberAt xs n at → (from ≤ at) × (at < from + count)
+
+pub held_up : (xs : List Entry) (n from count half : ℕ) → AreEntriesRising xs → IsHeld xs n from count → from + count ≤ length xs → half < count → (get_or xs (from + half) blank_entry).number ≤ n → IsHeld xs n (from + half) (count - half)
+held_up xs n from count half rise held within less up at found = elim (cases_lt at (from + half)) [
+  | inl before ↦ let order : (get_or xs at blank_entry).number < (get_or xs (from + half) blank_entry).number = rise_at xs at (from + half) rise before (omega arith) in absurd (omega (arith, found.is, up))
+  | inr after ↦ let h = held at found in (after, omega (arith, h.1))
+]
+
+pub held_down : (xs : List Entry) (n from count half : ℕ) → AreEntriesRising xs → IsHeld xs n from count → from + count ≤ length xs → half + half ≤ count → n < (get_or xs (from + half) blank_entry).number → IsHeld xs n from (count - half)
+held_down xs n from count half rise held within less down at found = elim (cases_lt at (from + half)) [
+  | inl before ↦ let h = held at found in (h.0, omega (arith, before))
+  | inr after ↦ let order : (get_or xs (from + half) blank_entry).number ≤ (get_or xs at blank_entry).number = rise_to xs (from + half) at rise after found.in_bounds in absurd (omega (arith, found.is, down))
+]
+
+-- one place is left
+pub held_one : (xs : List Entry) (n from : ℕ) → IsHeld xs n from 1 → ((get_or xs from blank_entry).number ≡ n → ⊥) → AllByRecursion (λ (e : Entry). e.number ≡ n → ⊥) xs
+held_one xs n from held differs = all_from (λ (e : Entry). e.number ≡ n → ⊥) xs blank_entry (λ k within same.
+    let h = held k (record { in_bounds = within; is = same }) in
+    let here : k ≡ from = omega (arith, h) in
+    differs (ap (λ (i : ℕ). (get_or xs i blank_entry).number) (sym here) ∙ same))
 
 -- ---- an entry that is not gone
 

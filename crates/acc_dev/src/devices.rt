@@ -16,7 +16,9 @@ ghost use Rattle.acc_dev.specs.Device.{number_at, HasBlock, IsNew, IsUnchanged, 
 ghost use Rattle.acc_dev.specs.Kept.{IsStoredOf};
 
 use crate::ended::EndedBlocks;
-use crate::entries::{Stored, make_room, put, remove_block, set_mark, slot_of_block, write_at};
+use crate::entries::{
+    Stored, make_room, put, remove_block, set_mark, slot_near, slot_of_block, write_at,
+};
 use crate::filling::{fill, filled, make_vectors};
 use crate::index::Index;
 use acc_base::{DEVICE_BASE, Ended, Fault, Hole, MEMORY_MAX};
@@ -176,6 +178,9 @@ impl Device {
         ensures unchanged { IsUnchanged self.old self.new }
     {
         self.ready.clear();
+        if lens.is_empty() {
+            return Ok(());
+        }
         let count = lens.len() as u64;
         make_room(
             &mut self.holes,
@@ -324,8 +329,9 @@ impl Device {
         requires few { pins_at block self.old.marks < 2 ^ 32 }
         ensures { IsPinned self.old self.new block }
     {
-        let (pins, ended) = self.mark_of(block);
-        self.mark(block, pins + 1, ended);
+        let near = self.index.place(block);
+        let (pins, ended) = self.mark_of(block, near);
+        self.mark(block, near, pins + 1, ended);
     }
 
     /// Says that one queued transfer fewer names a block of the device. Where it was the last one and the mapping of
@@ -338,12 +344,13 @@ impl Device {
         ensures retired { OnTrue result (IsRetired self.old self.new block) }
         ensures unpinned { OnFalse result (IsUnpinned self.old self.new block) }
     {
-        let (pins, ended) = self.mark_of(block);
+        let near = self.index.place(block);
+        let (pins, ended) = self.mark_of(block, near);
         if ended && pins == 1 {
-            self.give_back(block);
+            self.give_back(block, near);
             return true;
         }
-        self.mark(block, pins - 1, ended);
+        self.mark(block, near, pins - 1, ended);
         false
     }
 
@@ -359,12 +366,13 @@ impl Device {
         ensures retired { OnTrue result (IsRetired self.old self.new block) }
         ensures kept { OnFalse result (IsEnded self.old self.new block) }
     {
-        let pins = self.pins(block);
+        let near = self.index.place(block);
+        let (pins, _) = self.mark_of(block, near);
         if pins == 0 {
-            self.give_back(block);
+            self.give_back(block, near);
             return true;
         }
-        self.end(block, pins);
+        self.end(block, near, pins);
         false
     }
 
@@ -374,7 +382,7 @@ impl Device {
         ensures pins { result ≡ pins_at block self.now.marks }
         ensures few { result ≤ 2 ^ 32 }
     {
-        self.mark_of(block).0
+        self.stored(block).pins
     }
 
     /// Whether the mapping of a block of the device has ended.
@@ -382,7 +390,7 @@ impl Device {
         requires { HasBlock self.now block }
         ensures { result ≡ is_ended_at block self.now.marks }
     {
-        self.mark_of(block).1
+        self.stored(block).ended
     }
 
     /// Of the blocks whose mapping has ended, the one of least place at or above the device address `from`; `None`
@@ -437,32 +445,40 @@ impl Device {
     }
 
     /// Takes a block of the device, which is not lent, away: its addresses are free again, and its bytes are gone.
-    fn give_back(&mut self, block: u64)
+    ///
+    /// Here and below, `near` is where the index has the block. It is looked for there first, and found in any case.
+    fn give_back(&mut self, block: u64, near: usize)
         requires there { HasBlock self.old block }
         requires free { is_lent block self.old.loans ≡ false }
         ensures { IsRetired self.old self.new block }
     {
-        let stored = self.stored(block);
+        let stored = self.stored_near(block, near);
         let (place, ended) = (stored.place, stored.ended);
         self.ended_blocks.leave(place, ended);
-        remove_block(&mut self.holes, &mut self.slab, &mut self.index, block);
+        remove_block(
+            &mut self.holes,
+            &mut self.slab,
+            &mut self.index,
+            block,
+            near,
+        );
     }
 
     /// How many queued transfers name a block of the device, and whether its mapping has ended, as that of no lent
     /// block has.
-    fn mark_of(&self, block: u64) -> (u64, bool)
+    fn mark_of(&self, block: u64, near: usize) -> (u64, bool)
         requires { HasBlock self.now block }
         ensures pins { result.0 ≡ pins_at block self.now.marks }
         ensures few { result.0 ≤ 2 ^ 32 }
         ensures ended { result.1 ≡ is_ended_at block self.now.marks }
         ensures free { result.1 ≡ true → is_lent block self.now.loans ≡ false }
     {
-        let stored = self.stored(block);
+        let stored = self.stored_near(block, near);
         (stored.pins, stored.ended)
     }
 
     /// Sets how many queued transfers name a block of the device, whose mapping has ended or not.
-    fn mark(&mut self, block: u64, pins: u64, ended: bool)
+    fn mark(&mut self, block: u64, near: usize, pins: u64, ended: bool)
         requires there { HasBlock self.old block }
         requires is { ended ≡ is_ended_at block self.old.marks }
         requires few { pins ≤ 2 ^ 32 }
@@ -470,12 +486,12 @@ impl Device {
         requires free { ended ≡ true → is_lent block self.old.loans ≡ false }
         ensures { (change : Mark → Mark) → change (record { block = block; pins = pins_at block self.old.marks; ended = is_ended_at block self.old.marks }) ≡ record { block = block; pins = pins; ended = ended } → IsMarked self.old self.new block change }
     {
-        let slot = slot_of_block(&self.index, block);
+        let slot = slot_near(&self.index, block, near);
         set_mark(&mut self.slab, slot, pins, ended);
     }
 
     /// Says that the mapping of a block of the device has ended, which is not lent and which queued transfers name.
-    fn end(&mut self, block: u64, pins: u64)
+    fn end(&mut self, block: u64, near: usize, pins: u64)
         requires there { HasBlock self.old block }
         requires mapped { is_ended_at block self.old.marks ≡ false }
         requires free { is_lent block self.old.loans ≡ false }
@@ -483,8 +499,8 @@ impl Device {
         requires held { 0 < pins }
         ensures { IsEnded self.old self.new block }
     {
-        let place = self.stored(block).place;
-        let slot = slot_of_block(&self.index, block);
+        let place = self.stored_near(block, near).place;
+        let slot = slot_near(&self.index, block, near);
         set_mark(&mut self.slab, slot, pins, true);
         self.ended_blocks.end(place, block);
     }
@@ -495,5 +511,13 @@ impl Device {
         ensures { IsStoredOf self.now block result.now }
     {
         &self.slab[slot_of_block(&self.index, block)]
+    }
+
+    /// As `stored`, but the index is looked at in a place first, which it told.
+    fn stored_near(&self, block: u64, near: usize) -> &Stored
+        requires { HasBlock self.now block }
+        ensures { IsStoredOf self.now block result.now }
+    {
+        &self.slab[slot_near(&self.index, block, near)]
     }
 }

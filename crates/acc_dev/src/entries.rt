@@ -49,6 +49,18 @@ pub fn slot_of_block(index: &Index, block: u64) -> usize
     slot
 }
 
+/// As [`slot_of_block`], but the entry is looked for at a place first.
+pub fn slot_near(index: &Index, block: u64, near: usize) -> usize
+    requires rising { IsIndexRising index.now.entries }
+    requires there { AllByRecursion (λ e. e.0 ≡ block → ⊥) index.now.entries → ⊥ }
+    ensures { IsSlotOf index.now.entries block result }
+{
+    let Some(slot) = index.slot_near(block, near) else {
+        unreachable!()
+    };
+    slot
+}
+
 /// Makes room for `count` blocks more, so that so many calls of [`put`] need no memory. It is refused only where that
 /// room was missing, and then only room has grown.
 pub fn make_room(
@@ -131,8 +143,14 @@ pub fn put(
     place
 }
 
-/// Takes away a block, which is not lent, and gives its addresses back.
-pub fn remove_block(holes: &mut Holes, slab: &mut Slab<Stored>, index: &mut Index, block: u64)
+/// Takes away a block, which is not lent, and gives its addresses back. Its entry is looked for at a place first.
+pub fn remove_block(
+    holes: &mut Holes,
+    slab: &mut Slab<Stored>,
+    index: &mut Index,
+    block: u64,
+    near: usize,
+)
     requires kept { AreSlotsKept holes.old slab.old.slots index.old.entries }
     requires there { AllByRecursion (λ e. e.0 ≡ block → ⊥) index.old.entries → ⊥ }
     requires free { (at : ℕ) → IsEntry index.old.entries block at → stored_loan (slot_of slab.old.slots (slice_index_or index.old.entries at (0, 0))) ≡ None }
@@ -144,7 +162,7 @@ pub fn remove_block(holes: &mut Holes, slab: &mut Slab<Stored>, index: &mut Inde
     ensures slab_capacity { slab.new.capacity ≡ slab.old.capacity }
     ensures room_index { index.old.room ≤ index.new.room }
 {
-    let slot = index.take_out(block);
+    let slot = index.take_out_near(block, near);
     let Stored { place, len, .. } = slab.remove(slot);
     holes.give_back(place, len);
 }

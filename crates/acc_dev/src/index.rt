@@ -1,6 +1,6 @@
 //! The index by which a block's number finds its slot.
 
-ghost use Rattle.std.specs.Prelude.{◌≡◌, ◌+◌, ◌<◌, ◌≤◌, false, [], ◌∷◌, ◌++◌, IfSome, IfNone, IfErr, OnOk, OnErr, vec_len, vec_capacity};
+ghost use Rattle.std.specs.Prelude.{◌≡◌, ℕ, ◌+◌, ◌<◌, ◌≤◌, false, [], ◌∷◌, ◌++◌, length, IfSome, IfNone, IfErr, OnOk, OnErr, vec_len, vec_capacity};
 ghost use Rattle.std.specs.List.{AllByRecursion};
 ghost use Rattle.acc_dev.specs.Kept.{IsSlotOf, IsEntryLost, IsIndexRising};
 ghost use Rattle.acc_dev.specs.Indexed.{live_entries, AreEntriesRising, IsNumberAt, ends_gone};
@@ -24,6 +24,7 @@ pub struct Entry {
 ///
 /// An entry that is taken out stays in its place, as gone, until more than half of the entries are. So it moves no
 /// other one. A number stands as far behind the first as it is greater, unless that half was cleared away in between.
+/// A caller that needs an entry twice asks for its place, so that the number is searched for once.
 #[derive(Drop)]
 pub struct Index {
     // By rising number. The last one is not gone.
@@ -85,7 +86,20 @@ impl Index {
         ensures found { IfSome result (IsSlotOf self.now.entries block) }
         ensures none { IfNone result (AllByRecursion (λ e. e.0 ≡ block → ⊥) self.now.entries) }
     {
-        slot_in(&self.items, block)
+        slot_in(&self.items, block, position_of(&self.items, block))
+    }
+
+    /// As [`Index::slot`], but the entry is looked for at a place first, which [`Index::place`] told.
+    pub fn slot_near(&self, block: u64, near: usize) -> Option<usize>
+        ensures found { IfSome result (IsSlotOf self.now.entries block) }
+        ensures none { IfNone result (AllByRecursion (λ e. e.0 ≡ block → ⊥) self.now.entries) }
+    {
+        slot_in(&self.items, block, position_near(&self.items, block, near))
+    }
+
+    /// Where the entry of a block stands, for the calls that look there first. Nothing rests on it but their time.
+    pub fn place(&self, block: u64) -> usize {
+        position_of(&self.items, block).unwrap_or(0)
     }
 
     /// One entry more, of a number above all, where there is room for it.
@@ -102,13 +116,13 @@ impl Index {
         });
     }
 
-    /// Takes out the entry of a block, which has one, and returns its slot.
-    pub fn take_out(&mut self, block: u64) -> usize
+    /// Takes out the entry of a block, which has one, and returns its slot. It is looked for at a place first.
+    pub fn take_out_near(&mut self, block: u64, near: usize) -> usize
         requires there { AllByRecursion (λ e. e.0 ≡ block → ⊥) self.old.entries → ⊥ }
         ensures lost { IsEntryLost self.old.entries self.new.entries block result }
         ensures room { self.old.room ≤ self.new.room }
     {
-        let slot = mark_gone(&mut self.items, block);
+        let slot = mark_gone(&mut self.items, block, near);
         let ended = trim(&mut self.items);
         self.gone = self.gone.saturating_add(1).saturating_sub(ended);
         if self.items.len() / 2 < self.gone {
@@ -119,55 +133,98 @@ impl Index {
     }
 }
 
-/// The place of a number, if it stands as far behind the first entry, or before the last one, as the numbers differ.
-fn place_by_number(items: &[Entry], number: u64) -> Option<usize>
-    ensures { IfSome result (IsNumberAt items.now number) }
+/// The first and the last place at which a number can stand. The numbers rise by one at least from place to place. So
+/// neither is farther from the first entry, or from the last one, than the numbers are apart.
+fn window(items: &[Entry], number: u64) -> Option<(usize, usize)>
+    requires { AreEntriesRising items.now }
+    ensures some { IfSome result (λ w. (w.0 ≤ w.1) × (w.1 < length items.now)) }
+    ensures within { IfSome result (λ w. (at : ℕ) → IsNumberAt items.now number at → (w.0 ≤ at) × (at ≤ w.1)) }
+    ensures none { IfNone result (AllByRecursion (λ e. e.number ≡ number → ⊥) items.now) }
 {
-    let ahead = number.wrapping_sub(items.first()?.number) as usize;
-    if ahead < items.len() && items[ahead].number == number {
-        return Some(ahead);
+    let first = items.first()?.number;
+    let last = items.last()?.number;
+    if number < first || last < number {
+        return None;
     }
-    let behind = items.last()?.number.wrapping_sub(number) as usize;
-    let at = items.len().checked_sub(1)?.checked_sub(behind)?;
-    if at < items.len() && items[at].number == number {
-        return Some(at);
-    }
-    None
+    let top = items.len() - 1;
+    let low = top.saturating_sub((last - number) as usize);
+    let high = top.min((number - first) as usize);
+    Some((low, high))
 }
 
-/// The place of a number, if it stands there.
+/// The place of a number, if it stands in a window, which is halved until one place is left.
+fn position_within(items: &[Entry], number: u64, low: usize, high: usize) -> Option<usize>
+    requires rising { AreEntriesRising items.now }
+    requires window { (low ≤ high) × (high < length items.now) }
+    requires within { (at : ℕ) → IsNumberAt items.now number at → (low ≤ at) × (at ≤ high) }
+    ensures found { IfSome result (IsNumberAt items.now number) }
+    ensures none { IfNone result (AllByRecursion (λ e. e.number ≡ number → ⊥) items.now) }
+{
+    let mut from = low;
+    let mut count = high - low + 1;
+    'halving: while 1 < count {
+        let half = count / 2;
+        if items[from + half].number <= number {
+            from += half;
+        }
+        count -= half;
+    }
+    if items[from].number == number {
+        Some(from)
+    } else {
+        None
+    }
+}
+
+/// The place of a number, if it stands there. Both ends of its window are looked at first.
 fn position_of(items: &[Entry], number: u64) -> Option<usize>
     requires { AreEntriesRising items.now }
     ensures found { IfSome result (IsNumberAt items.now number) }
     ensures none { IfNone result (AllByRecursion (λ e. e.number ≡ number → ⊥) items.now) }
 {
-    if let Some(at) = place_by_number(items, number) {
-        return Some(at);
+    let (low, high) = window(items, number)?;
+    if items[low].number == number {
+        return Some(low);
     }
-    items
-        .binary_search_by_key(&number, |entry| entry.number)
-        .ok()
+    if items[high].number == number {
+        return Some(high);
+    }
+    position_within(items, number, low, high)
 }
 
-/// The slot of a block that is not gone, if it has one.
-fn slot_in(items: &[Entry], block: u64) -> Option<usize>
+/// The place of a number, if it stands there. It is looked for at `near` first.
+fn position_near(items: &[Entry], number: u64, near: usize) -> Option<usize>
     requires { AreEntriesRising items.now }
+    ensures found { IfSome result (IsNumberAt items.now number) }
+    ensures none { IfNone result (AllByRecursion (λ e. e.number ≡ number → ⊥) items.now) }
+{
+    if near < items.len() && items[near].number == number {
+        return Some(near);
+    }
+    position_of(items, number)
+}
+
+/// The slot of a block that is not gone, if its number has a place and is not.
+fn slot_in(items: &[Entry], block: u64, place: Option<usize>) -> Option<usize>
+    requires rising { AreEntriesRising items.now }
+    requires place { IfSome place (IsNumberAt items.now block) }
+    requires no_place { IfNone place (AllByRecursion (λ e. e.number ≡ block → ⊥) items.now) }
     ensures found { IfSome result (IsSlotOf (live_entries items.now) block) }
     ensures none { IfNone result (AllByRecursion (λ e. e.0 ≡ block → ⊥) (live_entries items.now)) }
 {
-    let at = position_of(items, block)?;
+    let at = place?;
     let entry = items[at];
     if entry.gone { None } else { Some(entry.slot) }
 }
 
-/// Marks the entry of a block as gone, and returns its slot.
-fn mark_gone(items: &mut [Entry], block: u64) -> usize
+/// Marks the entry of a block as gone, and returns its slot. It is looked for at `near` first.
+fn mark_gone(items: &mut [Entry], block: u64, near: usize) -> usize
     requires rising { AreEntriesRising items.old }
     requires there { AllByRecursion (λ e. e.0 ≡ block → ⊥) (live_entries items.old) → ⊥ }
     ensures rising { AreEntriesRising items.new }
     ensures lost { IsEntryLost (live_entries items.old) (live_entries items.new) block result }
 {
-    let Some(at) = position_of(items, block) else {
+    let Some(at) = position_near(items, block, near) else {
         unreachable!()
     };
     let entry = items[at];

@@ -21,16 +21,16 @@ remove_block-requires-clause-free c = λ at entry.
 pub leave-requires-clause-there : goal.leave-requires-clause-there
 leave-requires-clause-there c ended =
     let s = c.self.inside in
-    let found = found_stored s.holes s.slab.slots s.index.entries s.births c.args.block (room_ready s) c.stored-stored.result.now c.args.self.now c.self.invariant.0 c.self.invariant.1 c.self.view_is c.stored-stored.ensures in
-    kept_there s.ended_blocks (blocks_in s.slab.slots s.index.entries) (marks_in s.slab.slots s.index.entries) s.births c.args.block (record { number = c.args.block; place = c.stored-stored.result.now.place; len = c.stored-stored.result.now.len }) c.self.invariant.3
-    (subst (λ (o : Bool). IsFound c.args.block (blocks_in s.slab.slots s.index.entries) (marks_in s.slab.slots s.index.entries) (record { number = c.args.block; place = c.stored-stored.result.now.place; len = c.stored-stored.result.now.len }) o) ended found)
+    let found = found_stored s.holes s.slab.slots s.index.entries s.births c.args.block (room_ready s) c.stored_near-stored.result.now c.args.self.now c.self.invariant.0 c.self.invariant.1 c.self.view_is c.stored_near-stored.ensures in
+    kept_there s.ended_blocks (blocks_in s.slab.slots s.index.entries) (marks_in s.slab.slots s.index.entries) s.births c.args.block (record { number = c.args.block; place = c.stored_near-stored.result.now.place; len = c.stored_near-stored.result.now.len }) c.self.invariant.3
+    (subst (λ (o : Bool). IsFound c.args.block (blocks_in s.slab.slots s.index.entries) (marks_in s.slab.slots s.index.entries) (record { number = c.args.block; place = c.stored_near-stored.result.now.place; len = c.stored_near-stored.result.now.len }) o) ended found)
 
 pub leave-requires-clause-mapped : goal.leave-requires-clause-mapped
 leave-requires-clause-mapped c mapped =
     let s = c.self.inside in
-    let found = found_stored s.holes s.slab.slots s.index.entries s.births c.args.block (room_ready s) c.stored-stored.result.now c.args.self.now c.self.invariant.0 c.self.invariant.1 c.self.view_is c.stored-stored.ensures in
-    counted_there s.ended_blocks (blocks_in s.slab.slots s.index.entries) (marks_in s.slab.slots s.index.entries) s.births c.args.block (record { number = c.args.block; place = c.stored-stored.result.now.place; len = c.stored-stored.result.now.len }) c.self.invariant.3
-    (subst (λ (o : Bool). IsFound c.args.block (blocks_in s.slab.slots s.index.entries) (marks_in s.slab.slots s.index.entries) (record { number = c.args.block; place = c.stored-stored.result.now.place; len = c.stored-stored.result.now.len }) o) mapped found)
+    let found = found_stored s.holes s.slab.slots s.index.entries s.births c.args.block (room_ready s) c.stored_near-stored.result.now c.args.self.now c.self.invariant.0 c.self.invariant.1 c.self.view_is c.stored_near-stored.ensures in
+    counted_there s.ended_blocks (blocks_in s.slab.slots s.index.entries) (marks_in s.slab.slots s.index.entries) s.births c.args.block (record { number = c.args.block; place = c.stored_near-stored.result.now.place; len = c.stored_near-stored.result.now.len }) c.self.invariant.3
+    (subst (λ (o : Bool). IsFound c.args.block (blocks_in s.slab.slots s.index.entries) (marks_in s.slab.slots s.index.entries) (record { number = c.args.block; place = c.stored_near-stored.result.now.place; len = c.stored_near-stored.result.now.len }) o) mapped found)
 
 pub returns : goal.returns
 returns c =
@@ -45,8 +45,8 @@ invariant_of-self c =
     let r = c.self.invariant.2 in
     let out = c.remove_block.ensures in
     let lost = out.lost in
-    let x = c.stored-stored.result.now in
-    let found = found_stored s.holes s.slab.slots s.index.entries s.births c.args.block (room_ready s) c.stored-stored.result.now c.args.self.now c.self.invariant.0 c.self.invariant.1 c.self.view_is c.stored-stored.ensures in
+    let x = c.stored_near-stored.result.now in
+    let found = found_stored s.holes s.slab.slots s.index.entries s.births c.args.block (room_ready s) c.stored_near-stored.result.now c.args.self.now c.self.invariant.0 c.self.invariant.1 c.self.view_is c.stored_near-stored.ensures in
     let now = retired_of s.holes c.remove_block.new.holes s.slab.slots c.remove_block.new.slab.slots s.index.entries c.remove_block.new.index.entries s.births lost.at c.args.block (room_ready s) c.self.invariant.0 lost.entry out.memory lost.blocks lost.memories lost.marks lost.loans in (
       out.kept,
       counted_left s.index.entries c.remove_block.new.index.entries s.births lost.at c.self.invariant.1 lost.index,

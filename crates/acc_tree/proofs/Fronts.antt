@@ -1,15 +1,16 @@
 -- The first entry that is large enough, by the greatest sizes, and the front that is taken of it.
-use Rattle.std.proofs.Common.{ℕ, ◌≡◌, ◌+◌, ◌-◌, ◌^◌, ◌<◌, ◌≤◌, refl, ap, subst, ◌∙◌, Bool, true, false, cond, List, [], ◌∷◌, ◌++◌, length, Option, Some, None, IsSome, inl, inr, arith, rules}
+use Rattle.std.proofs.Common.{ℕ, ◌≡◌, ◌+◌, ◌-◌, ◌^◌, ◌<◌, ◌≤◌, refl, sym, ap, subst, ◌∙◌, Bool, true, false, cond, List, [], ◌∷◌, ◌++◌, length, Option, Some, None, IsSome, inl, inr, arith, rules}
 use Rattle.std.specs.Prelude.{◌==◌, ◌&&◌, nat_le}
 use Rattle.std.specs.List.{AllByRecursion}
-use Rattle.std.specs.Option.{option_or}
+use Rattle.std.specs.Option.{option_or, is_some}
+use Rattle.std.specs.Borrow.{Bor}
 use Rattle.std.proofs.lemmas.Bool.Decides.{nat_tests}
 use Rattle.std.proofs.lemmas.Bool.{cases_lt}
 use Rattle.std.proofs.lemmas.List.Folds.{find-append}
 use Rattle.acc_base.proofs.Elements.{AllByRecursion-weaker, find-none, found_has}
 use Rattle.acc_base.proofs.Keyed as keyed
 use Rattle.acc_tree.specs.declared.entries.Entry.{Entry}
-use Rattle.acc_tree.specs.Listing.{KeysRise, AreRanges, at_key, first_large, first_large_from, greatest_size, cut_before, without_key, without_front}
+use Rattle.acc_tree.specs.Listing.{KeysRise, AreRanges, at_key, seen, first_large, first_large_from, greatest_size, cut_before, without_key, without_front}
 use Rattle.acc_tree.proofs.Steps.{Sides, all_in_front, find-behind, kept_over}
 
 or_left : {X : Type 0} (o p : Option X) → IsSome o → option_or o p ≡ o
@@ -63,6 +64,15 @@ module _ {T : Type 0} where
 
   pub large_from_left : (key size : ℕ) (l : List (Entry T)) (x f : Entry T) (r : List (Entry T)) → first_large_from key size l ≡ Some f → first_large_from key size (l ++ x ∷ r) ≡ Some f
   large_from_left key size l x f r e = find-append (λ e. nat_le key e.key && nat_le size e.size) l (x ∷ r) ∙ rw e refl
+
+  -- what a search on the left side has found is found, and else there is none
+  pub large_from_found : (key size : ℕ) (l : List (Entry T)) (x : Entry T) (r : List (Entry T)) (o : Option (Bor (Entry T))) → is_some o ≡ true → seen o ≡ first_large_from key size l → seen o ≡ first_large_from key size (l ++ x ∷ r)
+  large_from_found key size l x r None some e = cc
+  large_from_found key size l x r (Some f) some e = sym (large_from_left key size l x f.now r (sym e))
+
+  pub large_from_missed : (key size : ℕ) (l : List (Entry T)) (o : Option (Bor (Entry T))) → is_some o ≡ false → seen o ≡ first_large_from key size l → first_large_from key size l ≡ None
+  large_from_missed key size l None none e = sym e
+  large_from_missed key size l (Some f) none e = cc
 
   pub large_from_here : (key size : ℕ) (l : List (Entry T)) (x : Entry T) (r : List (Entry T)) → first_large_from key size l ≡ None → key ≤ x.key → size ≤ x.size → first_large_from key size (l ++ x ∷ r) ≡ Some x
   large_from_here key size l x r none le fits =

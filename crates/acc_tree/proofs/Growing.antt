@@ -1,5 +1,5 @@
 -- An entry that grows where it stands: what its tree and the keys are then.
-use Rattle.std.proofs.Common.{ℕ, ◌≡◌, ◌<◌, ◌≤◌, refl, sym, ap, subst, ◌∙◌, Bool, true, false, cond, List, [], ◌∷◌, ◌++◌, length, length-append, Option, Some, IsSome, Box, max, arith}
+use Rattle.std.proofs.Common.{ℕ, ◌≡◌, ◌<◌, ◌≤◌, refl, ap, subst, ◌∙◌, Bool, true, false, cond, List, [], ◌∷◌, ◌++◌, length, Option, Some, IsSome, Box, max, arith}
 use Rattle.std.specs.Prelude.{◌==◌, not, nat_lt, nat_le, IfSome}
 use Rattle.std.specs.List.{AllByRecursion}
 use Rattle.std.specs.declared.alloc.Global.{Global}
@@ -10,10 +10,9 @@ use Rattle.acc_tree.specs.declared.entries.Entry.{Entry}
 use Rattle.acc_tree.specs.Listing.{KeysRise, at_key, first_from, greatest_size, with_entry, without_key}
 use Rattle.acc_tree.specs.Growing.{range_written, with_range, IsClear}
 use Rattle.acc_tree.specs.Shape.{Shape}
-use Rattle.acc_tree.specs.Nodes.{entries_in, height_of, length_of, tree_of, IsTall, IsAvl}
+use Rattle.acc_tree.specs.Nodes.{entries_in, height_of, length_of, IsAvl}
 use Rattle.acc_tree.specs.declared.nodes.Node.TheInside.{Inside}
-use Rattle.acc_tree.proofs.Tall.{greatest_size-append}
-use Rattle.acc_tree.proofs.Values.{alone_same}
+use Rattle.acc_tree.proofs.Values.{kept_left, kept_right}
 use Rattle.acc_tree.proofs.Steps.{Sides, kept_over}
 use Rattle.acc_tree.proofs.Listed.{first_own}
 
@@ -67,32 +66,15 @@ module _ {T : Type 0} where
 
   -- ---- a node whose subtrees keep their form
 
-  pub avl_kept : (n : Inside T) (l r : Option (Box (Shape T) Global)) (e : Entry T) (g : ℕ) → IsAvl n → length (entries_in l) ≡ length (entries_in n.left) → height_of l ≡ height_of n.left → length_of l ≡ length_of n.left → length (entries_in r) ≡ length (entries_in n.right) → height_of r ≡ height_of n.right → length_of r ≡ length_of n.right → g ≡ greatest_size (entries_in l ++ e ∷ entries_in r) → IsAvl (record n { left = l; right = r; entry = e; greatest = g })
-  avl_kept n l r e g avl many_l high_l behind_l many_r high_r behind_r most =
-      let long : length (entries_in l ++ e ∷ entries_in r) ≡ length (tree_of n) = omega (arith, length-append (entries_in l) (e ∷ entries_in r), length-append (entries_in n.left) (n.entry ∷ entries_in n.right)) in
-      record {
-        left = alone_same l n.left behind_l avl.left;
-        right = alone_same r n.right behind_r avl.right;
-        chain = avl.chain;
-        height = omega (arith, avl.height);
-        not_left = omega (arith, avl.not_left);
-        not_right = omega (arith, avl.not_right);
-        greatest = most;
-        tall = subst (λ (k : ℕ). IsTall n.height k) (sym long) avl.tall;
-      }
-
-  pub avl_left : (n : Inside T) (l : Option (Box (Shape T) Global)) (key to size : ℕ) → IsAvl n → IsGrowing key size (entries_in n.left) → entries_in l ≡ with_range key to size (entries_in n.left) → height_of l ≡ height_of n.left → length_of l ≡ length_of n.left → IsAvl (record n { left = l; greatest = max n.greatest size })
+  pub avl_left : (n : Inside T) (l : Option (Box (Shape T) Global)) (key to size : ℕ) → IsAvl n → IsGrowing key size (entries_in n.left) → entries_in l ≡ with_range key to size (entries_in n.left) → height_of l ≡ height_of n.left → length_of l ≡ length_of n.left → IsAvl (record n { left = l; greatest_left = max n.greatest_left size })
   avl_left n l key to size avl g es high same =
-      avl_kept n l n.right n.entry (max n.greatest size) avl (ap length es ∙ length-with_range key to size (entries_in n.left)) high same refl refl refl (omega (arith, avl.greatest, ap greatest_size es, greatest-with_range key to size (entries_in n.left) g, greatest_size-append (entries_in l) n.entry (entries_in n.right), greatest_size-append (entries_in n.left) n.entry (entries_in n.right)))
+      kept_left n l (max n.greatest_left size) avl (record { many = ap length es ∙ length-with_range key to size (entries_in n.left); high = high; behind = same })
+      (omega (arith, avl.greatest_left, ap greatest_size es, greatest-with_range key to size (entries_in n.left) g))
 
-  pub avl_right : (n : Inside T) (r : Option (Box (Shape T) Global)) (key to size : ℕ) → IsAvl n → IsGrowing key size (entries_in n.right) → entries_in r ≡ with_range key to size (entries_in n.right) → height_of r ≡ height_of n.right → length_of r ≡ length_of n.right → IsAvl (record n { right = r; greatest = max n.greatest size })
+  pub avl_right : (n : Inside T) (r : Option (Box (Shape T) Global)) (key to size : ℕ) → IsAvl n → IsGrowing key size (entries_in n.right) → entries_in r ≡ with_range key to size (entries_in n.right) → height_of r ≡ height_of n.right → length_of r ≡ length_of n.right → IsAvl (record n { right = r; greatest_right = max n.greatest_right size })
   avl_right n r key to size avl g es high same =
-      avl_kept n n.left r n.entry (max n.greatest size) avl refl refl refl (ap length es ∙ length-with_range key to size (entries_in n.right)) high same (omega (arith, avl.greatest, ap greatest_size es, greatest-with_range key to size (entries_in n.right) g, greatest_size-append (entries_in n.left) n.entry (entries_in r), greatest_size-append (entries_in n.left) n.entry (entries_in n.right)))
-
-  pub avl_here : (n : Inside T) (to size : ℕ) → IsAvl n → n.entry.size ≤ size → IsAvl (record n { entry = record { key = to; size = size; value = n.entry.value }; greatest = max n.greatest size })
-  avl_here n to size avl le =
-      let new : Entry T = record { key = to; size = size; value = n.entry.value } in
-      avl_kept n n.left n.right new (max n.greatest size) avl refl refl refl refl refl refl (omega (arith, avl.greatest, greatest_size-append (entries_in n.left) new (entries_in n.right), greatest_size-append (entries_in n.left) n.entry (entries_in n.right)))
+      kept_right n r (max n.greatest_right size) avl (record { many = ap length es ∙ length-with_range key to size (entries_in n.right); high = high; behind = same })
+      (omega (arith, avl.greatest_right, ap greatest_size es, greatest-with_range key to size (entries_in n.right) g))
 
   -- ---- the keys
 

@@ -1,13 +1,12 @@
 -- A value written in a tree, which stays balanced, and what the entries keep.
-use Rattle.std.proofs.Common.{ℕ, ◌≡◌, refl, sym, ap, subst, ◌∙◌, true, false, cond, List, [], ◌∷◌, ◌++◌, length, length-append, Option, Some, None, Box, arith}
+use Rattle.std.proofs.Common.{ℕ, ◌≡◌, refl, sym, ap, subst, ◌∙◌, true, false, cond, List, [], ◌∷◌, length, Option, Some, None, Box, arith}
 use Rattle.std.specs.Prelude.{◌==◌}
 use Rattle.std.specs.declared.alloc.Global.{Global}
 use Rattle.acc_tree.specs.declared.entries.Entry.{Entry}
 use Rattle.acc_tree.specs.Listing.{greatest_size, value_written, with_value}
 use Rattle.acc_tree.specs.Shape.{Shape}
-use Rattle.acc_tree.specs.Nodes.{entries_in, height_of, length_of, tree_of, IsAlone, IsTall, IsAvl}
+use Rattle.acc_tree.specs.Nodes.{entries_in, height_of, length_of, IsAlone, IsTall, IsAvl}
 use Rattle.acc_tree.specs.declared.nodes.Node.TheInside.{Inside}
-use Rattle.acc_tree.proofs.Tall.{greatest_size-append}
 
 module _ {T : Type 0} where
   -- an entry keeps its size and its key
@@ -30,51 +29,74 @@ module _ {T : Type 0} where
   alone_same (Some a) None e alone = absurd (omega arith)
   alone_same (Some a) (Some b) e alone = omega arith
 
+  -- ---- a node whose subtrees keep their form
+
+  -- a tree in the place of another: as many entries, as high
+  pub record IsSameForm (new old : Option (Box (Shape T) Global)) : Type 0 where
+    pub many : length (entries_in new) ≡ length (entries_in old)
+    pub high : height_of new ≡ height_of old
+    pub behind : length_of new ≡ length_of old
+
+  tall_same : (new old : Option (Box (Shape T) Global)) → IsSameForm new old → IsTall (height_of old) (length (entries_in old)) → IsTall (height_of new) (length (entries_in new))
+  tall_same new old same tall = subst (λ (h : ℕ). IsTall h (length (entries_in new))) (sym same.high) (subst (λ (k : ℕ). IsTall (height_of old) k) (sym same.many) tall)
+
+  pub kept_left : (n : Inside T) (l : Option (Box (Shape T) Global)) (g : ℕ) → IsAvl n → IsSameForm l n.left → g ≡ greatest_size (entries_in l) → IsAvl (record n { left = l; greatest_left = g })
+  kept_left n l g avl same most = record {
+    left = alone_same l n.left same.behind avl.left;
+    right = avl.right;
+    chain = avl.chain;
+    height_left = avl.height_left ∙ sym same.high;
+    height_right = avl.height_right;
+    not_left = omega (arith, avl.not_left, same.high);
+    not_right = omega (arith, avl.not_right, same.high);
+    low = avl.low;
+    greatest_left = most;
+    greatest_right = avl.greatest_right;
+    tall_left = tall_same l n.left same avl.tall_left;
+    tall_right = avl.tall_right;
+  }
+
+  pub kept_right : (n : Inside T) (r : Option (Box (Shape T) Global)) (g : ℕ) → IsAvl n → IsSameForm r n.right → g ≡ greatest_size (entries_in r) → IsAvl (record n { right = r; greatest_right = g })
+  kept_right n r g avl same most = record {
+    left = avl.left;
+    right = alone_same r n.right same.behind avl.right;
+    chain = avl.chain;
+    height_left = avl.height_left;
+    height_right = avl.height_right ∙ sym same.high;
+    not_left = omega (arith, avl.not_left, same.high);
+    not_right = omega (arith, avl.not_right, same.high);
+    low = avl.low;
+    greatest_left = avl.greatest_left;
+    greatest_right = most;
+    tall_left = avl.tall_left;
+    tall_right = tall_same r n.right same avl.tall_right;
+  }
+
+  -- a node says nothing of its own entry
+  pub kept_entry : (n : Inside T) (e : Entry T) → IsAvl n → IsAvl (record n { entry = e })
+  kept_entry n e avl = record {
+    left = avl.left;
+    right = avl.right;
+    chain = avl.chain;
+    height_left = avl.height_left;
+    height_right = avl.height_right;
+    not_left = avl.not_left;
+    not_right = avl.not_right;
+    low = avl.low;
+    greatest_left = avl.greatest_left;
+    greatest_right = avl.greatest_right;
+    tall_left = avl.tall_left;
+    tall_right = avl.tall_right;
+  }
+
   -- a node with other values in its left subtree
   pub avl_left : (n : Inside T) (l : Option (Box (Shape T) Global)) (key : ℕ) (value : T) → IsAvl n → entries_in l ≡ with_value key value (entries_in n.left) → height_of l ≡ height_of n.left → length_of l ≡ length_of n.left → IsAvl (record n { left = l })
   avl_left n l key value avl es high same =
-      let long : length (entries_in l ++ n.entry ∷ entries_in n.right) ≡ length (tree_of n) = omega (arith, ap length es, length-with_value key value (entries_in n.left), length-append (entries_in l) (n.entry ∷ entries_in n.right), length-append (entries_in n.left) (n.entry ∷ entries_in n.right)) in
-      let large : greatest_size (entries_in l ++ n.entry ∷ entries_in n.right) ≡ greatest_size (tree_of n) = omega (arith, ap greatest_size es, greatest-with_value key value (entries_in n.left), greatest_size-append (entries_in l) n.entry (entries_in n.right), greatest_size-append (entries_in n.left) n.entry (entries_in n.right)) in
-      record {
-        left = alone_same l n.left same avl.left;
-        right = avl.right;
-        chain = avl.chain;
-        height = omega (arith, avl.height);
-        not_left = omega (arith, avl.not_left);
-        not_right = omega (arith, avl.not_right);
-        greatest = avl.greatest ∙ sym large;
-        tall = subst (λ (k : ℕ). IsTall n.height k) (sym long) avl.tall;
-      }
+      kept_left n l n.greatest_left avl (record { many = ap length es ∙ length-with_value key value (entries_in n.left); high = high; behind = same })
+      (avl.greatest_left ∙ sym (ap greatest_size es ∙ greatest-with_value key value (entries_in n.left)))
 
   -- in its right one
   pub avl_right : (n : Inside T) (r : Option (Box (Shape T) Global)) (key : ℕ) (value : T) → IsAvl n → entries_in r ≡ with_value key value (entries_in n.right) → height_of r ≡ height_of n.right → length_of r ≡ length_of n.right → IsAvl (record n { right = r })
   avl_right n r key value avl es high same =
-      let long : length (entries_in n.left ++ n.entry ∷ entries_in r) ≡ length (tree_of n) = omega (arith, ap length es, length-with_value key value (entries_in n.right), length-append (entries_in n.left) (n.entry ∷ entries_in r), length-append (entries_in n.left) (n.entry ∷ entries_in n.right)) in
-      let large : greatest_size (entries_in n.left ++ n.entry ∷ entries_in r) ≡ greatest_size (tree_of n) = omega (arith, ap greatest_size es, greatest-with_value key value (entries_in n.right), greatest_size-append (entries_in n.left) n.entry (entries_in r), greatest_size-append (entries_in n.left) n.entry (entries_in n.right)) in
-      record {
-        left = avl.left;
-        right = alone_same r n.right same avl.right;
-        chain = avl.chain;
-        height = omega (arith, avl.height);
-        not_left = omega (arith, avl.not_left);
-        not_right = omega (arith, avl.not_right);
-        greatest = avl.greatest ∙ sym large;
-        tall = subst (λ (k : ℕ). IsTall n.height k) (sym long) avl.tall;
-      }
-
-  -- and in its own entry
-  pub avl_here : (n : Inside T) (value : T) → IsAvl n → IsAvl (record n { entry = record { key = n.entry.key; size = n.entry.size; value = value } })
-  avl_here n value avl =
-      let new : Entry T = record { key = n.entry.key; size = n.entry.size; value = value } in
-      let long : length (entries_in n.left ++ new ∷ entries_in n.right) ≡ length (tree_of n) = omega (arith, length-append (entries_in n.left) (new ∷ entries_in n.right), length-append (entries_in n.left) (n.entry ∷ entries_in n.right)) in
-      let large : greatest_size (entries_in n.left ++ new ∷ entries_in n.right) ≡ greatest_size (tree_of n) = omega (arith, greatest_size-append (entries_in n.left) new (entries_in n.right), greatest_size-append (entries_in n.left) n.entry (entries_in n.right)) in
-      record {
-        left = avl.left;
-        right = avl.right;
-        chain = avl.chain;
-        height = avl.height;
-        not_left = avl.not_left;
-        not_right = avl.not_right;
-        greatest = avl.greatest ∙ sym large;
-        tall = subst (λ (k : ℕ). IsTall n.height k) (sym long) avl.tall;
-      }
+      kept_right n r n.greatest_right avl (record { many = ap length es ∙ length-with_value key value (entries_in n.right); high = high; behind = same })
+      (avl.greatest_right ∙ sym (ap greatest_size es ∙ greatest-with_value key value (entries_in n.right)))

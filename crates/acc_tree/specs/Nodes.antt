@@ -1,5 +1,5 @@
 -- The fields of a node.
-use Rattle.std.specs.Prelude.{ℕ, ◌≡◌, ◌+◌, ◌*◌, ◌^◌, ◌≤◌, max, List, [], ◌∷◌, ◌++◌, length, Option, Some, None, Box}
+use Rattle.std.specs.Prelude.{ℕ, ◌≡◌, ◌+◌, ◌*◌, ◌^◌, ◌<◌, ◌≤◌, max, List, [], ◌∷◌, ◌++◌, length, Option, Some, None, Box}
 use Rattle.std.specs.declared.alloc.Global.{Global}
 use Rattle.acc_tree.specs.declared.entries.Entry.{Entry}
 use Rattle.acc_tree.specs.Listing.{greatest_size}
@@ -38,18 +38,26 @@ module _ {T : Type 0} where
   abbrev pub tree_of : Inside T → List (Entry T)
   tree_of n = entries_in n.left ++ n.entry ∷ entries_in n.right
 
+  -- the height of the tree that begins at a node
+  abbrev pub high_of : Inside T → ℕ
+  high_of n = max n.height_left n.height_right + 1
+
   abbrev pub shape_of : Inside T → Shape T
-  shape_of n = record { entries = tree_of n; height = n.height; behind = length_of n.next }
+  shape_of n = record { entries = tree_of n; height = high_of n; behind = length_of n.next }
 
   pub record IsAvl (n : Inside T) : Type 0 where
     pub left : IsAlone n.left
     pub right : IsAlone n.right
     pub chain : IsChain n.next
-    pub height : n.height ≡ max (height_of n.left) (height_of n.right) + 1
+    pub height_left : n.height_left ≡ height_of n.left
+    pub height_right : n.height_right ≡ height_of n.right
     pub not_left : height_of n.left ≤ height_of n.right + 1
     pub not_right : height_of n.right ≤ height_of n.left + 1
-    pub greatest : n.greatest ≡ greatest_size (tree_of n)
-    pub tall : IsTall n.height (length (tree_of n))
+    pub low : high_of n < 2 ^ 32
+    pub greatest_left : n.greatest_left ≡ greatest_size (entries_in n.left)
+    pub greatest_right : n.greatest_right ≡ greatest_size (entries_in n.right)
+    pub tall_left : IsTall (height_of n.left) (length (entries_in n.left))
+    pub tall_right : IsTall (height_of n.right) (length (entries_in n.right))
 
   -- a node alone, without subtrees
   pub record IsLeaf (s : Shape T) : Type 0 where

@@ -10,7 +10,7 @@ pub fn balance<T: Copy>(left: Link<T>, node: Box<Node<T>>, right: Link<T>) -> Bo
     requires alone { IsAlone left × IsAlone right }
     requires not_left { height_of left ≤ height_of right + 2 }
     requires not_right { height_of right ≤ height_of left + 2 }
-    requires limit { max (height_of left) (height_of right) < 2 ^ 62 }
+    requires limit { max (height_of left) (height_of right) < 2 ^ 30 }
     ensures entries { result.value.entries ≡ entries_in left ++ node.value.entries ++ entries_in right }
     ensures alone { result.value.behind ≡ 0 }
     ensures not_lower { max (height_of left) (height_of right) ≤ result.value.height }
@@ -34,7 +34,7 @@ fn lean_left<T: Copy>(left: Box<Node<T>>, node: Box<Node<T>>, right: Link<T>) ->
     requires leaf { IsLeaf node.value }
     requires alone { (left.value.behind ≡ 0) × IsAlone right }
     requires two_higher { left.value.height ≡ height_of right + 2 }
-    requires limit { left.value.height < 2 ^ 62 }
+    requires limit { left.value.height < 2 ^ 30 }
     ensures entries { result.value.entries ≡ left.value.entries ++ node.value.entries ++ entries_in right }
     ensures alone { result.value.behind ≡ 0 }
     ensures not_lower { left.value.height ≤ result.value.height }
@@ -57,7 +57,7 @@ fn lean_right<T: Copy>(left: Link<T>, node: Box<Node<T>>, right: Box<Node<T>>) -
     requires leaf { IsLeaf node.value }
     requires alone { IsAlone left × (right.value.behind ≡ 0) }
     requires two_higher { right.value.height ≡ height_of left + 2 }
-    requires limit { right.value.height < 2 ^ 62 }
+    requires limit { right.value.height < 2 ^ 30 }
     ensures entries { result.value.entries ≡ entries_in left ++ node.value.entries ++ right.value.entries }
     ensures alone { result.value.behind ≡ 0 }
     ensures not_lower { right.value.height ≤ result.value.height }
@@ -78,7 +78,7 @@ fn lean_right<T: Copy>(left: Link<T>, node: Box<Node<T>>, right: Box<Node<T>>) -
 /// Takes the first node off a tree.
 fn take_first<T: Copy>(tree: Box<Node<T>>) -> (Box<Node<T>>, Link<T>)
     requires alone { tree.value.behind ≡ 0 }
-    requires limit { tree.value.height < 2 ^ 62 }
+    requires limit { tree.value.height < 2 ^ 30 }
     ensures leaf { IsLeaf result.0.value }
     ensures entries { tree.value.entries ≡ result.0.value.entries ++ entries_in result.1 }
     ensures alone { IsAlone result.1 }
@@ -97,7 +97,7 @@ fn take_first<T: Copy>(tree: Box<Node<T>>) -> (Box<Node<T>>, Link<T>)
 /// Joins two trees without a node between them.
 pub fn merge<T: Copy>(left: Link<T>, right: Link<T>) -> Link<T>
     requires balanced { IsBalanced left right }
-    requires limit { max (height_of left) (height_of right) < 2 ^ 62 }
+    requires limit { max (height_of left) (height_of right) < 2 ^ 30 }
     ensures entries { entries_in result ≡ entries_in left ++ entries_in right }
     ensures alone { IsAlone result }
     ensures height { IsLowered (max (height_of left) (height_of right) + 1) (height_of result) }

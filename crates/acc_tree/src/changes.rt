@@ -5,13 +5,13 @@ ghost use Rattle.acc_tree.specs.Nodes.{entries_in, height_of, length_of, IsAlone
 
 use crate::balances::{balance, merge};
 use crate::entries::Entry;
-use crate::nodes::{Link, Node, fill, greatest, greatest_over, height_over, is_even};
+use crate::nodes::{Link, Node, fill, greatest, height, is_even};
 
 /// Puts an entry into a tree, in a node that waits. Nodes on the way change in place, but for those that rotate.
 pub fn insert<T: Copy>(tree: &mut Link<T>, node: Box<Node<T>>, entry: Entry<T>)
     requires leaf { IsLeaf node.value }
     requires alone { IsAlone tree.old }
-    requires limit { height_of tree.old < 2 ^ 61 }
+    requires limit { height_of tree.old < 2 ^ 29 }
     requires rising { KeysRise (entries_in tree.old) }
     ensures entries { entries_in tree.new ≡ with_entry entry (entries_in tree.old) }
     ensures alone { IsAlone tree.new }
@@ -25,18 +25,22 @@ pub fn insert<T: Copy>(tree: &mut Link<T>, node: Box<Node<T>>, entry: Entry<T>)
     let n = &mut *top;
     if entry.key < n.entry.key {
         insert(&mut n.left, node, entry);
+        n.greatest_left = greatest(&n.left);
+        n.height_left = height(&n.left);
     } else {
         insert(&mut n.right, node, entry);
+        n.greatest_right = greatest(&n.right);
+        n.height_right = height(&n.right);
     }
-    if is_even(&n.left, &n.right) {
-        n.height = height_over(&n.left, &n.right);
-        n.greatest = greatest_over(&n.left, n.entry.size, &n.right);
+    if is_even(n.height_left, n.height_right) {
         *tree = Some(top);
     } else {
         let left = n.left.take();
         let right = n.right.take();
-        n.height = 1;
-        n.greatest = n.entry.size;
+        n.greatest_left = 0;
+        n.greatest_right = 0;
+        n.height_left = 0;
+        n.height_right = 0;
         *tree = Some(balance(left, top, right));
     }
 }
@@ -44,7 +48,7 @@ pub fn insert<T: Copy>(tree: &mut Link<T>, node: Box<Node<T>>, entry: Entry<T>)
 /// Takes the node of a key out of a tree, with its entry. Nodes on the way change in place, but for those that rotate.
 pub fn remove<T: Copy>(tree: &mut Link<T>, key: u128) -> Box<Node<T>>
     requires alone { IsAlone tree.old }
-    requires limit { height_of tree.old < 2 ^ 62 }
+    requires limit { height_of tree.old < 2 ^ 30 }
     requires rising { KeysRise (entries_in tree.old) }
     requires there { IsSome (at_key key (entries_in tree.old)) }
     ensures leaf { IsLeaf result.value }
@@ -62,25 +66,33 @@ pub fn remove<T: Copy>(tree: &mut Link<T>, key: u128) -> Box<Node<T>>
     if key == here {
         let left = n.left.take();
         let right = n.right.take();
-        n.height = 1;
-        n.greatest = n.entry.size;
+        n.greatest_left = 0;
+        n.greatest_right = 0;
+        n.height_left = 0;
+        n.height_right = 0;
         *tree = merge(left, right);
         return top;
     }
     let freed = if key < here {
-        remove(&mut n.left, key)
+        let freed = remove(&mut n.left, key);
+        n.greatest_left = greatest(&n.left);
+        n.height_left = height(&n.left);
+        freed
     } else {
-        remove(&mut n.right, key)
+        let freed = remove(&mut n.right, key);
+        n.greatest_right = greatest(&n.right);
+        n.height_right = height(&n.right);
+        freed
     };
-    if is_even(&n.left, &n.right) {
-        n.height = height_over(&n.left, &n.right);
-        n.greatest = greatest_over(&n.left, n.entry.size, &n.right);
+    if is_even(n.height_left, n.height_right) {
         *tree = Some(top);
     } else {
         let left = n.left.take();
         let right = n.right.take();
-        n.height = 1;
-        n.greatest = n.entry.size;
+        n.greatest_left = 0;
+        n.greatest_right = 0;
+        n.height_left = 0;
+        n.height_right = 0;
         *tree = Some(balance(left, top, right));
     }
     freed
@@ -101,13 +113,13 @@ pub fn cut_front<T: Copy>(tree: &mut Link<T>, size: u64) -> Entry<T>
 {
     let Some(node) = tree else { unreachable!() };
     let node: &mut Node<T> = node;
-    if greatest(&node.left) >= size {
+    if node.greatest_left >= size {
         let entry = cut_front(&mut node.left, size);
-        node.greatest = greatest_over(&node.left, node.entry.size, &node.right);
+        node.greatest_left = greatest(&node.left);
         entry
     } else if node.entry.size < size {
         let entry = cut_front(&mut node.right, size);
-        node.greatest = greatest_over(&node.left, node.entry.size, &node.right);
+        node.greatest_right = greatest(&node.right);
         entry
     } else {
         let entry = node.entry;
@@ -116,7 +128,6 @@ pub fn cut_front<T: Copy>(tree: &mut Link<T>, size: u64) -> Entry<T>
         }
         node.entry.key += size as u128;
         node.entry.size -= size;
-        node.greatest = greatest_over(&node.left, node.entry.size, &node.right);
         entry
     }
 }

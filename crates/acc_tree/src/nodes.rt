@@ -1,4 +1,4 @@
-//! Nodes of a tree, and the two steps that change which subtrees hang from one.
+//! Nodes of a tree, what each keeps of the trees on its sides, and the steps that hang these on it and take them off.
 ghost use Rattle.std.specs.Prelude.{◌≡◌, ◌+◌, ◌^◌, ◌<◌, ◌≤◌, [], ◌∷◌, ◌++◌, max, length, Some, IfSome, MatchBool};
 ghost use Rattle.acc_tree.specs.Listing.{greatest_size};
 ghost use Rattle.acc_tree.specs.Nodes.{entries_in, height_of, length_of, IsTall, IsLeaf, IsChain, IsBalanced};
@@ -11,6 +11,9 @@ use std::marker::Model;
 pub type Link<T> = Option<Box<Node<T>>>;
 
 /// A node of a tree, with those that hang from it, or of a chain, with those behind it.
+///
+/// It keeps the greatest size and the height of the tree on each side. So a walk reads only the nodes on its way, and none
+/// that hangs beside it.
 #[derive(Drop)]
 pub struct Node<T> {
     pub(crate) left: Option<Box<Node<T>>>,
@@ -18,9 +21,11 @@ pub struct Node<T> {
     pub(crate) entry: Entry<T>,
     // The next node of the chain that this one waits in.
     next: Option<Box<Node<T>>>,
-    // The greatest size in the tree that begins here.
-    pub(crate) greatest: u64,
-    pub(crate) height: u64,
+    // The greatest size in the tree on each side.
+    pub(crate) greatest_left: u64,
+    pub(crate) greatest_right: u64,
+    pub(crate) height_left: u32,
+    pub(crate) height_right: u32,
 }
 
 impl<T> Model for Node<T> {
@@ -43,13 +48,16 @@ impl<T> Model for Node<T> {
 }
 
 /// The height of a tree, and what it implies for the number of nodes.
-pub fn height<T>(tree: &Link<T>) -> u64
+pub fn height<T>(tree: &Link<T>) -> u32
     ensures value { result ≡ height_of tree.now }
     ensures tall { IsTall result (length (entries_in tree.now)) }
 {
     match tree {
         None => 0,
-        Some(node) => node.height,
+        Some(node) => {
+            let node: &Node<T> = node;
+            node.height_left.max(node.height_right) + 1
+        }
     }
 }
 
@@ -66,35 +74,20 @@ pub fn greatest<T>(tree: &Link<T>) -> u64
 {
     match tree {
         None => 0,
-        Some(node) => node.greatest,
+        Some(node) => {
+            let node: &Node<T> = node;
+            let beside = node.greatest_left.max(node.greatest_right);
+            beside.max(node.entry.size)
+        }
     }
 }
 
-/// Whether two trees may hang from one node.
-pub fn is_even<T>(left: &Link<T>, right: &Link<T>) -> bool
-    requires limit { max (height_of left.now) (height_of right.now) < 2 ^ 63 }
-    ensures { MatchBool result ((height_of left.now ≤ height_of right.now + 1) × (height_of right.now ≤ height_of left.now + 1)) (height_of left.now ≤ height_of right.now + 1 → height_of left.now + 1 < height_of right.now) }
+/// Whether trees of these heights may hang from one node.
+pub fn is_even(high_left: u32, high_right: u32) -> bool
+    requires limit { max high_left high_right < 2 ^ 31 }
+    ensures { MatchBool result ((high_left ≤ high_right + 1) × (high_right ≤ high_left + 1)) (high_left ≤ high_right + 1 → high_left + 1 < high_right) }
 {
-    let (high_left, high_right) = (height(left), height(right));
     high_left <= high_right + 1 && high_right <= high_left + 1
-}
-
-/// The height of a node from which two trees hang.
-pub fn height_over<T>(left: &Link<T>, right: &Link<T>) -> u64
-    requires limit { max (height_of left.now) (height_of right.now) < 2 ^ 63 }
-    requires not_left { height_of left.now ≤ height_of right.now + 1 }
-    requires not_right { height_of right.now ≤ height_of left.now + 1 }
-    ensures value { result ≡ max (height_of left.now) (height_of right.now) + 1 }
-    ensures tall { IsTall result (length (entries_in left.now) + (length (entries_in right.now) + 1)) }
-{
-    height(left).max(height(right)) + 1
-}
-
-/// The greatest size below a node from which two trees hang, and which has an entry of a size.
-pub fn greatest_over<T>(left: &Link<T>, size: u64, right: &Link<T>) -> u64
-    ensures { result ≡ max (max (greatest_size (entries_in left.now)) (greatest_size (entries_in right.now))) size }
-{
-    greatest(left).max(greatest(right)).max(size)
 }
 
 /// Takes the subtrees off a node.
@@ -108,8 +101,10 @@ pub fn split<T: Copy>(mut node: Box<Node<T>>) -> (Link<T>, Box<Node<T>>, Link<T>
     let n = &mut *node;
     let left = n.left.take();
     let right = n.right.take();
-    n.height = 1;
-    n.greatest = n.entry.size;
+    n.greatest_left = 0;
+    n.greatest_right = 0;
+    n.height_left = 0;
+    n.height_right = 0;
     (left, node, right)
 }
 
@@ -117,14 +112,16 @@ pub fn split<T: Copy>(mut node: Box<Node<T>>) -> (Link<T>, Box<Node<T>>, Link<T>
 pub fn join<T: Copy>(left: Link<T>, mut node: Box<Node<T>>, right: Link<T>) -> Box<Node<T>>
     requires leaf { IsLeaf node.value }
     requires balanced { IsBalanced left right }
-    requires limit { max (height_of left) (height_of right) < 2 ^ 63 }
+    requires limit { max (height_of left) (height_of right) < 2 ^ 31 }
     ensures entries { result.value.entries ≡ entries_in left ++ node.value.entries ++ entries_in right }
     ensures height { result.value.height ≡ max (height_of left) (height_of right) + 1 }
     ensures alone { result.value.behind ≡ 0 }
 {
     let n = &mut *node;
-    n.height = height_over(&left, &right);
-    n.greatest = greatest_over(&left, n.entry.size, &right);
+    n.greatest_left = greatest(&left);
+    n.greatest_right = greatest(&right);
+    n.height_left = height(&left);
+    n.height_right = height(&right);
     n.left = left;
     n.right = right;
     node
@@ -146,7 +143,6 @@ pub fn fill<T: Copy>(mut node: Box<Node<T>>, entry: Entry<T>) -> Box<Node<T>>
 {
     let n = &mut *node;
     n.entry = entry;
-    n.greatest = entry.size;
     node
 }
 
@@ -159,8 +155,10 @@ pub fn new_node<T: Copy>(alloc: Global, entry: Entry<T>) -> Option<Box<Node<T>>>
         right: None,
         next: None,
         entry,
-        greatest: entry.size,
-        height: 1,
+        greatest_left: 0,
+        greatest_right: 0,
+        height_left: 0,
+        height_right: 0,
     };
     match Box::new(alloc, node) {
         Ok(node) => Some(node),

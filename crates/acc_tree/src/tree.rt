@@ -16,8 +16,8 @@ use std::marker::Model;
 /// Memory is asked for by [`Tree::reserve`] alone: an entry goes into a node that waits, and its node waits again once
 /// it is removed. Contracts see a tree as the list of its entries by rising key, and how many more there is room for.
 ///
-/// A walk visits at most two nodes for each binary digit of the number of entries. That of [`Tree::first_fit_from`]
-/// goes down twice, so it visits at most four.
+/// A walk visits at most two nodes for each binary digit of the number of entries. Two calls go down twice, so they visit
+/// at most four: [`Tree::first_fit_from`], and [`Tree::take_front`] where nothing of the entry is left.
 pub struct Tree<T: Copy> {
     alloc: Global,
     // What stands in nodes that wait.

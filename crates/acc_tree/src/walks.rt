@@ -6,7 +6,7 @@ ghost use Rattle.acc_tree.specs.Nodes.{entries_in, height_of, length_of};
 ghost use Rattle.acc_tree.specs.Listing.{seen};
 
 use crate::entries::Entry;
-use crate::nodes::{Link, Node, greatest};
+use crate::nodes::{Link, Node};
 use acc_base::Steps;
 
 /// The entry of a key. Each node on the way is a step.
@@ -52,7 +52,7 @@ pub fn find_large<'a, T: Copy>(
             let node: &Node<T> = node;
             let here = node.entry.size;
             steps.tick();
-            if greatest(&node.left) >= size {
+            if node.greatest_left >= size {
                 find_large(&node.left, size, steps)
             } else if here >= size {
                 Some(&node.entry)
@@ -63,30 +63,32 @@ pub fn find_large<'a, T: Copy>(
     }
 }
 
-/// The first entry from a key on that is at least so large. Trees without one so large are passed over. So the walk
+/// The first entry from a key on that is at least so large. Trees without one so large are not entered. So the walk
 /// visits at most two other nodes at each height: one towards the key, and one towards the entry.
 pub fn find_large_from<'a, T: Copy>(tree: &'a Link<T>, key: u128, size: u64) -> Option<&'a Entry<T>>
     requires some { 0 < size }
     requires rising { KeysRise (entries_in tree.now) }
     ensures { seen result ≡ first_large_from key size (entries_in tree.now) }
 {
-    if greatest(tree) < size {
-        return None;
-    }
     match tree {
         None => None,
         Some(node) => {
             let node: &Node<T> = node;
-            if node.entry.key < key {
-                return find_large_from(&node.right, key, size);
+            if key <= node.entry.key {
+                if size <= node.greatest_left {
+                    let found = find_large_from(&node.left, key, size);
+                    if found.is_some() {
+                        return found;
+                    }
+                }
+                if node.entry.size >= size {
+                    return Some(&node.entry);
+                }
             }
-            if let Some(found) = find_large_from(&node.left, key, size) {
-                return Some(found);
-            }
-            if node.entry.size >= size {
-                Some(&node.entry)
-            } else {
+            if size <= node.greatest_right {
                 find_large_from(&node.right, key, size)
+            } else {
+                None
             }
         }
     }
@@ -159,10 +161,11 @@ pub fn grow<T: Copy>(tree: &mut Link<T>, key: u128, to: u128, size: u64)
         None => {}
         Some(node) => {
             let node: &mut Node<T> = node;
-            node.greatest = node.greatest.max(size);
             if key < node.entry.key {
+                node.greatest_left = node.greatest_left.max(size);
                 grow(&mut node.left, key, to, size);
             } else if node.entry.key < key {
+                node.greatest_right = node.greatest_right.max(size);
                 grow(&mut node.right, key, to, size);
             } else {
                 node.entry.key = to;

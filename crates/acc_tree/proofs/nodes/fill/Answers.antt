@@ -15,3 +15,10 @@ returns-clause-leaf g c =
       height = ap (λ (s : Shape g.row.T.Denot). s.height) is ∙ leaf.height;
       alone = ap (λ (s : Shape g.row.T.Denot). s.behind) is ∙ leaf.alone;
     }
+
+pub returns-clause-entries : goal.returns-clause-entries
+returns-clause-entries g c =
+    let leaf = c.requires.leaf in
+    let is = c.n.view_is ∙ c.deref_mut-n.ensures.value in
+    let one = single (entries_in c.n.inside.left) c.n.inside.entry (entries_in c.n.inside.right) leaf.entry (ap (λ (s : Shape g.row.T.Denot). s.entries) is ∙ leaf.entries) in
+    rw (one.before, one.after) refl

@@ -1,23 +1,28 @@
-use Rattle.std.proofs.Common.{◌≡◌, ◌+◌, ◌∷◌, ◌++◌, [], length, length-append, arith, sym, ap, ◌∙◌, append_assoc}
+use Rattle.std.proofs.Common.{◌≡◌, ◌∷◌, [], arith, sym, ap, ◌∙◌, append_assoc}
 use Rattle.acc_tree.specs.Shape.{Shape}
 use Rattle.acc_tree.proofs.Leaves.{single}
-use Rattle.acc_tree.specs.Nodes.{entries_in, tree_of}
-use Rattle.acc_tree.proofs.Tall.{greatest_size-append}
+use Rattle.acc_tree.specs.Nodes.{entries_in, height_of, tree_of}
+use Rattle.acc_tree.proofs.Tall.{tall_at}
 use Rattle.acc_tree.proofs.nodes.join.Goals as goal
 
 pub invariant_of-n : goal.invariant_of-n
 invariant_of-n g c =
     let b = c.requires.balanced in
-    let e : length (entries_in c.args.left ++ c.n.inside.entry ∷ entries_in c.args.right) ≡ length (entries_in c.args.left) + (length (entries_in c.args.right) + 1) = omega (arith, length-append (entries_in c.args.left) (c.n.inside.entry ∷ entries_in c.args.right)) in
+    let l = c.height-n-inside.ensures in
+    let r = c.height-n-inside-2.ensures in
     record {
       left = b.left;
       right = b.right;
       chain = c.n.invariant.chain;
-      height = c.height_over-n-inside.ensures.value;
+      height_left = l.value;
+      height_right = r.value;
       not_left = b.not_left;
       not_right = b.not_right;
-      greatest = omega (arith, greatest_size-append (entries_in c.args.left) c.n.inside.entry (entries_in c.args.right), c.greatest_over-n-inside.ensures);
-      tall = rw e c.height_over-n-inside.ensures.tall;
+      low = omega (arith, c.requires.limit, l.value, r.value);
+      greatest_left = c.greatest-n-inside.ensures;
+      greatest_right = c.greatest-n-inside-2.ensures;
+      tall_left = tall_at (entries_in c.args.left) c.height-n-inside.result (height_of c.args.left) l.value l.tall;
+      tall_right = tall_at (entries_in c.args.right) c.height-n-inside-2.result (height_of c.args.right) r.value r.tall;
     }
 
 pub returns-clause-entries : goal.returns-clause-entries

@@ -1,10 +1,10 @@
-use Rattle.std.proofs.Common.{arith, refl}
+use Rattle.std.proofs.Common.{refl}
 use Rattle.acc_tree.specs.Nodes.{IsLeaf}
-use Rattle.acc_tree.proofs.Tall.{tall_leaf}
+use Rattle.acc_tree.proofs.Mending.{avl_none}
 use Rattle.acc_tree.proofs.nodes.new_node.Goals as goal
 
 pub invariant_of-node : goal.invariant_of-node
-invariant_of-node g c = record { left = tt; right = tt; chain = tt; height = refl; not_left = omega arith; not_right = omega arith; greatest = omega arith; tall = tall_leaf }
+invariant_of-node g c = avl_none _ tt refl refl refl refl refl refl
 
 pub returns-in-Ok : goal.returns-in-Ok
 returns-in-Ok g c =

@@ -1,11 +1,11 @@
-use Rattle.std.proofs.Common.{◌≡◌, arith, refl, ap, ◌∙◌}
+use Rattle.std.proofs.Common.{◌≡◌, refl, ap, ◌∙◌}
 use Rattle.acc_tree.specs.Shape.{Shape}
 use Rattle.acc_tree.specs.Nodes.{length_of}
-use Rattle.acc_tree.proofs.Tall.{tall_leaf}
+use Rattle.acc_tree.proofs.Mending.{avl_none}
 use Rattle.acc_tree.proofs.nodes.split.Goals as goal
 
 pub invariant_of-n : goal.invariant_of-n
-invariant_of-n g c = rw (c.take-left.ensures.after, c.take-right.ensures.after) (record { left = tt; right = tt; chain = c.n.invariant.chain; height = refl; not_left = omega arith; not_right = omega arith; greatest = omega arith; tall = tall_leaf })
+invariant_of-n g c = avl_none _ c.n.invariant.chain c.take-left.ensures.after c.take-right.ensures.after refl refl refl refl
 
 pub returns-clause-leaf : goal.returns-clause-leaf
 returns-clause-leaf g c =

@@ -2,7 +2,7 @@ use Rattle.std.proofs.Common.{◌≡◌, ◌∷◌, ◌++◌, arith, sym, ap, su
 use Rattle.acc_tree.specs.declared.entries.Entry.{Entry}
 use Rattle.acc_tree.specs.Shape.{Shape}
 use Rattle.acc_tree.specs.Listing.{KeysRise, at_key}
-use Rattle.acc_tree.specs.Nodes.{entries_in, height_of, shape_of}
+use Rattle.acc_tree.specs.Nodes.{entries_in, height_of, high_of, shape_of}
 use Rattle.acc_tree.proofs.Steps.{Sides, sides, at_left, at_here, at_right}
 use Rattle.acc_tree.proofs.walks.+find.Goals as goal
 
@@ -14,9 +14,9 @@ find-requires g t c κs within =
     let is : c.args.tree.now ≡ Some c.in-Some.node = c.in-Some.is in
     let view : shape_of c.node.inside ≡ c.in-Some.node.value = c.node.view_is ∙ c.deref-node.ensures in
     let whole : entries_in c.args.tree.now ≡ l ++ x ∷ r = ap entries_in is ∙ sym (ap (λ (s : Shape g.row.T.Denot). s.entries) view) in
-    let h : height_of c.args.tree.now ≡ c.node.inside.height = ap height_of is ∙ sym (ap (λ (s : Shape g.row.T.Denot). s.height) view) in
+    let h : height_of c.args.tree.now ≡ high_of c.node.inside = ap height_of is ∙ sym (ap (λ (s : Shape g.row.T.Denot). s.height) view) in
     let d : Sides l x r = sides l x r (subst (λ (es : List (Entry g.row.T.Denot)). KeysRise es) whole c.requires.rising) in
-    (omega (arith, c.node.invariant.height), (within, (d.left, omega (arith, c.node.invariant.height, c.tick.ensures))))
+    (omega (arith, c.node.invariant.height_left, c.node.invariant.height_right), (within, (d.left, omega (arith, c.node.invariant.height_left, c.node.invariant.height_right, c.tick.ensures))))
 
 pub find-requires-then-here-key : goal.find-requires-then-here-key
 find-requires-then-here-key g t c κs within =
@@ -26,9 +26,9 @@ find-requires-then-here-key g t c κs within =
     let is : c.args.tree.now ≡ Some c.in-Some.node = c.in-Some.is in
     let view : shape_of c.node.inside ≡ c.in-Some.node.value = c.node.view_is ∙ c.deref-node.ensures in
     let whole : entries_in c.args.tree.now ≡ l ++ x ∷ r = ap entries_in is ∙ sym (ap (λ (s : Shape g.row.T.Denot). s.entries) view) in
-    let h : height_of c.args.tree.now ≡ c.node.inside.height = ap height_of is ∙ sym (ap (λ (s : Shape g.row.T.Denot). s.height) view) in
+    let h : height_of c.args.tree.now ≡ high_of c.node.inside = ap height_of is ∙ sym (ap (λ (s : Shape g.row.T.Denot). s.height) view) in
     let d : Sides l x r = sides l x r (subst (λ (es : List (Entry g.row.T.Denot)). KeysRise es) whole c.requires.rising) in
-    (omega (arith, c.node.invariant.height), (within, (d.right, omega (arith, c.node.invariant.height, c.tick.ensures))))
+    (omega (arith, c.node.invariant.height_left, c.node.invariant.height_right), (within, (d.right, omega (arith, c.node.invariant.height_left, c.node.invariant.height_right, c.tick.ensures))))
 
 pub returns-then-key-here-clause-found : goal.returns-then-key-here-clause-found
 returns-then-key-here-clause-found g t c =

@@ -5,15 +5,15 @@ use Rattle.acc_tree.specs.Nodes.{entries_in, shape_of}
 use Rattle.acc_tree.proofs.Fronts.{large_left, large_here, large_right}
 use Rattle.acc_tree.proofs.walks.+find_large.Goals as goal
 
-pub returns-then-greatest-size-clause-found : goal.returns-then-greatest-size-clause-found
-returns-then-greatest-size-clause-found g t c =
+pub returns-then-node-size-clause-found : goal.returns-then-node-size-clause-found
+returns-then-node-size-clause-found g t c =
     let l = entries_in c.node.inside.left in
     let r = entries_in c.node.inside.right in
     let x = c.node.inside.entry in
     let is : c.args.tree.now ≡ Some c.in-Some.node = c.in-Some.is in
     let view : shape_of c.node.inside ≡ c.in-Some.node.value = c.node.view_is ∙ c.deref-node.ensures in
     let whole : entries_in c.args.tree.now ≡ l ++ x ∷ r = ap entries_in is ∙ sym (ap (λ (s : Shape g.row.T.Denot). s.entries) view) in
-    let fits : c.args.size ≤ greatest_size l = omega (arith, c.greatest.ensures) in
+    let fits : c.args.size ≤ greatest_size l = omega (arith, c.node.invariant.greatest_left) in
     c.find_large.ensures.found ∙ sym (large_left c.args.size l x r c.requires.some fits) ∙ sym (ap (first_large c.args.size) whole)
 
 pub returns-then-here-size-clause-found : goal.returns-then-here-size-clause-found
@@ -24,7 +24,7 @@ returns-then-here-size-clause-found g t c =
     let is : c.args.tree.now ≡ Some c.in-Some.node = c.in-Some.is in
     let view : shape_of c.node.inside ≡ c.in-Some.node.value = c.node.view_is ∙ c.deref-node.ensures in
     let whole : entries_in c.args.tree.now ≡ l ++ x ∷ r = ap entries_in is ∙ sym (ap (λ (s : Shape g.row.T.Denot). s.entries) view) in
-    let small : greatest_size l < c.args.size = omega (arith, c.greatest.ensures) in
+    let small : greatest_size l < c.args.size = omega (arith, c.node.invariant.greatest_left) in
     sym (large_here c.args.size l x r small c.if-here-size.true) ∙ sym (ap (first_large c.args.size) whole)
 
 pub returns-else-here-size-clause-found : goal.returns-else-here-size-clause-found
@@ -35,5 +35,5 @@ returns-else-here-size-clause-found g t c =
     let is : c.args.tree.now ≡ Some c.in-Some.node = c.in-Some.is in
     let view : shape_of c.node.inside ≡ c.in-Some.node.value = c.node.view_is ∙ c.deref-node.ensures in
     let whole : entries_in c.args.tree.now ≡ l ++ x ∷ r = ap entries_in is ∙ sym (ap (λ (s : Shape g.row.T.Denot). s.entries) view) in
-    let small : greatest_size l < c.args.size = omega (arith, c.greatest.ensures) in
+    let small : greatest_size l < c.args.size = omega (arith, c.node.invariant.greatest_left) in
     c.find_large-else-here-size.ensures.found ∙ sym (large_right c.args.size l x r small c.if-here-size.false) ∙ sym (ap (first_large c.args.size) whole)

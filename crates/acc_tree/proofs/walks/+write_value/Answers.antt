@@ -2,9 +2,9 @@ use Rattle.std.proofs.Common.{◌≡◌, ◌∷◌, ◌++◌, arith, sym, ap, su
 use Rattle.acc_tree.specs.declared.entries.Entry.{Entry}
 use Rattle.acc_tree.specs.Shape.{Shape}
 use Rattle.acc_tree.specs.Listing.{KeysRise, with_value}
-use Rattle.acc_tree.specs.Nodes.{entries_in, height_of, shape_of}
+use Rattle.acc_tree.specs.Nodes.{entries_in, height_of, high_of, shape_of}
 use Rattle.acc_tree.proofs.Steps.{Sides, sides, value_left, value_here, value_right}
-use Rattle.acc_tree.proofs.Values.{avl_left, avl_right, avl_here}
+use Rattle.acc_tree.proofs.Values.{avl_left, avl_right, kept_entry}
 use Rattle.acc_tree.proofs.walks.+write_value.Goals as goal
 
 pub write_value-requires : goal.write_value-requires
@@ -15,9 +15,9 @@ write_value-requires g t c κs within =
     let is : c.args.tree.now ≡ Some c.in-Some.node = c.in-Some.is in
     let view : shape_of c.node.inside ≡ c.in-Some.node.value = c.node.view_is ∙ c.deref_mut-node.ensures.value in
     let whole : entries_in c.args.tree.now ≡ l ++ x ∷ r = ap entries_in is ∙ sym (ap (λ (s : Shape g.row.T.Denot). s.entries) view) in
-    let h : height_of c.args.tree.now ≡ c.node.inside.height = ap height_of is ∙ sym (ap (λ (s : Shape g.row.T.Denot). s.height) view) in
+    let h : height_of c.args.tree.now ≡ high_of c.node.inside = ap height_of is ∙ sym (ap (λ (s : Shape g.row.T.Denot). s.height) view) in
     let d : Sides l x r = sides l x r (subst (λ (es : List (Entry g.row.T.Denot)). KeysRise es) whole c.requires.rising) in
-    (omega (arith, c.node.invariant.height), (within, d.left))
+    (omega (arith, c.node.invariant.height_left, c.node.invariant.height_right), (within, d.left))
 
 pub write_value-requires-then-node-key : goal.write_value-requires-then-node-key
 write_value-requires-then-node-key g t c κs within =
@@ -27,9 +27,9 @@ write_value-requires-then-node-key g t c κs within =
     let is : c.args.tree.now ≡ Some c.in-Some.node = c.in-Some.is in
     let view : shape_of c.node.inside ≡ c.in-Some.node.value = c.node.view_is ∙ c.deref_mut-node.ensures.value in
     let whole : entries_in c.args.tree.now ≡ l ++ x ∷ r = ap entries_in is ∙ sym (ap (λ (s : Shape g.row.T.Denot). s.entries) view) in
-    let h : height_of c.args.tree.now ≡ c.node.inside.height = ap height_of is ∙ sym (ap (λ (s : Shape g.row.T.Denot). s.height) view) in
+    let h : height_of c.args.tree.now ≡ high_of c.node.inside = ap height_of is ∙ sym (ap (λ (s : Shape g.row.T.Denot). s.height) view) in
     let d : Sides l x r = sides l x r (subst (λ (es : List (Entry g.row.T.Denot)). KeysRise es) whole c.requires.rising) in
-    (omega (arith, c.node.invariant.height), (within, d.right))
+    (omega (arith, c.node.invariant.height_left, c.node.invariant.height_right), (within, d.right))
 
 pub invariant_of-node : goal.invariant_of-node
 invariant_of-node g t c =
@@ -41,7 +41,7 @@ invariant_of-node-then-node-key g t c =
 
 pub invariant_of-node-else-node-key : goal.invariant_of-node-else-node-key
 invariant_of-node-else-node-key g t c =
-    avl_here c.node.inside c.args.value c.node.invariant
+    kept_entry c.node.inside _ c.node.invariant
 
 pub returns-then-key-node-clause-entries : goal.returns-then-key-node-clause-entries
 returns-then-key-node-clause-entries g t c =

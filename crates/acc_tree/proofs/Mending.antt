@@ -1,6 +1,6 @@
 -- A node whose subtrees have changed: it takes on its height and its greatest size, or gives both subtrees up to be turned.
-use Rattle.std.proofs.Common.{ℕ, ◌≡◌, ◌+◌, ◌^◌, ◌<◌, ◌≤◌, refl, sym, ap, ◌∙◌, List, [], ◌∷◌, ◌++◌, length, length-append, Option, Some, None, IsSome, Box, max, arith}
-use Rattle.std.specs.Prelude.{IfSome}
+use Rattle.std.proofs.Common.{ℕ, ◌≡◌, Bool, true, false, ◌+◌, ◌^◌, ◌<◌, ◌≤◌, refl, sym, ap, ◌∙◌, List, [], ◌∷◌, ◌++◌, length, length-append, Option, Some, None, IsSome, Box, max, arith}
+use Rattle.std.specs.Prelude.{is_some, not, IfSome}
 use Rattle.std.specs.declared.alloc.Global.{Global}
 use Rattle.acc_tree.specs.declared.entries.Entry.{Entry}
 use Rattle.acc_tree.specs.Listing.{KeysRise, at_key, greatest_size, with_entry, without_key}
@@ -176,6 +176,11 @@ module _ {T : Type 0} where
 
   pub avl_open : (n : Inside T) → IsAvl n → length_of n.next ≡ 0 → IsOpen n
   avl_open n avl behind = record { left = avl.left; right = avl.right; chain = avl.chain; behind = behind; height_left = avl.height_left; height_right = avl.height_right; greatest_left = avl.greatest_left; greatest_right = avl.greatest_right; tall_left = avl.tall_left; tall_right = avl.tall_right }
+
+pub none_is : {X : Type 0} (o : Option X) (b : Bool) → is_some o ≡ not b → b ≡ true → o ≡ None
+none_is None b e is = refl
+none_is (Some x) true e is = cc
+none_is (Some x) false e is = cc
 
 -- the entry of a node that was taken out is the one that was found
 pub found_is : {T : Type 0} (o : Option (Entry T)) (es : List (Entry T)) (e : Entry T) → IsSome o → IfSome o (λ f. es ≡ f ∷ []) → es ≡ e ∷ [] → o ≡ Some e

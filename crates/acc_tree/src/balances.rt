@@ -1,8 +1,8 @@
 //! Joining trees whose heights differ, so that the result is balanced.
-ghost use Rattle.std.specs.Prelude.{◌≡◌, ◌+◌, ◌^◌, ◌<◌, ◌≤◌, ◌++◌, max};
+ghost use Rattle.std.specs.Prelude.{◌≡◌, ◌+◌, ◌^◌, ◌<◌, ◌≤◌, ◌++◌, max, IsSome};
 ghost use Rattle.acc_tree.specs.Nodes.{entries_in, height_of, IsAlone, IsLeaf, IsBalanced, IsLowered};
 
-use crate::nodes::{Link, Node, height, join, split};
+use crate::nodes::{Link, Node, greatest, height, is_even, join, split};
 
 /// Joins trees whose heights differ by at most two.
 pub fn balance<T: Copy>(left: Link<T>, node: Box<Node<T>>, right: Link<T>) -> Box<Node<T>>
@@ -75,38 +75,54 @@ fn lean_right<T: Copy>(left: Link<T>, node: Box<Node<T>>, right: Box<Node<T>>) -
     join(Some(low), middle, Some(high))
 }
 
-/// Takes the first node off a tree.
-fn take_first<T: Copy>(tree: Box<Node<T>>) -> (Box<Node<T>>, Link<T>)
-    requires alone { tree.value.behind ≡ 0 }
-    requires limit { tree.value.height < 2 ^ 30 }
-    ensures leaf { IsLeaf result.0.value }
-    ensures entries { tree.value.entries ≡ result.0.value.entries ++ entries_in result.1 }
-    ensures alone { IsAlone result.1 }
-    ensures height { IsLowered tree.value.height (height_of result.1) }
+/// Takes the first node out of a tree, which has one. Nodes on the way change in place, but for those that rotate.
+fn take_first<T: Copy>(tree: &mut Link<T>) -> Box<Node<T>>
+    requires alone { IsAlone tree.old }
+    requires some { IsSome tree.old }
+    requires limit { height_of tree.old < 2 ^ 30 }
+    ensures leaf { IsLeaf result.value }
+    ensures entries { entries_in tree.old ≡ result.value.entries ++ entries_in tree.new }
+    ensures alone { IsAlone tree.new }
+    ensures height { IsLowered (height_of tree.old) (height_of tree.new) }
 {
-    let (left, node, right) = split(tree);
-    match left {
-        None => (node, right),
-        Some(left) => {
-            let (first, left) = take_first(left);
-            (first, Some(balance(left, node, right)))
-        }
+    let Some(mut top) = tree.take() else {
+        unreachable!()
+    };
+    let n = &mut *top;
+    if n.left.is_none() {
+        *tree = n.right.take();
+        n.greatest_right = 0;
+        n.height_right = 0;
+        return top;
     }
+    let first = take_first(&mut n.left);
+    n.greatest_left = greatest(&n.left);
+    n.height_left = height(&n.left);
+    if is_even(n.height_left, n.height_right) {
+        *tree = Some(top);
+    } else {
+        let left = n.left.take();
+        let right = n.right.take();
+        n.greatest_left = 0;
+        n.greatest_right = 0;
+        n.height_left = 0;
+        n.height_right = 0;
+        *tree = Some(balance(left, top, right));
+    }
+    first
 }
 
 /// Joins two trees without a node between them.
-pub fn merge<T: Copy>(left: Link<T>, right: Link<T>) -> Link<T>
+pub fn merge<T: Copy>(left: Link<T>, mut right: Link<T>) -> Link<T>
     requires balanced { IsBalanced left right }
     requires limit { max (height_of left) (height_of right) < 2 ^ 30 }
     ensures entries { entries_in result ≡ entries_in left ++ entries_in right }
     ensures alone { IsAlone result }
     ensures height { IsLowered (max (height_of left) (height_of right) + 1) (height_of result) }
 {
-    match right {
-        None => left,
-        Some(right) => {
-            let (first, right) = take_first(right);
-            Some(balance(left, first, right))
-        }
+    if right.is_none() {
+        return left;
     }
+    let first = take_first(&mut right);
+    Some(balance(left, first, right))
 }

@@ -8,18 +8,18 @@ use crate::entries::Entry;
 use crate::nodes::{Link, Node, fill, greatest, height, is_even};
 
 /// Puts an entry into a tree, in a node that waits. Nodes on the way change in place, but for those that rotate.
-pub fn insert<T: Copy>(tree: &mut Link<T>, node: Box<Node<T>>, entry: Entry<T>)
+pub fn insert<T: Copy>(tree: &mut Link<T>, node: Box<Node<T>>, entry: &Entry<T>)
     requires leaf { IsLeaf node.value }
     requires alone { IsAlone tree.old }
     requires limit { height_of tree.old < 2 ^ 29 }
     requires rising { KeysRise (entries_in tree.old) }
-    ensures entries { entries_in tree.new ≡ with_entry entry (entries_in tree.old) }
+    ensures entries { entries_in tree.new ≡ with_entry entry.now (entries_in tree.old) }
     ensures alone { IsAlone tree.new }
     ensures not_lower { height_of tree.old ≤ height_of tree.new }
     ensures not_higher { height_of tree.new ≤ height_of tree.old + 1 }
 {
     let Some(mut top) = tree.take() else {
-        *tree = Some(fill(node, entry));
+        *tree = Some(fill(node, *entry));
         return;
     };
     let n = &mut *top;
@@ -98,15 +98,15 @@ pub fn remove<T: Copy>(tree: &mut Link<T>, key: u128) -> Box<Node<T>>
     freed
 }
 
-/// Takes the first `size` of the first entry that is so large, where it is larger, and returns it as it was. An entry
-/// that is just so large stays, and its node is to be taken out. No node moves here.
-pub fn cut_front<T: Copy>(tree: &mut Link<T>, size: u64) -> Entry<T>
+/// Takes the first `size` of the first entry that is so large, where it is larger, and tells how it was. An entry that is
+/// just so large stays, and its node is to be taken out. No node moves here.
+pub fn cut_front<T: Copy>(tree: &mut Link<T>, size: u64, told: &mut Entry<T>)
     requires ranges { AreRanges (entries_in tree.old) }
     requires some { 0 < size }
     requires fits { size ≤ greatest_size (entries_in tree.old) }
-    ensures entry { first_large size (entries_in tree.old) ≡ Some result }
-    ensures cut { size < result.size → entries_in tree.new ≡ without_front size (entries_in tree.old) }
-    ensures whole { result.size ≡ size → entries_in tree.new ≡ entries_in tree.old }
+    ensures told { first_large size (entries_in tree.old) ≡ Some told.new }
+    ensures cut { size < told.new.size → entries_in tree.new ≡ without_front size (entries_in tree.old) }
+    ensures whole { told.new.size ≡ size → entries_in tree.new ≡ entries_in tree.old }
     ensures length { length (entries_in tree.new) ≡ length (entries_in tree.old) }
     ensures height { height_of tree.new ≡ height_of tree.old }
     ensures behind { length_of tree.new ≡ length_of tree.old }
@@ -114,20 +114,16 @@ pub fn cut_front<T: Copy>(tree: &mut Link<T>, size: u64) -> Entry<T>
     let Some(node) = tree else { unreachable!() };
     let node: &mut Node<T> = node;
     if node.greatest_left >= size {
-        let entry = cut_front(&mut node.left, size);
+        cut_front(&mut node.left, size, told);
         node.greatest_left = greatest(&node.left);
-        entry
     } else if node.entry.size < size {
-        let entry = cut_front(&mut node.right, size);
+        cut_front(&mut node.right, size, told);
         node.greatest_right = greatest(&node.right);
-        entry
     } else {
-        let entry = node.entry;
-        if entry.size == size {
-            return entry;
+        *told = node.entry;
+        if node.entry.size > size {
+            node.entry.key += size as u128;
+            node.entry.size -= size;
         }
-        node.entry.key += size as u128;
-        node.entry.size -= size;
-        entry
     }
 }

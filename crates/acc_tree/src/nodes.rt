@@ -18,14 +18,14 @@ pub type Link<T> = Option<Box<Node<T>>>;
 pub struct Node<T> {
     pub(crate) left: Option<Box<Node<T>>>,
     pub(crate) right: Option<Box<Node<T>>>,
-    pub(crate) entry: Entry<T>,
-    // The next node of the chain that this one waits in.
-    next: Option<Box<Node<T>>>,
     // The greatest size in the tree on each side.
     pub(crate) greatest_left: u64,
     pub(crate) greatest_right: u64,
+    pub(crate) entry: Entry<T>,
     pub(crate) height_left: u32,
     pub(crate) height_right: u32,
+    // The next node of the chain that this one waits in.
+    next: Option<Box<Node<T>>>,
 }
 
 impl<T> Model for Node<T> {

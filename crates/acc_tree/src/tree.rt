@@ -195,6 +195,10 @@ impl<T: Copy> Tree<T> {
         requires some { 0 < size }
         ensures { result ≡ first_large_from key size self.now.entries }
     {
+        // No key is below the least one, so none has to be compared.
+        if key == 0 {
+            return self.first_fit(size);
+        }
         walks::find_large_from(&self.root, key, size).copied()
     }
 
@@ -211,7 +215,7 @@ impl<T: Copy> Tree<T> {
         };
         let (node, spare) = pop(chain);
         self.spare = spare;
-        changes::insert(&mut self.root, node, entry);
+        changes::insert(&mut self.root, node, &entry);
         self.len += 1;
     }
 
@@ -262,7 +266,8 @@ impl<T: Copy> Tree<T> {
         ensures entries { self.new.entries ≡ without_front size self.old.entries }
         ensures nodes { length self.new.entries + self.new.room ≡ length self.old.entries + self.old.room }
     {
-        let entry = changes::cut_front(&mut self.root, size);
+        let mut entry = self.blank;
+        changes::cut_front(&mut self.root, size, &mut entry);
         if entry.size == size {
             self.remove(entry.key);
         }

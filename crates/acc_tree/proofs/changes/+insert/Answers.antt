@@ -36,9 +36,9 @@ invariant_of-n g t c =
     let high : height_of c.args.tree.now ≡ high_of c.n.inside = ap height_of is ∙ sym (ap (λ (s : Shape g.row.T.Denot). s.height) view) in
     let rise : KeysRise (tree_of c.n.inside) = subst (λ (es : List (Entry g.row.T.Denot)). KeysRise es) whole c.requires.rising in
     let behind : length_of c.n.inside.next ≡ 0 = ap (λ (s : Shape g.row.T.Denot). s.behind) view ∙ (rw is at c.requires.alone) in
-    let m : IsPutIn c.args.entry c.n.inside c.if-entry-n.n-inside = elim c.if-entry-n.branch [
-      | then-entry-n w ↦ rw w.n-inside-is (put_left c.args.entry c.n.inside w.insert.new.tree w.greatest-n-inside.result w.height-n-inside.result c.n.invariant behind w.if-entry-n.true w.insert.ensures.entries w.insert.ensures.alone (told w.insert.new.tree w.greatest-n-inside.result w.height-n-inside.result w.greatest-n-inside.ensures w.height-n-inside.ensures.value w.height-n-inside.ensures.tall) w.insert.ensures.not_lower w.insert.ensures.not_higher)
-      | else-entry-n w ↦ rw w.n-inside-is (put_right c.args.entry c.n.inside w.insert-else-entry-n.new.tree w.greatest-n-inside-else-entry-n.result w.height-n-inside-else-entry-n.result c.n.invariant behind w.if-entry-n.false rise w.insert-else-entry-n.ensures.entries w.insert-else-entry-n.ensures.alone (told w.insert-else-entry-n.new.tree w.greatest-n-inside-else-entry-n.result w.height-n-inside-else-entry-n.result w.greatest-n-inside-else-entry-n.ensures w.height-n-inside-else-entry-n.ensures.value w.height-n-inside-else-entry-n.ensures.tall) w.insert-else-entry-n.ensures.not_lower w.insert-else-entry-n.ensures.not_higher)
+    let m : IsPutIn c.args.entry.now c.n.inside c.if-entry-n.n-inside = elim c.if-entry-n.branch [
+      | then-entry-n w ↦ rw w.n-inside-is (put_left c.args.entry.now c.n.inside w.insert.new.tree w.greatest-n-inside.result w.height-n-inside.result c.n.invariant behind w.if-entry-n.true w.insert.ensures.entries w.insert.ensures.alone (told w.insert.new.tree w.greatest-n-inside.result w.height-n-inside.result w.greatest-n-inside.ensures w.height-n-inside.ensures.value w.height-n-inside.ensures.tall) w.insert.ensures.not_lower w.insert.ensures.not_higher)
+      | else-entry-n w ↦ rw w.n-inside-is (put_right c.args.entry.now c.n.inside w.insert-else-entry-n.new.tree w.greatest-n-inside-else-entry-n.result w.height-n-inside-else-entry-n.result c.n.invariant behind w.if-entry-n.false rise w.insert-else-entry-n.ensures.entries w.insert-else-entry-n.ensures.alone (told w.insert-else-entry-n.new.tree w.greatest-n-inside-else-entry-n.result w.height-n-inside-else-entry-n.result w.greatest-n-inside-else-entry-n.ensures w.height-n-inside-else-entry-n.ensures.value w.height-n-inside-else-entry-n.ensures.tall) w.insert-else-entry-n.ensures.not_lower w.insert-else-entry-n.ensures.not_higher)
     ] in
     avl_over c.if-entry-n.n-inside m.here c.if-is_even.ensures.0 c.if-is_even.ensures.1 (omega (arith, m.here.height_left, m.here.height_right, m.not_higher, high, c.requires.limit))
 
@@ -50,9 +50,9 @@ invariant_of-n-else-is_even g t c =
     let high : height_of c.args.tree.now ≡ high_of c.n.inside = ap height_of is ∙ sym (ap (λ (s : Shape g.row.T.Denot). s.height) view) in
     let rise : KeysRise (tree_of c.n.inside) = subst (λ (es : List (Entry g.row.T.Denot)). KeysRise es) whole c.requires.rising in
     let behind : length_of c.n.inside.next ≡ 0 = ap (λ (s : Shape g.row.T.Denot). s.behind) view ∙ (rw is at c.requires.alone) in
-    let m : IsPutIn c.args.entry c.n.inside c.if-entry-n.n-inside = elim c.if-entry-n.branch [
-      | then-entry-n w ↦ rw w.n-inside-is (put_left c.args.entry c.n.inside w.insert.new.tree w.greatest-n-inside.result w.height-n-inside.result c.n.invariant behind w.if-entry-n.true w.insert.ensures.entries w.insert.ensures.alone (told w.insert.new.tree w.greatest-n-inside.result w.height-n-inside.result w.greatest-n-inside.ensures w.height-n-inside.ensures.value w.height-n-inside.ensures.tall) w.insert.ensures.not_lower w.insert.ensures.not_higher)
-      | else-entry-n w ↦ rw w.n-inside-is (put_right c.args.entry c.n.inside w.insert-else-entry-n.new.tree w.greatest-n-inside-else-entry-n.result w.height-n-inside-else-entry-n.result c.n.invariant behind w.if-entry-n.false rise w.insert-else-entry-n.ensures.entries w.insert-else-entry-n.ensures.alone (told w.insert-else-entry-n.new.tree w.greatest-n-inside-else-entry-n.result w.height-n-inside-else-entry-n.result w.greatest-n-inside-else-entry-n.ensures w.height-n-inside-else-entry-n.ensures.value w.height-n-inside-else-entry-n.ensures.tall) w.insert-else-entry-n.ensures.not_lower w.insert-else-entry-n.ensures.not_higher)
+    let m : IsPutIn c.args.entry.now c.n.inside c.if-entry-n.n-inside = elim c.if-entry-n.branch [
+      | then-entry-n w ↦ rw w.n-inside-is (put_left c.args.entry.now c.n.inside w.insert.new.tree w.greatest-n-inside.result w.height-n-inside.result c.n.invariant behind w.if-entry-n.true w.insert.ensures.entries w.insert.ensures.alone (told w.insert.new.tree w.greatest-n-inside.result w.height-n-inside.result w.greatest-n-inside.ensures w.height-n-inside.ensures.value w.height-n-inside.ensures.tall) w.insert.ensures.not_lower w.insert.ensures.not_higher)
+      | else-entry-n w ↦ rw w.n-inside-is (put_right c.args.entry.now c.n.inside w.insert-else-entry-n.new.tree w.greatest-n-inside-else-entry-n.result w.height-n-inside-else-entry-n.result c.n.invariant behind w.if-entry-n.false rise w.insert-else-entry-n.ensures.entries w.insert-else-entry-n.ensures.alone (told w.insert-else-entry-n.new.tree w.greatest-n-inside-else-entry-n.result w.height-n-inside-else-entry-n.result w.greatest-n-inside-else-entry-n.ensures w.height-n-inside-else-entry-n.ensures.value w.height-n-inside-else-entry-n.ensures.tall) w.insert-else-entry-n.ensures.not_lower w.insert-else-entry-n.ensures.not_higher)
     ] in
     avl_bare c.if-entry-n.n-inside c.take-left.new.self c.take-right.new.self m.here c.take-left.ensures.after c.take-right.ensures.after
 
@@ -64,9 +64,9 @@ balance-requires-clause-leaf g t c =
     let high : height_of c.args.tree.now ≡ high_of c.n.inside = ap height_of is ∙ sym (ap (λ (s : Shape g.row.T.Denot). s.height) view) in
     let rise : KeysRise (tree_of c.n.inside) = subst (λ (es : List (Entry g.row.T.Denot)). KeysRise es) whole c.requires.rising in
     let behind : length_of c.n.inside.next ≡ 0 = ap (λ (s : Shape g.row.T.Denot). s.behind) view ∙ (rw is at c.requires.alone) in
-    let m : IsPutIn c.args.entry c.n.inside c.if-entry-n.n-inside = elim c.if-entry-n.branch [
-      | then-entry-n w ↦ rw w.n-inside-is (put_left c.args.entry c.n.inside w.insert.new.tree w.greatest-n-inside.result w.height-n-inside.result c.n.invariant behind w.if-entry-n.true w.insert.ensures.entries w.insert.ensures.alone (told w.insert.new.tree w.greatest-n-inside.result w.height-n-inside.result w.greatest-n-inside.ensures w.height-n-inside.ensures.value w.height-n-inside.ensures.tall) w.insert.ensures.not_lower w.insert.ensures.not_higher)
-      | else-entry-n w ↦ rw w.n-inside-is (put_right c.args.entry c.n.inside w.insert-else-entry-n.new.tree w.greatest-n-inside-else-entry-n.result w.height-n-inside-else-entry-n.result c.n.invariant behind w.if-entry-n.false rise w.insert-else-entry-n.ensures.entries w.insert-else-entry-n.ensures.alone (told w.insert-else-entry-n.new.tree w.greatest-n-inside-else-entry-n.result w.height-n-inside-else-entry-n.result w.greatest-n-inside-else-entry-n.ensures w.height-n-inside-else-entry-n.ensures.value w.height-n-inside-else-entry-n.ensures.tall) w.insert-else-entry-n.ensures.not_lower w.insert-else-entry-n.ensures.not_higher)
+    let m : IsPutIn c.args.entry.now c.n.inside c.if-entry-n.n-inside = elim c.if-entry-n.branch [
+      | then-entry-n w ↦ rw w.n-inside-is (put_left c.args.entry.now c.n.inside w.insert.new.tree w.greatest-n-inside.result w.height-n-inside.result c.n.invariant behind w.if-entry-n.true w.insert.ensures.entries w.insert.ensures.alone (told w.insert.new.tree w.greatest-n-inside.result w.height-n-inside.result w.greatest-n-inside.ensures w.height-n-inside.ensures.value w.height-n-inside.ensures.tall) w.insert.ensures.not_lower w.insert.ensures.not_higher)
+      | else-entry-n w ↦ rw w.n-inside-is (put_right c.args.entry.now c.n.inside w.insert-else-entry-n.new.tree w.greatest-n-inside-else-entry-n.result w.height-n-inside-else-entry-n.result c.n.invariant behind w.if-entry-n.false rise w.insert-else-entry-n.ensures.entries w.insert-else-entry-n.ensures.alone (told w.insert-else-entry-n.new.tree w.greatest-n-inside-else-entry-n.result w.height-n-inside-else-entry-n.result w.greatest-n-inside-else-entry-n.ensures w.height-n-inside-else-entry-n.ensures.value w.height-n-inside-else-entry-n.ensures.tall) w.insert-else-entry-n.ensures.not_lower w.insert-else-entry-n.ensures.not_higher)
     ] in
     leaf_bare c.if-entry-n.n-inside c.take-left.new.self c.take-right.new.self m.here c.take-left.ensures.after c.take-right.ensures.after
 
@@ -78,11 +78,11 @@ returns-then-is_even-clause-entries g t c =
     let high : height_of c.args.tree.now ≡ high_of c.n.inside = ap height_of is ∙ sym (ap (λ (s : Shape g.row.T.Denot). s.height) view) in
     let rise : KeysRise (tree_of c.n.inside) = subst (λ (es : List (Entry g.row.T.Denot)). KeysRise es) whole c.requires.rising in
     let behind : length_of c.n.inside.next ≡ 0 = ap (λ (s : Shape g.row.T.Denot). s.behind) view ∙ (rw is at c.requires.alone) in
-    let m : IsPutIn c.args.entry c.n.inside c.if-entry-n.n-inside = elim c.if-entry-n.branch [
-      | then-entry-n w ↦ rw w.n-inside-is (put_left c.args.entry c.n.inside w.insert.new.tree w.greatest-n-inside.result w.height-n-inside.result c.n.invariant behind w.if-entry-n.true w.insert.ensures.entries w.insert.ensures.alone (told w.insert.new.tree w.greatest-n-inside.result w.height-n-inside.result w.greatest-n-inside.ensures w.height-n-inside.ensures.value w.height-n-inside.ensures.tall) w.insert.ensures.not_lower w.insert.ensures.not_higher)
-      | else-entry-n w ↦ rw w.n-inside-is (put_right c.args.entry c.n.inside w.insert-else-entry-n.new.tree w.greatest-n-inside-else-entry-n.result w.height-n-inside-else-entry-n.result c.n.invariant behind w.if-entry-n.false rise w.insert-else-entry-n.ensures.entries w.insert-else-entry-n.ensures.alone (told w.insert-else-entry-n.new.tree w.greatest-n-inside-else-entry-n.result w.height-n-inside-else-entry-n.result w.greatest-n-inside-else-entry-n.ensures w.height-n-inside-else-entry-n.ensures.value w.height-n-inside-else-entry-n.ensures.tall) w.insert-else-entry-n.ensures.not_lower w.insert-else-entry-n.ensures.not_higher)
+    let m : IsPutIn c.args.entry.now c.n.inside c.if-entry-n.n-inside = elim c.if-entry-n.branch [
+      | then-entry-n w ↦ rw w.n-inside-is (put_left c.args.entry.now c.n.inside w.insert.new.tree w.greatest-n-inside.result w.height-n-inside.result c.n.invariant behind w.if-entry-n.true w.insert.ensures.entries w.insert.ensures.alone (told w.insert.new.tree w.greatest-n-inside.result w.height-n-inside.result w.greatest-n-inside.ensures w.height-n-inside.ensures.value w.height-n-inside.ensures.tall) w.insert.ensures.not_lower w.insert.ensures.not_higher)
+      | else-entry-n w ↦ rw w.n-inside-is (put_right c.args.entry.now c.n.inside w.insert-else-entry-n.new.tree w.greatest-n-inside-else-entry-n.result w.height-n-inside-else-entry-n.result c.n.invariant behind w.if-entry-n.false rise w.insert-else-entry-n.ensures.entries w.insert-else-entry-n.ensures.alone (told w.insert-else-entry-n.new.tree w.greatest-n-inside-else-entry-n.result w.height-n-inside-else-entry-n.result w.greatest-n-inside-else-entry-n.ensures w.height-n-inside-else-entry-n.ensures.value w.height-n-inside-else-entry-n.ensures.tall) w.insert-else-entry-n.ensures.not_lower w.insert-else-entry-n.ensures.not_higher)
     ] in
-    m.entries ∙ sym (ap (with_entry c.args.entry) whole)
+    m.entries ∙ sym (ap (with_entry c.args.entry.now) whole)
 
 pub returns-else-is_even-clause-entries : goal.returns-else-is_even-clause-entries
 returns-else-is_even-clause-entries g t c =
@@ -92,9 +92,9 @@ returns-else-is_even-clause-entries g t c =
     let high : height_of c.args.tree.now ≡ high_of c.n.inside = ap height_of is ∙ sym (ap (λ (s : Shape g.row.T.Denot). s.height) view) in
     let rise : KeysRise (tree_of c.n.inside) = subst (λ (es : List (Entry g.row.T.Denot)). KeysRise es) whole c.requires.rising in
     let behind : length_of c.n.inside.next ≡ 0 = ap (λ (s : Shape g.row.T.Denot). s.behind) view ∙ (rw is at c.requires.alone) in
-    let m : IsPutIn c.args.entry c.n.inside c.if-entry-n.n-inside = elim c.if-entry-n.branch [
-      | then-entry-n w ↦ rw w.n-inside-is (put_left c.args.entry c.n.inside w.insert.new.tree w.greatest-n-inside.result w.height-n-inside.result c.n.invariant behind w.if-entry-n.true w.insert.ensures.entries w.insert.ensures.alone (told w.insert.new.tree w.greatest-n-inside.result w.height-n-inside.result w.greatest-n-inside.ensures w.height-n-inside.ensures.value w.height-n-inside.ensures.tall) w.insert.ensures.not_lower w.insert.ensures.not_higher)
-      | else-entry-n w ↦ rw w.n-inside-is (put_right c.args.entry c.n.inside w.insert-else-entry-n.new.tree w.greatest-n-inside-else-entry-n.result w.height-n-inside-else-entry-n.result c.n.invariant behind w.if-entry-n.false rise w.insert-else-entry-n.ensures.entries w.insert-else-entry-n.ensures.alone (told w.insert-else-entry-n.new.tree w.greatest-n-inside-else-entry-n.result w.height-n-inside-else-entry-n.result w.greatest-n-inside-else-entry-n.ensures w.height-n-inside-else-entry-n.ensures.value w.height-n-inside-else-entry-n.ensures.tall) w.insert-else-entry-n.ensures.not_lower w.insert-else-entry-n.ensures.not_higher)
+    let m : IsPutIn c.args.entry.now c.n.inside c.if-entry-n.n-inside = elim c.if-entry-n.branch [
+      | then-entry-n w ↦ rw w.n-inside-is (put_left c.args.entry.now c.n.inside w.insert.new.tree w.greatest-n-inside.result w.height-n-inside.result c.n.invariant behind w.if-entry-n.true w.insert.ensures.entries w.insert.ensures.alone (told w.insert.new.tree w.greatest-n-inside.result w.height-n-inside.result w.greatest-n-inside.ensures w.height-n-inside.ensures.value w.height-n-inside.ensures.tall) w.insert.ensures.not_lower w.insert.ensures.not_higher)
+      | else-entry-n w ↦ rw w.n-inside-is (put_right c.args.entry.now c.n.inside w.insert-else-entry-n.new.tree w.greatest-n-inside-else-entry-n.result w.height-n-inside-else-entry-n.result c.n.invariant behind w.if-entry-n.false rise w.insert-else-entry-n.ensures.entries w.insert-else-entry-n.ensures.alone (told w.insert-else-entry-n.new.tree w.greatest-n-inside-else-entry-n.result w.height-n-inside-else-entry-n.result w.greatest-n-inside-else-entry-n.ensures w.height-n-inside-else-entry-n.ensures.value w.height-n-inside-else-entry-n.ensures.tall) w.insert-else-entry-n.ensures.not_lower w.insert-else-entry-n.ensures.not_higher)
     ] in
     let one = one_bare c.if-entry-n.n-inside c.take-left.new.self c.take-right.new.self c.take-left.ensures.after c.take-right.ensures.after in
-    joined_again c.if-entry-n.n-inside c.balance.result.value.entries _ c.take-left.result c.take-right.result c.take-left.ensures.value c.take-right.ensures.value c.balance.ensures.entries one ∙ m.entries ∙ sym (ap (with_entry c.args.entry) whole)
+    joined_again c.if-entry-n.n-inside c.balance.result.value.entries _ c.take-left.result c.take-right.result c.take-left.ensures.value c.take-right.ensures.value c.balance.ensures.entries one ∙ m.entries ∙ sym (ap (with_entry c.args.entry.now) whole)

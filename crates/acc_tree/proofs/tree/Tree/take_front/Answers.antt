@@ -6,8 +6,8 @@ use Rattle.acc_tree.proofs.Values.{alone_same}
 use Rattle.acc_tree.proofs.Fronts.{large_fits, large_least, large_there, length-front, rise-front, front_removed}
 use Rattle.acc_tree.proofs.tree.Tree.take_front.Goals as goal
 
-pub cut_front-entry-requires-clause-fits : goal.cut_front-entry-requires-clause-fits
-cut_front-entry-requires-clause-fits g c =
+pub cut_front-requires-clause-fits : goal.cut_front-requires-clause-fits
+cut_front-requires-clause-fits g c =
     let es = entries_in c.self.inside.root in
     let seen : es ≡ c.args.self.now.entries = ap (λ (l : Listing g.row.T.Denot). l.entries) c.self.view_is in
     let there : IsSome (first_large c.args.size es) = subst (λ (k : List (Entry g.row.T.Denot)). IsSome (first_large c.args.size k)) (sym seen) c.requires.fits in
@@ -17,26 +17,26 @@ pub remove-requires : goal.remove-requires
 remove-requires g c =
     let es = entries_in c.self.inside.root in
     let seen : es ≡ c.args.self.now.entries = ap (λ (l : Listing g.row.T.Denot). l.entries) c.self.view_is in
-    let e = c.cut_front-entry.result in
-    let root = entries_in c.cut_front-entry.new.tree in
-    let kept : root ≡ es = c.cut_front-entry.ensures.whole c.if-entry-size.true in
-    let there : at_key e.key es ≡ Some e = large_there c.args.size es e c.self.invariant.rising c.cut_front-entry.ensures.entry in
+    let e = c.cut_front.new.told in
+    let root = entries_in c.cut_front.new.tree in
+    let kept : root ≡ es = c.cut_front.ensures.whole c.if-entry-size.true in
+    let there : at_key e.key es ≡ Some e = large_there c.args.size es e c.self.invariant.rising c.cut_front.ensures.told in
     record { there = rw (kept, there) refl }
 
 pub invariant_of-self-else-entry-size : goal.invariant_of-self-else-entry-size
 invariant_of-self-else-entry-size g c =
     let es = entries_in c.self.inside.root in
     let seen : es ≡ c.args.self.now.entries = ap (λ (l : Listing g.row.T.Denot). l.entries) c.self.view_is in
-    let least = large_least c.args.size es c.cut_front-entry.result c.cut_front-entry.ensures.entry in
-    let more : c.args.size < c.cut_front-entry.result.size = omega arith in
-    let new = c.cut_front-entry.ensures.cut more in
+    let least = large_least c.args.size es c.cut_front.new.told c.cut_front.ensures.told in
+    let more : c.args.size < c.cut_front.new.told.size = omega arith in
+    let new = c.cut_front.ensures.cut more in
     let ranges : AreRanges es = subst (λ (k : List (Entry g.row.T.Denot)). AreRanges k) (sym seen) c.requires.ranges in
     record {
       rising = subst (λ (k : List (Entry g.row.T.Denot)). KeysRise k) (sym new) (rise-front c.args.size es c.self.invariant.rising ranges);
-      alone = alone_same _ c.self.inside.root c.cut_front-entry.ensures.behind c.self.invariant.alone;
+      alone = alone_same _ c.self.inside.root c.cut_front.ensures.behind c.self.invariant.alone;
       chain = c.self.invariant.chain;
-      len = omega (arith, c.self.invariant.len, c.cut_front-entry.ensures.length);
-      nodes = omega (arith, c.self.invariant.nodes, c.cut_front-entry.ensures.length);
+      len = omega (arith, c.self.invariant.len, c.cut_front.ensures.length);
+      nodes = omega (arith, c.self.invariant.nodes, c.cut_front.ensures.length);
       limit = c.self.invariant.limit;
     }
 
@@ -44,27 +44,27 @@ pub returns-then-entry-size-clause-entries : goal.returns-then-entry-size-clause
 returns-then-entry-size-clause-entries g c =
     let es = entries_in c.self.inside.root in
     let seen : es ≡ c.args.self.now.entries = ap (λ (l : Listing g.row.T.Denot). l.entries) c.self.view_is in
-    let e = c.cut_front-entry.result in
-    let root = entries_in c.cut_front-entry.new.tree in
-    let kept : root ≡ es = c.cut_front-entry.ensures.whole c.if-entry-size.true in
-    c.remove.ensures.entries ∙ ap (without_key e.key) kept ∙ front_removed c.args.size es e c.self.invariant.rising c.cut_front-entry.ensures.entry c.if-entry-size.true ∙ ap (without_front c.args.size) seen
+    let e = c.cut_front.new.told in
+    let root = entries_in c.cut_front.new.tree in
+    let kept : root ≡ es = c.cut_front.ensures.whole c.if-entry-size.true in
+    c.remove.ensures.entries ∙ ap (without_key e.key) kept ∙ front_removed c.args.size es e c.self.invariant.rising c.cut_front.ensures.told c.if-entry-size.true ∙ ap (without_front c.args.size) seen
 
 pub returns-then-entry-size-clause-nodes : goal.returns-then-entry-size-clause-nodes
 returns-then-entry-size-clause-nodes g c =
     let es = entries_in c.self.inside.root in
     let seen : es ≡ c.args.self.now.entries = ap (λ (l : Listing g.row.T.Denot). l.entries) c.self.view_is in
-    let e = c.cut_front-entry.result in
-    let root = entries_in c.cut_front-entry.new.tree in
-    let kept : root ≡ es = c.cut_front-entry.ensures.whole c.if-entry-size.true in
-    let gone = c.remove.ensures.entries ∙ ap (without_key e.key) kept ∙ front_removed c.args.size es e c.self.invariant.rising c.cut_front-entry.ensures.entry c.if-entry-size.true in
+    let e = c.cut_front.new.told in
+    let root = entries_in c.cut_front.new.tree in
+    let kept : root ≡ es = c.cut_front.ensures.whole c.if-entry-size.true in
+    let gone = c.remove.ensures.entries ∙ ap (without_key e.key) kept ∙ front_removed c.args.size es e c.self.invariant.rising c.cut_front.ensures.told c.if-entry-size.true in
     let room = ap (λ (l : Listing g.row.T.Denot). l.room) c.self.view_is in
-    omega (arith, ap length gone, length-front c.args.size es e c.cut_front-entry.ensures.entry c.if-entry-size.true, ap length seen, room, c.remove.ensures.room)
+    omega (arith, ap length gone, length-front c.args.size es e c.cut_front.ensures.told c.if-entry-size.true, ap length seen, room, c.remove.ensures.room)
 
 pub returns-else-entry-size-clause-entries : goal.returns-else-entry-size-clause-entries
 returns-else-entry-size-clause-entries g c =
     let es = entries_in c.self.inside.root in
     let seen : es ≡ c.args.self.now.entries = ap (λ (l : Listing g.row.T.Denot). l.entries) c.self.view_is in
-    let least = large_least c.args.size es c.cut_front-entry.result c.cut_front-entry.ensures.entry in
-    let more : c.args.size < c.cut_front-entry.result.size = omega arith in
-    let new = c.cut_front-entry.ensures.cut more in
+    let least = large_least c.args.size es c.cut_front.new.told c.cut_front.ensures.told in
+    let more : c.args.size < c.cut_front.new.told.size = omega arith in
+    let new = c.cut_front.ensures.cut more in
     new ∙ ap (without_front c.args.size) seen

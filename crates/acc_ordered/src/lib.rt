@@ -10,5 +10,5 @@ mod search;
 mod sides;
 mod tree;
 
-pub use entries::{Around, Entry, Found};
+pub use entries::{Around, Entry, Found, Rewriting};
 pub use tree::Tree;

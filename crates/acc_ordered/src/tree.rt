@@ -1,13 +1,14 @@
 //! A balanced tree of entries, each found by its key in a walk from the top.
 ghost use Rattle.std.specs.Prelude.{◌≡◌, ℕ, ◌+◌, ◌*◌, ◌^◌, ◌<◌, ◌≤◌, [], length, min, Some, None, IsSome, IfOk, IfErr, OnOk, OnErr, MatchBool};
+ghost use Rattle.acc_ordered.specs.Rewritten.{IsRewritten};
 ghost use Rattle.acc_ordered.specs.Listing.{KeysRise, at_key, first_from, last_before, with_entry, without_key, with_value, values_in, seen};
 ghost use Rattle.acc_ordered.specs.Nodes.{entries_in, height_of, length_of, nodes_in, IsAlone, IsChain, IsFreed};
 
 use crate::changes;
-use crate::entries::{Around, Change, Entry, Found, Outcome};
+use crate::entries::{Around, Change, Entry, Found, Outcome, Rewriting};
 use crate::nodes::{
     Link, change_in_place, copy_into, count_entries, find_around, fitting_at, height_law, new_node,
-    pop, push,
+    pop, push, rewrite_before,
 };
 use acc_base::{Fault, Steps};
 use std::alloc::Global;
@@ -208,6 +209,15 @@ impl<T: Copy> Tree<T> {
         ensures room { self.new.room ≡ self.old.room }
     {
         change_in_place(&mut self.root, Change::Write, &mut Entry { key, value });
+    }
+
+    /// Rewrites the last entry before a key, if there is one and the change says what its value becomes. It answers
+    /// whether that is so. It is one walk, which needs no memory.
+    pub fn rewrite_before<C: Rewriting<T>>(&mut self, key: u64, change: &C) -> bool
+        ensures rewritten { IsRewritten (C.becomes change.now) (last_before key self.old.entries) result self.old.entries self.new.entries }
+        ensures room { self.new.room ≡ self.old.room }
+    {
+        rewrite_before(&mut self.root, key, change).unwrap_or(false)
     }
 
     /// How many entries there are, or the greatest `usize` where they are more than that. It counts them row by row.

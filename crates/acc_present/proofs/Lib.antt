@@ -4,3 +4,4 @@ pub mod Registering
 pub mod Limits
 pub mod Fresh
 pub mod Crossing
+pub mod Recounting

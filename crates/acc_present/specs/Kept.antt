@@ -1,5 +1,5 @@
 -- How the present table keeps its ranges and regions. No public clause cites this module.
-use Rattle.std.specs.Prelude.{ℕ, ◌≡◌, ◌^◌, ◌<◌, List, filter, map, nat_le, Option, Some, None, option_map, ⊤}
+use Rattle.std.specs.Prelude.{ℕ, ◌≡◌, ◌^◌, ◌<◌, ◌==◌, ◌&&◌, if◌then◌else◌, Bool, true, List, filter, map, nat_lt, nat_le, Option, Some, None, option_map, ⊤}
 use Rattle.std.specs.List.{AllByRecursion}
 use Rattle.acc_base.specs.declared.items.Section.{Section}
 use Rattle.acc_base.specs.declared.mappings.Range.{Range}
@@ -69,6 +69,16 @@ abbrev pub IsChangeable : Change → ℕ → Range → Type 0
 IsChangeable (Raise counter) most r = counter_in counter r < most
 IsChangeable (Lower counter) most r = ⊤
 IsChangeable Clear most r = ⊤
+
+-- the test of that
+abbrev pub allows : Change → ℕ → Range → Bool
+allows (Raise counter) most r = nat_lt (counter_in counter r) most
+allows (Lower counter) most r = true
+allows Clear most r = true
+
+-- what it makes of the range that is mapped to a block, where that is allowed
+abbrev pub recounted : ℕ → Change → ℕ → Range → Option Range
+recounted block change most r = if r.block == block && allows change most r then Some (changed_by change r) else None
 
 -- ---- the open regions
 

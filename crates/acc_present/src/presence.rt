@@ -1,6 +1,8 @@
 //! The present table as one value.
 
-ghost use Rattle.std.specs.Prelude.{◌≡◌, ℕ, ◌+◌, ◌*◌, ◌^◌, ◌<◌, ◌≤◌, ◌↔◌, length, map, option_map, MatchResult, None, Some, Err, IfOk, IfErr, OnOk, OnErr, IfSome, MatchOption};
+ghost use Rattle.std.specs.Prelude.{◌≡◌, false, ℕ, ◌+◌, ◌*◌, ◌^◌, ◌<◌, ◌≤◌, ◌↔◌, length, map, option_map, MatchResult, None, Some, Err, IfOk, IfErr, OnOk, OnErr, IfSome, MatchOption};
+ghost use Rattle.std.specs.Bool.{OnTrue};
+ghost use Rattle.acc_base.specs.declared.mappings.Range.{Range};
 ghost use Rattle.acc_base.specs.declared.mappings.Counter.TheVariants.{Structured, Dynamic};
 ghost use Rattle.acc_base.specs.declared.mappings.Found.TheVariants.{Absent};
 ghost use Rattle.acc_base.specs.Ranges.{where_is, where_is_apart, range_of, range_from, structured_of, dynamic_of, counter_of, with_range, without_range, changed_at, bare_range, risen, fallen, cleared};
@@ -9,7 +11,7 @@ ghost use Rattle.acc_ordered.specs.Listing.{seen};
 ghost use Rattle.acc_present.specs.Present.{IsWithinLimit, new_table, with_ranges, with_regions, HasRange, HasRegion, IsRoomKept, IsRangeRoomTaken, IsRegionRoomTaken, IsRoomMissing, IsLawful, region_of};
 ghost use Rattle.acc_present.specs.Kept.{IsNext, IsChangeable, changed_by};
 
-use crate::ranges::{Change, changed, told_by, value_of};
+use crate::ranges::{Change, Recount, changed, told_by, value_of};
 use crate::register::{OpenRegion, Register};
 use acc_base::{Counter, Counters, Fault, Found, Holding, Range, Section, Steps};
 use acc_ordered::{Entry, Found as InTree, Tree};
@@ -426,8 +428,10 @@ impl Present {
         ensures unchanged { OnErr result (self.new.table ≡ self.old.table) }
         ensures room { IsRoomKept self.old.room self.new.room }
     {
-        let range = self.mapped_near(block, at);
-        self.count(counter, range)
+        if self.change_near(Change::Raise(counter), block, at) {
+            return Ok(());
+        }
+        self.count(counter, self.mapped(block))
     }
 
     /// Raises a counter of a mapped range.
@@ -445,6 +449,24 @@ impl Present {
         }
         self.change(Change::Raise(counter), range);
         Ok(())
+    }
+
+    /// Changes a counter of the range that is mapped to a block, if that is the last one that begins at or before the
+    /// address `at`, and a counter that rises is below the limit. It answers whether that is so. It is one search.
+    #[inline]
+    fn change_near(&mut self, change: Change, block: u64, at: u64) -> bool
+        ensures changed { OnTrue result (self.new.table ≡ with_ranges self.old.table (changed_at block (changed_by change) self.old.table.ranges)) }
+        ensures below { OnTrue result ((range : Range) × (range_of block self.old.table.ranges ≡ Some range) × IsChangeable change self.old.table.counter_max range) }
+        ensures unchanged { result ≡ false → self.new.table ≡ self.old.table }
+        ensures room { IsRoomKept self.old.room self.new.room }
+    {
+        let most = self.counter_max as u32;
+        let recount = Recount {
+            block,
+            change,
+            most,
+        };
+        self.ranges.rewrite_before(at.saturating_add(1), &recount)
     }
 
     /// Changes a counter of a mapped range. One that rises is below the limit.
@@ -492,7 +514,9 @@ impl Present {
         ensures table { self.new.table ≡ with_ranges self.old.table (changed_at block (fallen counter) self.old.table.ranges) }
         ensures room { IsRoomKept self.old.room self.new.room }
     {
-        self.change(Change::Lower(counter), self.mapped_near(block, at));
+        if !self.change_near(Change::Lower(counter), block, at) {
+            self.change(Change::Lower(counter), self.mapped(block));
+        }
     }
 
     /// Sets the dynamic counter of the range that is mapped to a block to 0, as [`Present::clear_dynamic`] does. One is.
@@ -502,7 +526,9 @@ impl Present {
         ensures table { self.new.table ≡ with_ranges self.old.table (changed_at block cleared self.old.table.ranges) }
         ensures room { IsRoomKept self.old.room self.new.room }
     {
-        self.change(Change::Clear, self.mapped_near(block, at));
+        if !self.change_near(Change::Clear, block, at) {
+            self.change(Change::Clear, self.mapped(block));
+        }
     }
 
     // ---- open data regions

@@ -1,4 +1,4 @@
-use Rattle.std.proofs.Common.{ℕ, ◌≡◌, ◌+◌, ◌-◌, ◌<◌, ◌≤◌, List, length, get_or, min, subst, sym, arith}
+use Rattle.std.proofs.Common.{ℕ, ◌≡◌, ◌+◌, ◌-◌, ◌<◌, ◌≤◌, List, length, get_or, min, subst, arith}
 use Rattle.acc_ordered.proofs.Counting.{counted_step, counted_split}
 use Rattle.acc_ordered.proofs.search.count_below.Goals as goal
 

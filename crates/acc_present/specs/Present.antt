@@ -1,8 +1,10 @@
 -- What contracts see of the present table: the mapped ranges, the open data regions, and the room for more (OpenACC
 -- 3.3, sections 2.6.5 and 2.6.7).
-use Rattle.std.specs.Prelude.{ℕ, ◌≡◌, ◌+◌, ◌^◌, ◌<◌, ◌≤◌, ◌⊎◌, List, [], IsSome}
+use Rattle.std.specs.Prelude.{ℕ, ◌≡◌, ◌+◌, ◌^◌, ◌<◌, ◌≤◌, ◌⊎◌, ⊤, List, [], Option, Some, None, IsSome}
 use Rattle.std.specs.List.{AllByRecursion}
 use Rattle.acc_base.specs.declared.mappings.Range.{Range}
+use Rattle.acc_base.specs.declared.mappings.Found.{Found}
+use Rattle.acc_base.specs.declared.mappings.Found.TheVariants.{Inside, Empty, Partly, Absent}
 use Rattle.acc_base.specs.Ranges.{range_of}
 use Rattle.acc_base.specs.Register.{Region, region_at}
 use Rattle.acc_base.specs.Accounts.{EachPair, IsBelow}
@@ -48,6 +50,14 @@ HasRegion t number = IsSome (region_at number t.regions)
 -- the region that an open region of the code stands for
 abbrev pub region_of : OpenRegion → Region
 region_of o = record { number = o.number; holdings = o.holdings.items }
+
+-- the range in which a section lies is told with its block
+abbrev pub IsToldBy : Found → Option Range → Type 0
+IsToldBy (Inside block offset) None = ⊥
+IsToldBy (Inside block offset) (Some range) = range.block ≡ block
+IsToldBy Empty told = ⊤
+IsToldBy Partly told = ⊤
+IsToldBy Absent told = ⊤
 
 -- ---- room
 

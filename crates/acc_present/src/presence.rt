@@ -8,7 +8,7 @@ ghost use Rattle.acc_base.specs.declared.mappings.Found.TheVariants.{Absent};
 ghost use Rattle.acc_base.specs.Ranges.{where_is, where_is_apart, range_of, range_from, structured_of, dynamic_of, counter_of, with_range, without_range, changed_at, bare_range, risen, fallen, cleared};
 ghost use Rattle.acc_base.specs.Register.{region_at, newest_region, holdings_at, with_region, without_region};
 ghost use Rattle.acc_ordered.specs.Listing.{seen};
-ghost use Rattle.acc_present.specs.Present.{IsWithinLimit, new_table, with_ranges, with_regions, HasRange, HasRegion, IsRoomKept, IsRangeRoomTaken, IsRegionRoomTaken, IsRoomMissing, IsLawful, region_of};
+ghost use Rattle.acc_present.specs.Present.{IsWithinLimit, new_table, with_ranges, with_regions, HasRange, HasRegion, IsToldBy, IsRoomKept, IsRangeRoomTaken, IsRegionRoomTaken, IsRoomMissing, IsLawful, region_of};
 ghost use Rattle.acc_present.specs.Kept.{IsNext, IsChangeable, changed_by};
 
 use crate::ranges::{Change, Recount, changed, told_by, value_of};
@@ -141,11 +141,12 @@ impl Present {
         self.find_range_apart(section, blocks).0
     }
 
-    /// Where a section would lie, as [`Present::find_apart`] says, and a mapped range that says so, if one does. So its
-    /// counters need no search of their own.
+    /// Where a section would lie, as [`Present::find_apart`] says, and a mapped range that says so, if one does. It is
+    /// that of the block in which the section lies, whose counters need no search of their own then.
     pub fn find_range_apart(&self, section: Section, blocks: &[u64]) -> (Found, Option<Range>)
         ensures found { result.0 ≡ where_is_apart section blocks.now self.now.table.ranges }
         ensures range { IfSome result.1 (λ range. range_of range.block self.now.table.ranges ≡ Some range) }
+        ensures block { IsToldBy result.0 result.1 }
     {
         self.laws();
         let mut next = match self.locate(section, blocks, &mut Steps::new()) {
@@ -173,6 +174,7 @@ impl Present {
         requires limit { steps.old ≤ 2 ^ 32 }
         ensures found { IfOk result (λ told. told.0 ≡ where_is_apart section blocks.now self.now.table.ranges) }
         ensures range { IfOk result (λ told. IfSome told.1 (λ range. range_of range.block self.now.table.ranges ≡ Some range)) }
+        ensures block { IfOk result (λ told. IsToldBy told.0 told.1) }
         ensures next { IfErr result (λ next. IsNext section blocks.now self.now.table.ranges next) }
         ensures some { OnErr result (0 < section.len) }
         ensures behind { IfErr result (λ next. IfSome next (λ range. section.start ≤ range.section.start)) }

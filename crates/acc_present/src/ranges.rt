@@ -1,11 +1,11 @@
 //! One mapped range: what it says of a section, and its counters.
 
-ghost use Rattle.std.specs.Prelude.{◌≡◌, List, ◌∷◌, IfSome, IfNone, ◌+◌, ◌-◌, ◌<◌, ◌≤◌, ◌==◌, ◌^◌, nat_le};
+ghost use Rattle.std.specs.Prelude.{◌≡◌, Some, List, ◌∷◌, IfSome, IfNone, ◌+◌, ◌-◌, ◌<◌, ◌≤◌, ◌==◌, ◌^◌, nat_le};
 ghost use Rattle.std.specs.Bool.{OnTrue};
 ghost use Rattle.std.specs.List.{list_any};
 ghost use Rattle.acc_base.specs.Section.{is_within, end_of};
 ghost use Rattle.acc_base.specs.Ranges.{where_is_apart, counter_in};
-ghost use Rattle.acc_present.specs.Present.{AreMapped};
+ghost use Rattle.acc_present.specs.Present.{AreMapped, IsToldBy};
 ghost use Rattle.acc_present.specs.Kept.{changed_by, allows, IsChangeable};
 
 use acc_base::{Counter, Found, Range, Section};
@@ -45,6 +45,7 @@ pub fn told_by(first: Range, section: Section, blocks: &[u64]) -> Option<Found>
     requires some { 0 < section.len }
     requires mapped { 0 < first.section.len }
     ensures told { IfSome result (λ found. (others : List Range) → AreMapped (first ∷ others) → where_is_apart section blocks.now (first ∷ others) ≡ found) }
+    ensures block { IfSome result (λ found. IsToldBy found (Some first)) }
     ensures silent { IfNone result ((others : List Range) → where_is_apart section blocks.now (first ∷ others) ≡ where_is_apart section blocks.now others) }
 {
     if ends_before(section, first.section) {

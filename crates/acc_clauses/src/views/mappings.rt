@@ -2,6 +2,7 @@
 
 ghost use Rattle.std.specs.Prelude.{◌≡◌, ◌^◌, ◌<◌, ◌≤◌, Some, IfSome};
 ghost use Rattle.acc_base.specs.Ranges.{where_is, where_is_apart, range_from, range_of, structured_of, dynamic_of, start_of};
+ghost use Rattle.acc_present.specs.Present.{IsToldBy};
 
 use crate::views::View;
 use acc_base::{Counters, Found, Range, Section};
@@ -18,6 +19,7 @@ impl View<'_> {
     pub(crate) fn find_apart(&self, section: Section, blocks: &[u64]) -> (Found, Option<Range>)
         ensures found { result.0 ≡ where_is_apart section blocks.now self.now.state.records.ranges }
         ensures range { IfSome result.1 (λ range. range_of range.block self.now.state.records.ranges ≡ Some range) }
+        ensures block { IsToldBy result.0 result.1 }
     {
         self.environment.present.find_range_apart(section, blocks)
     }

@@ -21,7 +21,7 @@ use acc_dev::Device;
 use acc_host::HostMem;
 use acc_present::Present;
 
-/// Raises a counter of the range that is mapped to a block, which lies near an address.
+/// Raises a counter of the range that is mapped to a block. An address says where it is looked for first.
 fn raise(present: &mut Present, counter: Counter, block: u64, at: u64)
     requires there { HasRange present.old.table block }
     requires below { counter_of counter block present.old.table.ranges < present.old.table.counter_max }
@@ -165,8 +165,7 @@ fn end(environment: &mut Environment, host: &mut HostMem, task: Task, block: u64
 {
     give_bytes(environment, host, task, block);
     environment.device.laws();
-    let at = section_of(task).start;
-    environment.present.end_near(block, at);
+    environment.present.end_mapping(block);
     if environment.device.retire(block) {
         environment.attached.forget(block);
     }

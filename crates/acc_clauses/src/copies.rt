@@ -50,14 +50,11 @@ pub(crate) fn run_in(device: &mut Device, host: &HostMem, run: Section, block: u
     device.write(block, run.start - start, bytes);
 }
 
-/// The host address at which the range that is mapped to a block begins; 0 where none is. It lies near the address `at`.
-pub(crate) fn start_of(present: &Present, block: u64, at: u64) -> u64
+/// The host address at which the range that is mapped to a block begins; 0 where none is.
+pub(crate) fn start_of(present: &Present, block: u64) -> u64
     ensures { result ≡ start_of block present.now.table.ranges }
 {
-    match present.range_near(block, at) {
-        Some(range) => range.section.start,
-        None => 0,
-    }
+    present.start(block).unwrap_or(0)
 }
 
 /// The end of the run of bytes, from the host address `at` on, that are of no attached pointer of the block. It is

@@ -24,7 +24,7 @@ fn write_target(environment: &mut Environment, pointer: u64, block: u64, target:
     ensures { let s = bare_state (beside environment.old []) in environment.new ≡ record environment.old { device = record environment.old.device { memories = pointer_written block pointer (λ a. slice_index (to_le_bytes w64 target) (a - pointer)) s } } }
 {
     environment.device.laws();
-    let start = start_of(&environment.present, block, pointer);
+    let start = start_of(&environment.present, block);
     environment
         .device
         .write(block, pointer - start, &target.to_le_bytes());
@@ -35,7 +35,7 @@ fn write_back(environment: &mut Environment, host: &HostMem, pointer: u64, block
     requires can { CanAttach pointer block (bare_state (beside environment.old host.now)) }
     ensures { let s = bare_state (beside environment.old host.now) in environment.new ≡ record environment.old { device = record environment.old.device { memories = pointer_written block pointer (host_byte s.host) s } } }
 {
-    let start = start_of(&environment.present, block, pointer);
+    let start = start_of(&environment.present, block);
     run_in(
         &mut environment.device,
         host,

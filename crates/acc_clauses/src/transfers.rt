@@ -23,7 +23,7 @@ pub(crate) fn transfer_at(present: &Present, task: Task, block: u64) -> Transfer
     ensures { result ≡ transfer_at task block present.now.table.ranges }
 {
     let section = section_of(task);
-    let start = start_of(present, block, section.start);
+    let start = start_of(present, block);
     let offset = section.start.saturating_sub(start);
     Transfer {
         block,

@@ -5,12 +5,12 @@ use Rattle.std.proofs.lemmas.List.{take_more}
 use Rattle.acc_base.proofs.Splitting.{all_at}
 use Rattle.acc_base.specs.declared.loans.Loan.{Loan}
 use Rattle.acc_dev.specs.declared.entries.Stored.{Stored}
-use Rattle.acc_dev.specs.declared.index.Entry.{Entry}
+use Rattle.acc_index.specs.declared.index.Entry.{Entry}
 use Rattle.acc_dev.specs.Kept.{stored_loan, loan_before, slot_of, loans_in}
-use Rattle.acc_dev.specs.Indexed.{pair_of, live_entries, blank_entry}
+use Rattle.acc_index.specs.Indexed.{pair_of, live_entries, blank_entry}
 use Rattle.acc_dev.proofs.Lent.{loans_in-push}
-use Rattle.acc_dev.proofs.Rising.{start}
-use Rattle.acc_dev.proofs.Indexing.{entries-append, entry_here}
+use Rattle.acc_index.proofs.Rising.{start}
+use Rattle.acc_index.proofs.Indexing.{entries-append, entry_here}
 
 -- an entry that is not gone is one more
 pub live_more : (xs : List Entry) (i : ℕ) → i < length xs → (get_or xs i blank_entry).gone ≡ false → live_entries (take (i + 1) xs) ≡ live_entries (take i xs) ++ pair_of (get_or xs i blank_entry) ∷ []

@@ -1,4 +1,3 @@
-pub mod Rising
 pub mod Slots
 pub mod LoanLists
 pub mod Lent
@@ -11,6 +10,5 @@ pub mod Writes
 pub mod Lends
 pub mod EndedPlaces
 pub mod Ending
-pub mod Indexing
 pub mod Copied
 pub mod Crossing

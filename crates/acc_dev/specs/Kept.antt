@@ -1,6 +1,6 @@
 -- How a device keeps its blocks: each in a slot of a slab, and an index of their numbers and slots. No public clause
 -- cites this module.
-use Rattle.std.specs.Prelude.{ℕ, ◌≡◌, ◌≢◌, ◌+◌, ◌^◌, ◌<◌, ◌≤◌, ◌==◌, Bool, true, false, not, ◌&&◌, ◌||◌, List, [], ◌∷◌, map, length, Option, Some, None, IsSome, slice_index_or}
+use Rattle.std.specs.Prelude.{ℕ, ◌≡◌, ◌≢◌, ◌+◌, ◌^◌, ◌≤◌, ◌==◌, Bool, true, false, not, ◌&&◌, ◌||◌, List, [], ◌∷◌, map, length, Option, Some, None, IsSome, slice_index_or}
 use Rattle.std.specs.List.{AllByRecursion, remove}
 use Rattle.acc_base.specs.declared.addresses.TheConstants.{MEMORY_MAX}
 use Rattle.acc_base.specs.declared.loans.Loan.{Loan}
@@ -16,6 +16,7 @@ use Rattle.acc_base.specs.Holes.{taken_range}
 use Rattle.acc_base.specs.Accounts.{EachPair}
 use Rattle.acc_placement.specs.Space.{Space, IsCanonical, IsPartition}
 use Rattle.slab.specs.Slab.{Slab, get}
+use Rattle.acc_index.specs.Indexed.{IsIndexRising, IsEntry}
 use Rattle.acc_dev.specs.declared.entries.Stored.{Stored}
 use Rattle.acc_dev.specs.Marks.{Mark, pins_at, is_ended_at, IsSoundMark}
 use Rattle.acc_base.specs.Overwriting.{overwritten}
@@ -97,10 +98,6 @@ abbrev pub loans_in : List (Option Stored) → List (ℕ × ℕ) → List Loan
 loans_in slots [] = []
 loans_in slots (e ∷ es) = loan_before (stored_loan (slot_of slots e)) (loans_in slots es)
 
--- the numbers of an index rise
-abbrev pub IsIndexRising : List (ℕ × ℕ) → Type 0
-IsIndexRising index = EachPair (λ d e. d.0 < e.0) index
-
 -- the block of a slot that is lent is mapped, and its loan is the block's and lies in it
 pub record IsOut (number : ℕ) (slot : Option Stored) (loan : Loan) : Type 0 where
   pub mapped : stored_ended slot ≡ false
@@ -132,24 +129,6 @@ pub record AreSlotsKept (holes : Space) (slots : List (Option Stored)) (index : 
 pub record AreNumbersBorn (index : List (ℕ × ℕ)) (births : ℕ) : Type 0 where
   pub below : AllByRecursion (λ e. e.0 ≤ births) index
   pub few : births ≤ 2 ^ 48
-
--- the entry at an index is the block's
-pub record IsEntry (index : List (ℕ × ℕ)) (block at : ℕ) : Type 0 where
-  pub in_bounds : at < length index
-  pub number : (slice_index_or index at (0, 0)).0 ≡ block
-
--- the slot is that of the block's entry
-pub record IsSlotOf (index : List (ℕ × ℕ)) (block slot : ℕ) : Type 0 where
-  pub at : ℕ
-  pub entry : IsEntry index block at
-  pub is : (slice_index_or index at (0, 0)).1 ≡ slot
-
--- the entry of a block, which had this slot, is taken out
-pub record IsEntryLost (old new : List (ℕ × ℕ)) (block slot : ℕ) : Type 0 where
-  pub at : ℕ
-  pub entry : IsEntry old block at
-  pub is : (slice_index_or old at (0, 0)).1 ≡ slot
-  pub left : new ≡ remove old at
 
 -- what the blocks of an index are without one of them
 pub record IsBlockLost (s t : List (Option Stored)) (old new : List (ℕ × ℕ)) (block : ℕ) : Type 0 where

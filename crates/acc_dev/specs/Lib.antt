@@ -2,5 +2,4 @@ pub mod Marks
 pub mod Device
 pub mod Kept
 pub mod Room
-pub mod Indexed
 pub mod Ending

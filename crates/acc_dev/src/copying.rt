@@ -8,8 +8,8 @@ ghost use Rattle.acc_dev.specs.Kept.{slot_of, block_from, memory_from, blocks_in
 
 use crate::devices::Device;
 use crate::entries::{Stored, loan_at};
-use crate::index::Index;
 use acc_base::{Block, Fault, Loan};
+use acc_index::Index;
 use slab::Slab;
 use std::alloc::Global;
 

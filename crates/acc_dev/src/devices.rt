@@ -20,8 +20,8 @@ use crate::entries::{
     Stored, make_room, put, remove_block, set_mark, slot_near, slot_of_block, write_at,
 };
 use crate::filling::{fill, filled, make_vectors};
-use crate::index::Index;
 use acc_base::{DEVICE_BASE, Ended, Fault, Hole, MEMORY_MAX};
+use acc_index::Index;
 use acc_placement::{Holes, rounded};
 use slab::Slab;
 use std::alloc::Global;

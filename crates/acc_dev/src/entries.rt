@@ -9,11 +9,12 @@ ghost use Rattle.acc_placement.specs.Ranges.{IsFit, IsLeastFit};
 ghost use Rattle.acc_placement.specs.Space.{IsSameSpace};
 ghost use Rattle.acc_base.specs.Overwriting.{overwritten};
 ghost use Rattle.acc_dev.specs.Marks.{new_mark};
-ghost use Rattle.acc_dev.specs.Kept.{memory_of, stored_place, stored_len, stored_bytes, stored_pins, stored_ended, stored_loan, slot_of, blocks_in, memories_in, marks_in, loans_in, IsIndexRising, IsEntry, IsBlockLost, IsSlotOf, IsBacked, AreSlotsKept, IsRewritten, IsRemarked, IsRelent};
+ghost use Rattle.acc_index.specs.Indexed.{IsIndexRising, IsEntry, IsSlotOf};
+ghost use Rattle.acc_dev.specs.Kept.{memory_of, stored_place, stored_len, stored_bytes, stored_pins, stored_ended, stored_loan, slot_of, blocks_in, memories_in, marks_in, loans_in, IsBlockLost, IsBacked, AreSlotsKept, IsRewritten, IsRemarked, IsRelent};
 
 use crate::ended::EndedBlocks;
-use crate::index::Index;
 use acc_base::{Fault, Loan, MEMORY_MAX};
+use acc_index::Index;
 use acc_lend::Lease;
 use acc_placement::Holes;
 use slab::Slab;

@@ -6,7 +6,6 @@ mod devices;
 mod ended;
 mod entries;
 mod filling;
-mod index;
 mod lending;
 mod returning;
 

@@ -4,10 +4,11 @@ ghost use Rattle.std.specs.Prelude.{◌≡◌, length, is_some, IfSome};
 ghost use Rattle.std.specs.List.{AllByRecursion};
 ghost use Rattle.slab.specs.Slab.{get};
 ghost use Rattle.acc_base.specs.Leases.{is_kept_outside, is_returnable};
-ghost use Rattle.acc_dev.specs.Kept.{stored_len, slot_of, blocks_in, memories_in, loans_in, is_back_at, IsIndexRising, IsSlotOf, IsBacked};
+ghost use Rattle.acc_index.specs.Indexed.{IsIndexRising, IsSlotOf};
+ghost use Rattle.acc_dev.specs.Kept.{stored_len, slot_of, blocks_in, memories_in, loans_in, is_back_at, IsBacked};
 
 use crate::entries::Stored;
-use crate::index::Index;
+use acc_index::Index;
 use acc_lend::Lease;
 use slab::Slab;
 

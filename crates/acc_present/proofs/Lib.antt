@@ -5,3 +5,4 @@ pub mod Limits
 pub mod Fresh
 pub mod Crossing
 pub mod Recounting
+pub mod Starting

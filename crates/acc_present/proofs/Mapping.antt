@@ -16,13 +16,13 @@ use Rattle.acc_base.proofs.Where.{absent_says}
 use Rattle.acc_base.proofs.Results.{equal, differ}
 use Rattle.acc_base.proofs.InPlace.{IsPut, all-put, find-put_other, find-put_new}
 use Rattle.acc_base.proofs.Lookups.{at, at-own}
-use Rattle.acc_base.proofs.Options.{some_mapped, none_mapped, still_some, from_some, from_none}
+use Rattle.acc_base.proofs.Options.{some_mapped, none_mapped, still_some, from_none}
 use Rattle.acc_base.proofs.Elements.{AllByRecursion-weaker, AllByRecursion-both, AllByRecursion-filter, AllByRecursion-map, EachPair-filter, EachPair-map, find-map, find-none, find_none, find_passes, found_has, list_all-from}
 use Rattle.acc_base.proofs.Keyed as keyed
 use Rattle.acc_ordered.specs.declared.entries.Entry.{Entry}
 use Rattle.acc_ordered.specs.Listing.{at_key, first_from, last_before, with_entry, without_key, value_written, with_value, values_in}
 use Rattle.acc_present.specs.Present.{AreMapped}
-use Rattle.acc_present.specs.Kept.{range_in, ranges_in, IsKeyed, start_in, start_at, IsIndexed}
+use Rattle.acc_present.specs.Kept.{range_in, ranges_in, IsKeyed, start_at, IsIndexed}
 use Rattle.acc_present.proofs.Finding.{last_below, starts_rise}
 
 -- a range's start and its block
@@ -163,25 +163,33 @@ key_there block es r m there =
 -- ---- the start of a block's range
 
 -- the range at the start that is kept for a block
-pub range_at : (block start : ℕ) (es : List (Entry Range)) (starts : List (Entry ℕ)) → IsIndexed es starts → start_in block starts ≡ Some start → option_map (λ (e : Entry Range). e.value) (at_key start es) ≡ range_of block (ranges_in es)
+pub range_at : (block start : ℕ) (es : List (Entry Range)) (starts : ℕ → Option ℕ) → IsIndexed es starts → starts block ≡ Some start → option_map (λ (e : Entry Range). e.value) (at_key start es) ≡ range_of block (ranges_in es)
 range_at block start es starts kept given = value_if (at_key start es) (keyed_found (λ e. e.key == start) es kept.keyed) ∙ sym (start-ranges start es) ∙ go (range_of block (ranges_in es)) refl
   where
     go : (o : Option Range) → range_of block (ranges_in es) ≡ o → at start_key start (ranges_in es) ≡ o
-    go None is = let none : start_in block starts ≡ None = kept.agrees block ∙ ap (option_map start_key) is in cc
+    go None is = let none : starts block ≡ None = kept.agrees block ∙ ap (option_map start_key) is in cc
     go (Some r) is =
         let same : start ≡ start_key r = same_Some start (start_key r) (sym given ∙ kept.agrees block ∙ ap (option_map start_key) is) in
         ap (λ n. at start_key n (ranges_in es)) same ∙ keyed.at-found start_key (λ t. t.block == block) (ranges_in es) r (starts_rise (ranges_in es) kept.mapped) is
 
+-- the range that begins where it is kept that a block's does
+pub started : (block start : ℕ) (es : List (Entry Range)) (starts : ℕ → Option ℕ) → IsIndexed es starts → starts block ≡ Some start → (r : Range) × (range_of block (ranges_in es) ≡ Some r) × (r.section.start ≡ start)
+started block start es starts kept given = go (range_of block (ranges_in es)) refl
+  where
+    go : (o : Option Range) → range_of block (ranges_in es) ≡ o → (r : Range) × (range_of block (ranges_in es) ≡ Some r) × (r.section.start ≡ start)
+    go None is = let none : starts block ≡ None = kept.agrees block ∙ ap (option_map start_key) is in cc
+    go (Some r) is = (r, is, same_Some (start_key r) start (sym (kept.agrees block ∙ ap (option_map start_key) is) ∙ given))
+
 -- no range has a block for which no start is kept
-pub no_start : (block : ℕ) (es : List (Entry Range)) (starts : List (Entry ℕ)) → IsIndexed es starts → at_key block starts ≡ None → range_of block (ranges_in es) ≡ None
-no_start block es starts kept none = from_none start_key (range_of block (ranges_in es)) (sym (kept.agrees block) ∙ ap (option_map (λ e. e.value)) none)
+pub no_start : (block : ℕ) (es : List (Entry Range)) (starts : ℕ → Option ℕ) → IsIndexed es starts → starts block ≡ None → range_of block (ranges_in es) ≡ None
+no_start block es starts kept none = from_none start_key (range_of block (ranges_in es)) (sym (kept.agrees block) ∙ none)
 
 -- and no start is kept for a block that no range has
-pub start_new : (block : ℕ) (es : List (Entry Range)) (starts : List (Entry ℕ)) → IsIndexed es starts → range_of block (ranges_in es) ≡ None → at_key block starts ≡ None
-start_new block es starts kept none = from_none (λ e. e.value) (at_key block starts) (kept.agrees block ∙ ap (option_map start_key) none)
+pub start_new : (block : ℕ) (es : List (Entry Range)) (starts : ℕ → Option ℕ) → IsIndexed es starts → range_of block (ranges_in es) ≡ None → starts block ≡ None
+start_new block es starts kept none = kept.agrees block ∙ ap (option_map start_key) none
 
-pub start_old : (block : ℕ) (es : List (Entry Range)) (starts : List (Entry ℕ)) → IsIndexed es starts → IsSome (range_of block (ranges_in es)) → IsSome (at_key block starts)
-start_old block es starts kept there = from_some (λ e. e.value) (at_key block starts) (rw (kept.agrees block) (still_some start_key (range_of block (ranges_in es)) there))
+pub start_old : (block : ℕ) (es : List (Entry Range)) (starts : ℕ → Option ℕ) → IsIndexed es starts → IsSome (range_of block (ranges_in es)) → IsSome (starts block)
+start_old block es starts kept there = rw (kept.agrees block) (still_some start_key (range_of block (ranges_in es)) there)
 
 -- ---- a range more
 
@@ -198,7 +206,7 @@ put_in_entries : {T : Type 0} (new : Entry T) → IsPut new (λ e. nat_lt new.ke
 put_in_entries new = record { alone = refl; among = λ e es. refl }
 
 -- the entry of a key once one more is in
-at-with_entry : {T : Type 0} (new : Entry T) (es : List (Entry T)) (key : ℕ) → at_key new.key es ≡ None → at_key key (with_entry new es) ≡ cond (new.key == key) (Some new) (at_key key es)
+pub at-with_entry : {T : Type 0} (new : Entry T) (es : List (Entry T)) (key : ℕ) → at_key new.key es ≡ None → at_key key (with_entry new es) ≡ cond (new.key == key) (Some new) (at_key key es)
 at-with_entry {T} new es key none = go (new.key == key) refl
   where
     go : (b : Bool) → (new.key == key) ≡ b → at_key key (with_entry new es) ≡ cond b (Some new) (at_key key es)
@@ -236,22 +244,18 @@ mapped-with new rs m absent none =
       own_block = apart_with (λ r t. r.block ≡ t.block → ⊥) new rs (AllByRecursion-weaker (λ (r : Range). (r.block == new.block) ≡ false) (λ r. (new.block ≡ r.block → ⊥) × (r.block ≡ new.block → ⊥)) rs (λ r f. (λ same. grind (arith, nat_tests), λ same. grind (arith, nat_tests))) (find_none (λ (r : Range). r.block == new.block) rs none)) m.own_block;
     }
 
-pub mapped_now : (new : Entry Range) (start : Entry ℕ) (es : List (Entry Range)) (starts : List (Entry ℕ)) → IsIndexed es starts → IsKeyed new → where_is (range_in new).section (ranges_in es) ≡ Absent → range_of new.value.block (ranges_in es) ≡ None
-    → start.key ≡ new.value.block → start.value ≡ new.key → IsIndexed (with_entry new es) (with_entry start starts)
-mapped_now new start es starts kept own absent none key_is value_is = record {
+pub mapped_now : (new : Entry Range) (es : List (Entry Range)) (starts told : ℕ → Option ℕ) → IsIndexed es starts → IsKeyed new → where_is (range_in new).section (ranges_in es) ≡ Absent → range_of new.value.block (ranges_in es) ≡ None
+    → ((block : ℕ) → told block ≡ cond (new.value.block == block) (Some new.key) (starts block)) → IsIndexed (with_entry new es) told
+mapped_now new es starts told kept own absent none says = record {
   mapped = rw (with_entry-ranges new es) (mapped-with (range_in new) (ranges_in es) kept.mapped absent none);
   keyed = all-put (put_in_entries new) IsKeyed es own kept.keyed;
   agrees = λ block.
-      ap (option_map (λ e. e.value)) (at-with_entry start starts block (subst (λ n. at_key n starts ≡ None) (sym key_is) (start_new new.value.block es starts kept none)))
-      ∙ some_mapped (λ e. e.value) (start.key == block) start (at_key block starts)
-      ∙ same block
+      says block
+      ∙ ap (cond (new.value.block == block) (Some new.key)) (kept.agrees block)
       ∙ sym (some_mapped start_key (new.value.block == block) (range_in new) (range_of block (ranges_in es)))
       ∙ ap (option_map start_key) (sym (of-with_range (range_in new) (ranges_in es) block none))
       ∙ ap (start_at block) (sym (with_entry-ranges new es));
 }
-  where
-    same : (block : ℕ) → cond (start.key == block) (Some start.value) (start_in block starts) ≡ cond (new.value.block == block) (Some new.key) (start_at block (ranges_in es))
-    same block = rw (key_is, value_is, kept.agrees block) refl
 
 -- ---- a range less
 
@@ -294,24 +298,23 @@ ranges-without block e (x ∷ es) only = rw only.0.tests (go (ranges-without blo
     go rest false = ap (λ rs. range_in x ∷ rs) rest
 
 -- what the entries are once a range is taken out
-pub record IsUnmappedNow (block : ℕ) (es ts : List (Entry Range)) (starts : List (Entry ℕ)) : Type 0 where
+pub record IsUnmappedNow (block : ℕ) (es ts : List (Entry Range)) (starts : ℕ → Option ℕ) : Type 0 where
   pub ranges : ranges_in ts ≡ without_range block (ranges_in es)
   pub indexed : IsIndexed ts starts
 
-pub unmapped_now : (block : ℕ) (es : List (Entry Range)) (starts : List (Entry ℕ)) (r : Range) → IsIndexed es starts → range_of block (ranges_in es) ≡ Some r → IsUnmappedNow block es (without_key r.section.start es) (without_key block starts)
-unmapped_now block es starts r kept there =
+pub unmapped_now : (block : ℕ) (es : List (Entry Range)) (starts told : ℕ → Option ℕ) (r : Range) → IsIndexed es starts → range_of block (ranges_in es) ≡ Some r → ((other : ℕ) → told other ≡ cond (block == other) None (starts other)) → IsUnmappedNow block es (without_key r.section.start es) told
+unmapped_now block es starts told r kept there says =
     let p = entry_of block es r kept.mapped there in
     let e = p.0 in
     let ranges = ranges-without block e es (only_one block es e kept.mapped (both_of block es e kept.mapped p.1)) in
-    subst (λ (x : Range). IsUnmappedNow block es (without_key x.section.start es) (without_key block starts)) p.2
+    subst (λ (x : Range). IsUnmappedNow block es (without_key x.section.start es) told) p.2
     (record {
       ranges = ranges;
       indexed = record {
         mapped = rw ranges (mapped-without block (ranges_in es) kept.mapped);
         keyed = AllByRecursion-filter IsKeyed (λ x. not (x.key == e.key)) es kept.keyed;
         agrees = λ other.
-            ap (option_map (λ x. x.value)) (keyed.at-without (λ (x : Entry ℕ). x.key) starts block other)
-            ∙ none_mapped (λ x. x.value) (block == other) (at_key other starts)
+            says other
             ∙ ap (cond (block == other) None) (kept.agrees other)
             ∙ sym (none_mapped start_key (block == other) (range_of other (ranges_in es)))
             ∙ ap (option_map start_key) (sym (keyed.at-without block_key (ranges_in es) block other))
@@ -337,11 +340,11 @@ ranges-changed block f e (x ∷ es) keeps only = ap (λ r. r ∷ ranges_in (with
         go false t = refl
 
 -- what the entries are once the range of a block is changed
-pub record IsChangedNow (block : ℕ) (f : Range → Range) (es ts : List (Entry Range)) (starts : List (Entry ℕ)) : Type 0 where
+pub record IsChangedNow (block : ℕ) (f : Range → Range) (es ts : List (Entry Range)) (starts : ℕ → Option ℕ) : Type 0 where
   pub ranges : ranges_in ts ≡ changed_at block f (ranges_in es)
   pub indexed : IsIndexed ts starts
 
-changed_now : (block : ℕ) (f : Range → Range) (es : List (Entry Range)) (starts : List (Entry ℕ)) (e : Entry Range) → KeepsPlace f → IsIndexed es starts → IsEntryOf block es e → IsChangedNow block f es (with_value e.key (f (range_in e)) es) starts
+changed_now : (block : ℕ) (f : Range → Range) (es : List (Entry Range)) (starts : ℕ → Option ℕ) (e : Entry Range) → KeepsPlace f → IsIndexed es starts → IsEntryOf block es e → IsChangedNow block f es (with_value e.key (f (range_in e)) es) starts
 changed_now block f es starts e keeps kept h = record {
   ranges = ranges;
   indexed = record {
@@ -376,7 +379,7 @@ changed_now block f es starts e keeps kept h = record {
         pick rest false = rest
 
 -- the same where the changed range was written over it
-pub written_now : (block : ℕ) (f : Range → Range) (es ts : List (Entry Range)) (starts : List (Entry ℕ)) (r new : Range) → KeepsPlace f → IsIndexed es starts → range_of block (ranges_in es) ≡ Some r
+pub written_now : (block : ℕ) (f : Range → Range) (es ts : List (Entry Range)) (starts : ℕ → Option ℕ) (r new : Range) → KeepsPlace f → IsIndexed es starts → range_of block (ranges_in es) ≡ Some r
     → new ≡ f r → ts ≡ with_value r.section.start new es → IsChangedNow block f es ts starts
 written_now block f es ts starts r new keeps kept there is now =
     let p = entry_of block es r kept.mapped there in

@@ -1,6 +1,7 @@
 -- How the present table keeps its ranges and regions. No public clause cites this module.
-use Rattle.std.specs.Prelude.{ℕ, ◌≡◌, ◌^◌, ◌<◌, ◌==◌, ◌&&◌, if◌then◌else◌, Bool, true, List, filter, map, nat_lt, nat_le, Option, Some, None, option_map, ⊤}
+use Rattle.std.specs.Prelude.{ℕ, ◌≡◌, ◌^◌, ◌<◌, ◌==◌, ◌&&◌, if◌then◌else◌, Bool, true, List, filter, find, map, nat_lt, nat_le, Option, Some, None, option_map, ⊤}
 use Rattle.std.specs.List.{AllByRecursion}
+use Rattle.std.specs.Option.{option_or}
 use Rattle.acc_base.specs.declared.items.Section.{Section}
 use Rattle.acc_base.specs.declared.mappings.Range.{Range}
 use Rattle.acc_base.specs.declared.mappings.Found.TheVariants.{Absent}
@@ -31,19 +32,31 @@ pub record IsKeyed (e : Entry Range) : Type 0 where
 
 -- ---- the start of each block's range
 
+-- what the starts of blocks are seen as
+pub record StartsState : Type 0 where
+  -- those of blocks that came behind all others, and those of the other blocks
+  pub rising : List (ℕ × ℕ)
+  pub others : List (Entry ℕ)
+  -- how many more can be kept without allocating
+  pub room : ℕ
+
 -- the start that is kept for a block
-abbrev pub start_in : ℕ → List (Entry ℕ) → Option ℕ
-start_in block starts = option_map (λ e. e.value) (at_key block starts)
+abbrev pub start_in : StartsState → ℕ → Option ℕ
+start_in s block = option_or (option_map (λ e. e.1) (find (λ e. e.0 == block) s.rising)) (option_map (λ e. e.value) (at_key block s.others))
+
+-- no block is kept in both
+abbrev pub AreStartsApart : List (ℕ × ℕ) → List (Entry ℕ) → Type 0
+AreStartsApart rising others = AllByRecursion (λ (e : ℕ × ℕ). at_key e.0 others ≡ None) rising
 
 -- the start of the range that is mapped to a block
 abbrev pub start_at : ℕ → List Range → Option ℕ
 start_at block ranges = option_map (λ r. r.section.start) (range_of block ranges)
 
 -- the ranges are mapped, each by its start, and the start of each block's range is kept
-pub record IsIndexed (entries : List (Entry Range)) (starts : List (Entry ℕ)) : Type 0 where
+pub record IsIndexed (entries : List (Entry Range)) (starts : ℕ → Option ℕ) : Type 0 where
   pub mapped : AreMapped (ranges_in entries)
   pub keyed : AllByRecursion IsKeyed entries
-  pub agrees : (block : ℕ) → start_in block starts ≡ start_at block (ranges_in entries)
+  pub agrees : (block : ℕ) → starts block ≡ start_at block (ranges_in entries)
 
 -- ---- a search
 

@@ -6,6 +6,7 @@ mod copying;
 mod presence;
 mod ranges;
 mod register;
+mod starts;
 
 pub use presence::Present;
 pub use register::OpenRegion;

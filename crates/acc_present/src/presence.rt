@@ -13,6 +13,7 @@ ghost use Rattle.acc_present.specs.Kept.{IsNext, IsChangeable, changed_by};
 
 use crate::ranges::{Change, Recount, changed, told_by, value_of};
 use crate::register::{OpenRegion, Register};
+use crate::starts::Starts;
 use acc_base::{Counter, Counters, Fault, Found, Holding, Range, Section, Steps};
 use acc_ordered::{Entry, Found as InTree, Tree};
 use std::alloc::Global;
@@ -24,14 +25,15 @@ use std::marker::Model;
 /// Contracts see the table, and the room that was made for more beside it. A refused call leaves the table as it was.
 /// Only `new`, `add`, `enter` and `reserve` allocate for it, and `copy_ranges` and `copy_regions` for their results.
 ///
-/// The ranges stand in a [`Tree`] by rising start, and the start of each block's range in one by rising block number.
+/// The ranges stand in a [`Tree`] by rising start. The start of each block's range is kept beside it, and found mostly
+/// without a search.
 #[derive(Drop)]
 pub struct Present {
     counter_max: u64,
     // By start.
     ranges: Tree<Range>,
     // By block.
-    starts: Tree<u64>,
+    starts: Starts,
     register: Register,
 }
 
@@ -39,7 +41,7 @@ impl Model for Present {
     ghost use Rattle.std.specs.Prelude.{◌^◌, ◌<◌, min};
     ghost use Rattle.std.specs.List.{AllByRecursion};
     ghost use Rattle.acc_present.specs.Present.{PresentState, IsWithinLimit};
-    ghost use Rattle.acc_present.specs.Kept.{ranges_in, IsIndexed};
+    ghost use Rattle.acc_present.specs.Kept.{ranges_in, start_in, IsIndexed};
 
     ghost Value = { PresentState };
 
@@ -48,7 +50,7 @@ impl Model for Present {
       room = record { ranges = min p.ranges.room p.starts.room; regions = p.register.room; holdings = p.register.holdings };
     } };
 
-    ghost invariant = { λ p. (p.counter_max < 2 ^ 32) × AllByRecursion (IsWithinLimit p.counter_max) (ranges_in p.ranges.entries) × IsIndexed p.ranges.entries p.starts.entries };
+    ghost invariant = { λ p. (p.counter_max < 2 ^ 32) × AllByRecursion (IsWithinLimit p.counter_max) (ranges_in p.ranges.entries) × IsIndexed p.ranges.entries (start_in p.starts) };
 }
 
 /// The range that was found, if one was.
@@ -92,7 +94,7 @@ impl Present {
         Present {
             counter_max,
             ranges: Tree::new(alloc, blank),
-            starts: Tree::new(alloc, 0),
+            starts: Starts::new(alloc),
             register: Register::new(alloc),
         }
     }
@@ -208,8 +210,15 @@ impl Present {
     pub fn range(&self, block: u64) -> Option<Range>
         ensures { result ≡ range_of block self.now.table.ranges }
     {
-        let start = self.starts.get(block)?.value;
-        range_if(self.ranges.get(*start))
+        let start = self.starts.get(block)?;
+        range_if(self.ranges.get(start))
+    }
+
+    /// The host address at which the range begins that is mapped to a block, if one is. It is found mostly without a search.
+    pub fn start(&self, block: u64) -> Option<u64>
+        ensures { result ≡ option_map (λ r. r.section.start) (range_of block self.now.table.ranges) }
+    {
+        self.starts.get(block)
     }
 
     /// The range that is mapped to a block, if one is, as [`Present::range`] returns it. It is found by one search where
@@ -221,18 +230,6 @@ impl Present {
             Some(range) if range.block == block => Some(range),
             Some(_) | None => self.range(block),
         }
-    }
-
-    /// The range that is mapped to a block, which is looked for near an address first. One is.
-    fn mapped_near(&self, block: u64, at: u64) -> Range
-        requires { HasRange self.now.table block }
-        ensures range { range_of block self.now.table.ranges ≡ Some result }
-        ensures block { result.block ≡ block }
-    {
-        let Some(range) = self.range_near(block, at) else {
-            unreachable!()
-        };
-        range
     }
 
     /// The range that is mapped to a block. One is.
@@ -325,10 +322,7 @@ impl Present {
             key: start,
             value: range,
         });
-        self.starts.insert(Entry {
-            key: range.block,
-            value: start,
-        });
+        self.starts.insert(range.block, start);
     }
 
     /// Ends the mapping to a block. A range is mapped to it, and both counters of the range are 0.
@@ -339,27 +333,21 @@ impl Present {
         ensures table { self.new.table ≡ with_ranges self.old.table (without_range block self.old.table.ranges) }
         ensures room { IsRoomKept self.old.room self.new.room }
     {
-        self.take_out(self.mapped(block));
+        self.end_mapping(block);
     }
 
-    /// Ends the mapping to a block, whatever its counters are. A range is mapped to it. It is looked for near the address
-    /// `at` first, as by [`Present::range_near`].
-    pub fn end_near(&mut self, block: u64, at: u64)
+    /// Ends the mapping to a block, whatever the counters of its range are. A range is mapped to it. No search finds that
+    /// range first.
+    pub fn end_mapping(&mut self, block: u64)
         requires there { HasRange self.old.table block }
         ensures table { self.new.table ≡ with_ranges self.old.table (without_range block self.old.table.ranges) }
         ensures room { IsRoomKept self.old.room self.new.room }
     {
-        self.take_out(self.mapped_near(block, at));
-    }
-
-    /// Takes a range out of those that are mapped.
-    fn take_out(&mut self, range: Range)
-        requires there { range_of range.block self.old.table.ranges ≡ Some range }
-        ensures table { self.new.table ≡ with_ranges self.old.table (without_range range.block self.old.table.ranges) }
-        ensures room { IsRoomKept self.old.room self.new.room }
-    {
-        self.ranges.remove(range.section.start);
-        self.starts.remove(range.block);
+        let Some(start) = self.starts.get(block) else {
+            unreachable!()
+        };
+        self.ranges.remove(start);
+        self.starts.remove(block);
     }
 
     // ---- reference counters
@@ -454,7 +442,7 @@ impl Present {
     }
 
     /// Changes a counter of the range that is mapped to a block, if that is the last one that begins at or before the
-    /// address `at`, and a counter that rises is below the limit. It answers whether that is so. It is one search.
+    /// address `at`. A counter that rises has to be below the limit. It answers whether it changed one, by one search.
     #[inline]
     fn change_near(&mut self, change: Change, block: u64, at: u64) -> bool
         ensures changed { OnTrue result (self.new.table ≡ with_ranges self.old.table (changed_at block (changed_by change) self.old.table.ranges)) }

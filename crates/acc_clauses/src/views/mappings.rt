@@ -38,7 +38,7 @@ impl View<'_> {
         self.environment.present.range(block)
     }
 
-    /// The range that is mapped to a block, if one is, which lies near an address.
+    /// The range that is mapped to a block, if one is. An address says where it is looked for first.
     pub(crate) fn range_near(&self, block: u64, at: u64) -> Option<Range>
         ensures { result ≡ range_of block self.now.state.records.ranges }
     {
@@ -94,9 +94,6 @@ impl View<'_> {
     pub(crate) fn start(&self, block: u64) -> u64
         ensures { result ≡ start_of block self.now.state.records.ranges }
     {
-        match self.range(block) {
-            Some(range) => range.section.start,
-            None => 0,
-        }
+        self.environment.present.start(block).unwrap_or(0)
     }
 }

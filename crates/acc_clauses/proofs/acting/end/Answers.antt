@@ -5,8 +5,8 @@ use Rattle.acc_clauses.proofs.Ending.{loans_kept, range_there, end_there, end_ma
 use Rattle.acc_clauses.proofs.acting.end.Goals as goal
 use Rattle.std.proofs.lemmas.Bool.{false≢true}
 
-pub end_near-requires : goal.end_near-requires
-end_near-requires c = record { there = is_some _ _ (range_there c.args.task c.args.block _ (beside c.args.environment.now c.args.host.now) (beside c.give_bytes.new.environment c.give_bytes.new.host) c.requires.can c.give_bytes.ensures.given) }
+pub end_mapping-requires : goal.end_mapping-requires
+end_mapping-requires c = record { there = is_some _ _ (range_there c.args.task c.args.block _ (beside c.args.environment.now c.args.host.now) (beside c.give_bytes.new.environment c.give_bytes.new.host) c.requires.can c.give_bytes.ensures.given) }
 
 pub retire-requires-clause-there : goal.retire-requires-clause-there
 retire-requires-clause-there c = end_there c.args.task c.args.block _ (beside c.args.environment.now c.args.host.now) (beside c.give_bytes.new.environment c.give_bytes.new.host) c.requires.can c.give_bytes.ensures.given
@@ -21,8 +21,8 @@ returns-then-retire c =
     let given = c.give_bytes.ensures.given in
     let mark = end_mark c.args.task c.args.block _ x y c.requires.can given c.laws.ensures.marks in
     record {
-      acted = ended_acts c.args.task c.args.block x y _ given (gone_changes c.args.block y c.end_near.new.self c.retire.new.self c.forget.new.self given.marked c.laws.ensures.memories mark
-          c.end_near.ensures.table c.end_near.ensures.room (c.retire.ensures.given_back.0 c.if-retire.true) c.if-retire.ensures.retired c.forget.ensures.attached c.forget.ensures.counter_max c.forget.ensures.spare);
+      acted = ended_acts c.args.task c.args.block x y _ given (gone_changes c.args.block y c.end_mapping.new.self c.retire.new.self c.forget.new.self given.marked c.laws.ensures.memories mark
+          c.end_mapping.ensures.table c.end_mapping.ensures.room (c.retire.ensures.given_back.0 c.if-retire.true) c.if-retire.ensures.retired c.forget.ensures.attached c.forget.ensures.counter_max c.forget.ensures.spare);
     }
 
 pub returns-else-retire : goal.returns-else-retire
@@ -32,8 +32,8 @@ returns-else-retire c =
     let given = c.give_bytes.ensures.given in
     let mark = end_mark c.args.task c.args.block _ x y c.requires.can given c.laws.ensures.marks in
     record {
-      acted = ended_acts c.args.task c.args.block x y _ given (kept_changes c.args.block y c.end_near.new.self c.retire.new.self given.marked mark
-          c.end_near.ensures.table c.end_near.ensures.room (λ none. false≢true (sym c.if-retire.false ∙ c.retire.ensures.given_back.1 none)) c.if-retire.ensures.kept);
+      acted = ended_acts c.args.task c.args.block x y _ given (kept_changes c.args.block y c.end_mapping.new.self c.retire.new.self given.marked mark
+          c.end_mapping.ensures.table c.end_mapping.ensures.room (λ none. false≢true (sym c.if-retire.false ∙ c.retire.ensures.given_back.1 none)) c.if-retire.ensures.kept);
     }
 
 pub retire-requires-clause-free : goal.retire-requires-clause-free

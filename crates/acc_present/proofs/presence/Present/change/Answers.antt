@@ -3,7 +3,7 @@ use Rattle.std.specs.List.{AllByRecursion}
 use Rattle.acc_base.specs.declared.mappings.Range.{Range}
 use Rattle.acc_base.specs.Ranges.{range_of, changed_at}
 use Rattle.acc_present.specs.Present.{PresentState, IsWithinLimit, with_ranges}
-use Rattle.acc_present.specs.Kept.{ranges_in, changed_by, IsChangeable}
+use Rattle.acc_present.specs.Kept.{start_in, ranges_in, changed_by, IsChangeable}
 use Rattle.acc_present.proofs.Limits.{changed_within, changed_keeps}
 use Rattle.acc_present.proofs.Mapping.{IsChangedNow, key_there, written_now}
 use Rattle.acc_present.proofs.presence.Present.change.Goals as goal
@@ -14,8 +14,8 @@ set-requires c = record { there = key_there c.args.range.block c.self.inside.ran
 there : (c : goal.After-set) → range_of c.args.range.block (ranges_in c.self.inside.ranges.entries) ≡ Some c.args.range
 there c = subst (λ (rs : List Range). range_of c.args.range.block rs ≡ Some c.args.range) (sym (ap (λ (p : PresentState). p.table.ranges) c.self.view_is)) c.requires.there
 
-now : (c : goal.After-set) → IsChangedNow c.args.range.block (changed_by c.args.change) c.self.inside.ranges.entries c.set.new.self.entries c.self.inside.starts.entries
-now c = written_now c.args.range.block (changed_by c.args.change) c.self.inside.ranges.entries c.set.new.self.entries c.self.inside.starts.entries c.args.range c.changed.result (changed_keeps c.args.change) c.self.invariant.2 (there c) c.changed.ensures c.set.ensures.entries
+now : (c : goal.After-set) → IsChangedNow c.args.range.block (changed_by c.args.change) c.self.inside.ranges.entries c.set.new.self.entries (start_in c.self.inside.starts)
+now c = written_now c.args.range.block (changed_by c.args.change) c.self.inside.ranges.entries c.set.new.self.entries (start_in c.self.inside.starts) c.args.range c.changed.result (changed_keeps c.args.change) c.self.invariant.2 (there c) c.changed.ensures c.set.ensures.entries
 
 pub invariant_of-self : goal.invariant_of-self
 invariant_of-self c =

@@ -6,7 +6,7 @@ use Rattle.acc_base.specs.Ranges.{where_is, range_of, with_range}
 use Rattle.acc_base.proofs.RangeChanges.{all_with}
 use Rattle.acc_ordered.specs.declared.entries.Entry.{Entry}
 use Rattle.acc_present.specs.Present.{PresentState, IsWithinLimit, with_ranges}
-use Rattle.acc_present.specs.Kept.{ranges_in}
+use Rattle.acc_present.specs.Kept.{start_in, ranges_in}
 use Rattle.acc_present.proofs.Mapping.{absent_start, with_entry-ranges, mapped_now}
 use Rattle.acc_present.proofs.presence.Present.put.Goals as goal
 
@@ -24,9 +24,9 @@ invariant_of-self c =
     let new : Entry Range = record { key = c.args.range.section.start; value = c.args.range } in (
       c.self.invariant.0,
       subst (λ (rs : List Range). AllByRecursion (IsWithinLimit most) rs) (sym (ranges c)) (all_with (IsWithinLimit most) c.args.range (ranges_in es) (subst (λ (n : ℕ). IsWithinLimit n c.args.range) (sym (ap (λ (p : PresentState). p.table.counter_max) c.self.view_is)) c.requires.within) c.self.invariant.1),
-      rw (c.insert.ensures.entries, c.insert-2.ensures.entries) (mapped_now new (record { key = c.args.range.block; value = c.args.range.section.start }) es c.self.inside.starts.entries c.self.invariant.2 (record { start = refl; bound = omega arith })
+      rw c.insert.ensures.entries (mapped_now new es (start_in c.self.inside.starts) (start_in c.insert-2.new.self) c.self.invariant.2 (record { start = refl; bound = omega arith })
           (subst (λ (rs : List Range). where_is c.args.range.section rs ≡ Absent) whole c.requires.absent)
-          (subst (λ (rs : List Range). range_of c.args.range.block rs ≡ None) whole c.requires.new) refl refl),
+          (subst (λ (rs : List Range). range_of c.args.range.block rs ≡ None) whole c.requires.new) c.insert-2.ensures.of),
     )
 
 pub returns-clause-table : goal.returns-clause-table

@@ -1,14 +1,14 @@
 use Rattle.std.proofs.Common.{Option, ap, sym, ◌∙◌}
-use Rattle.std.specs.Prelude.{ℕ, option_map}
+use Rattle.std.specs.Prelude.{option_map}
 use Rattle.acc_base.specs.declared.mappings.Range.{Range}
 use Rattle.acc_base.specs.Ranges.{range_of}
 use Rattle.acc_ordered.specs.declared.entries.Entry.{Entry}
-use Rattle.acc_ordered.specs.Listing.{seen}
 use Rattle.acc_present.specs.Present.{PresentState}
+use Rattle.acc_present.specs.Kept.{start_in}
 use Rattle.acc_present.proofs.Mapping.{range_at}
 use Rattle.acc_present.proofs.presence.Present.range.Goals as goal
 
 pub returns : goal.returns
 returns c =
-    let given = ap (option_map (λ (e : Entry ℕ). e.value)) (sym c.get.ensures ∙ ap seen c.in_ok-start.was) in
-    c.range_if.ensures ∙ ap (λ (o : Option (Entry Range)). option_map (λ (e : Entry Range). e.value) o) c.get-2.ensures ∙ range_at c.args.block c.in_ok-start.field-0.value.now c.self.inside.ranges.entries c.self.inside.starts.entries c.self.invariant.2 given ∙ ap (λ (p : PresentState). range_of c.args.block p.table.ranges) c.self.view_is
+    let given = sym c.get.ensures ∙ c.in_ok-start.was in
+    c.range_if.ensures ∙ ap (λ (o : Option (Entry Range)). option_map (λ (e : Entry Range). e.value) o) c.get-2.ensures ∙ range_at c.args.block c.in_ok-start.start c.self.inside.ranges.entries (start_in c.self.inside.starts) c.self.invariant.2 given ∙ ap (λ (p : PresentState). range_of c.args.block p.table.ranges) c.self.view_is

@@ -1,4 +1,4 @@
-use Rattle.std.proofs.Common.{◌≡◌, Some, sym, ap, ◌∙◌}
+use Rattle.std.proofs.Common.{sym, ap, ◌∙◌}
 use Rattle.acc_base.specs.Ranges.{range_of}
 use Rattle.acc_ordered.specs.Listing.{seen}
 use Rattle.acc_present.specs.Present.{PresentState}

@@ -1,8 +1,0 @@
-use Rattle.std.proofs.Common.{subst}
-use Rattle.acc_dev.specs.Kept.{IsIndexRising}
-use Rattle.acc_dev.specs.Indexed.{IndexState}
-use Rattle.acc_dev.proofs.Indexing.{entries_rise}
-use Rattle.acc_dev.proofs.index.Index.laws.Goals as goal
-
-pub returns : goal.returns
-returns c = subst (λ (i : IndexState). IsIndexRising i.entries) c.self.view_is (entries_rise c.self.inside.items.items c.self.invariant.0)

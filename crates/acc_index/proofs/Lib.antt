@@ -1,0 +1,2 @@
+pub mod Rising
+pub mod Indexing

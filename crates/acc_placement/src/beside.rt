@@ -1,5 +1,6 @@
 //! Places outside of listed ranges.
 
+ghost use Rattle.std.specs.Bool.{OnTrue};
 ghost use Rattle.std.specs.Prelude.{◌≡◌, ℕ, ◌%◌, ◌^◌, ◌≤◌, All};
 ghost use Rattle.acc_base.specs.Limits.{IsFromOne};
 ghost use Rattle.acc_placement.specs.Ranges.{IsTakeBelow};
@@ -22,33 +23,40 @@ pub fn past(listed: &[(u64, u64)], from: u64, size: u64, top: u64) -> u64
 {
     let mut at = from;
     loop {
-        let next = moved_on(listed, at, size, top);
-        if next == at {
-            return at;
+        let (next, is_outside) = moved_on(listed, at, size, top);
+        if is_outside || next == at {
+            return next;
         }
         at = next;
     }
 }
 
-/// Where one walk along the listed ranges ends. It begins at `from`, and goes on behind each range that has one of the
-/// `size` addresses there. It stays only where all `size` addresses are outside of them.
-fn moved_on(listed: &[(u64, u64)], from: u64, size: u64, top: u64) -> u64
+/// Where one walk along the listed ranges ends, and whether all of them end there or before it. The walk begins at `from`,
+/// and goes on behind each range that has one of the `size` addresses there. It stays only where all `size` addresses are
+/// outside of them. Ranges that rise from place to place are all passed by one walk.
+fn moved_on(listed: &[(u64, u64)], from: u64, size: u64, top: u64) -> (u64, bool)
     requires top_limit { top ≤ 2 ^ 41 }
     requires from_limit { from ≤ top }
     requires size_limit { IsFromOne MEMORY_MAX size }
     requires listed { All (IsTakeBelow top) listed.now }
-    ensures not_before { from ≤ result }
-    ensures limit { result ≤ top }
-    ensures stays { result ≡ from → IsBeside listed.now size from }
-    ensures least { (q : ℕ) → from ≤ q → IsBeside listed.now size q → result ≤ q }
-    ensures aligned { All (λ t. t.0 % 16 ≡ 0) listed.now → from % 16 ≡ 0 → result % 16 ≡ 0 }
+    ensures not_before { from ≤ result.0 }
+    ensures limit { result.0 ≤ top }
+    ensures stays { result.0 ≡ from → IsBeside listed.now size from }
+    ensures outside { OnTrue result.1 (IsBeside listed.now size result.0) }
+    ensures least { (q : ℕ) → from ≤ q → IsBeside listed.now size q → result.0 ≤ q }
+    ensures aligned { All (λ t. t.0 % 16 ≡ 0) listed.now → from % 16 ≡ 0 → result.0 % 16 ≡ 0 }
 {
     let mut at = from;
+    let mut all_behind = true;
     for &(start, length) in listed {
         let end = start + rounded(length);
-        if start < at + size && at < end {
-            at = end;
+        if at < end {
+            if start < at + size {
+                at = end;
+            } else {
+                all_behind = false;
+            }
         }
     }
-    at
+    (at, all_behind)
 }

@@ -12,7 +12,7 @@ ghost use Rattle.acc_clauses.specs.Copies.{IsRunEnd};
 
 use crate::environments::Environment;
 use crate::sections::POINTER_LEN;
-use acc_attach::Attached;
+use acc_attach::{Attached, Place};
 use acc_base::Section;
 use acc_dev::Device;
 use acc_host::HostMem;
@@ -58,15 +58,18 @@ pub(crate) fn start_of(present: &Present, block: u64) -> u64
 }
 
 /// The end of the run of bytes, from the host address `at` on, that are of no attached pointer of the block. It is
-/// `end`, or where the next attached pointer begins, which may be up to seven bytes below `at`.
-fn run_end(attached: &Attached, block: u64, at: u64, end: u64) -> u64
+/// `end`, or where the next attached pointer begins, which may be up to seven bytes below `at`. That pointer is looked
+/// for first near a place, and its own place is answered too.
+fn run_end(attached: &Attached, block: u64, at: u64, end: u64, near: Place) -> (u64, Place)
     requires { at < end }
-    ensures { IsRunEnd block attached.now.attached at end result }
+    ensures { IsRunEnd block attached.now.attached at end result.0 }
 {
     attached.laws();
-    match attached.next_pointer(block, at.saturating_sub(POINTER_LEN - 1)) {
-        Some(pointer) => pointer.min(end),
-        None => end,
+    let from = at.saturating_sub(POINTER_LEN - 1);
+    let (pointer, place) = attached.next_pointer_near(block, from, near);
+    match pointer {
+        Some(pointer) => (pointer.min(end), place),
+        None => (end, place),
     }
 }
 
@@ -95,10 +98,12 @@ pub(crate) fn copy_out(
 {
     let end = section.start + section.len;
     let mut at = section.start;
+    let mut near = Place::default();
     while at < end {
-        let stop = run_end(&environment.attached, block, at, end);
+        let (stop, place) = run_end(&environment.attached, block, at, end, near);
         run_out(&environment.device, host, run_from(at, stop), block, start);
         at = stop + POINTER_LEN;
+        near = place;
     }
 }
 
@@ -116,8 +121,9 @@ pub(crate) fn copy_in(
 {
     let end = section.start + section.len;
     let mut at = section.start;
+    let mut near = Place::default();
     while at < end {
-        let stop = run_end(&environment.attached, block, at, end);
+        let (stop, place) = run_end(&environment.attached, block, at, end, near);
         run_in(
             &mut environment.device,
             host,
@@ -126,5 +132,6 @@ pub(crate) fn copy_in(
             start,
         );
         at = stop + POINTER_LEN;
+        near = place;
     }
 }

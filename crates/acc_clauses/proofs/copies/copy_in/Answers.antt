@@ -17,11 +17,11 @@ run_in-requires-clause-within c = grind (arith, in_run, in_within)
 pub loop-at-preserved : goal.loop-at-preserved
 loop-at-preserved c =
     let i = c.loop-at.invariant in
-    let run = in_run c.args.section c.run_from.result c.args.block c.args.start c.loop-at.at c.run_end-stop.result c.args.host.now c.args.environment.now c.loop-at.environment i.swept i.low c.loop-at-test.true c.run_from.ensures.start c.run_from.ensures.len c.run_end-stop.ensures in
+    let run = in_run c.args.section c.run_from.result c.args.block c.args.start c.loop-at.at c.run_end-stop.result.0 c.args.host.now c.args.environment.now c.loop-at.environment i.swept i.low c.loop-at-test.true c.run_from.ensures.start c.run_from.ensures.len c.run_end-stop.ensures in
     record {
       low = omega (arith, i.low, c.run_end-stop.ensures.more);
       most = omega (arith, c.run_end-stop.ensures.most);
-      swept = in_next c.args.section c.run_from.result c.args.block c.args.start c.loop-at.at c.run_end-stop.result c.args.host.now c.args.environment.now c.loop-at.environment c.run_in.new.device i.swept run c.run_in.ensures;
+      swept = in_next c.args.section c.run_from.result c.args.block c.args.start c.loop-at.at c.run_end-stop.result.0 c.args.host.now c.args.environment.now c.loop-at.environment c.run_in.new.device i.swept run c.run_in.ensures;
     }
 
 pub returns : goal.returns

@@ -26,6 +26,8 @@ use Rattle.acc_clauses.specs.Overlays.{IsPlanned, AreUnmixed, tasks_in, dids_in,
 use Rattle.acc_clauses.proofs.Overlaid.{or_false, birth_entry, sound-after, counters-after, found-entered, found-left, blocks-after, births-after, first_enters}
 use Rattle.acc_present.proofs.Finding.{apart_from_none}
 use Rattle.acc_clauses.proofs.Legal.{birth_len}
+use Rattle.acc_clauses.specs.Spans.{AreSpans}
+use Rattle.acc_clauses.proofs.Spanned.{place-spanned}
 
 -- ---- where a section lies
 
@@ -93,13 +95,16 @@ takes : (l : Limits) (n : ℕ) (xs : List Acted) (w : Records) → IsWithinBound
 takes l n [] w bounds judged = tt
 takes l n (x ∷ xs) w bounds judged = grind (arith, nat_tests, takes l (suc n) xs (act x.task x.did w) bounds judged.2, birth_entry, birth_len, place_below, task_says l n x.task w x.did.step judged.0)
 
--- each block that the tasks give birth to ends on the device
-pub takes-planned : (l : Limits) (xs : List Acted) (w : Records) → IsPlanned l xs w → All (IsTakeBelow (end_of (device_memory l))) (births_of xs)
-takes-planned l xs w p = All-from_recursion (IsTakeBelow (end_of (device_memory l))) (births_of xs) (takes l 0 xs w p.bounds p.judged)
+-- each block that the tasks give birth to ends on the device, and so do the spans of them
+pub takes-planned : (l : Limits) (xs : List Acted) (w : Records) (spans : List (ℕ × ℕ)) → IsPlanned l xs w → AreSpans (births_of xs) spans → All (IsTakeBelow (end_of (device_memory l))) spans
+takes-planned l xs w spans p are = All-from_recursion (IsTakeBelow (end_of (device_memory l))) spans (are.below (end_of (device_memory l)) (takes l 0 xs w p.bounds p.judged))
 
-pub place-planned : (l : Limits) (xs : List Acted) (w : Records) (size : ℕ) → IsPlanned l xs w → list_all enters (tasks_in xs) ≡ true
-    → place_for (device_memory l) (w.blocks ++ planned_blocks (w.births + 1) (births_of xs)) size ≡ place_for (device_memory l) (records_after xs w).blocks size
-place-planned l xs w size p none = ap (λ bs. place_for (device_memory l) bs size) (sym (blocks-after l 0 xs w p.judged none))
+-- and leave the place that the blocks leave
+pub place-planned : (l : Limits) (xs : List Acted) (w : Records) (spans : List (ℕ × ℕ)) (size : ℕ) → 0 < size → IsPlanned l xs w → list_all enters (tasks_in xs) ≡ true → AreSpans (births_of xs) spans
+    → place_for (device_memory l) (w.blocks ++ planned_blocks (w.births + 1) spans) size ≡ place_for (device_memory l) (records_after xs w).blocks size
+place-planned l xs w spans size some p none are =
+    place-spanned (device_memory l) w.blocks (w.births + 1) size (end_of (device_memory l)) (births_of xs) spans some are (takes l 0 xs w p.bounds p.judged)
+    ∙ ap (λ bs. place_for (device_memory l) bs size) (sym (blocks-after l 0 xs w p.judged none))
 
 pub births-planned : (l : Limits) (xs : List Acted) (w : Records) → IsPlanned l xs w → list_all enters (tasks_in xs) ≡ true → (records_after xs w).births ≡ w.births + length (births_of xs)
 births-planned l xs w p none = births-after l 0 xs w p.judged none

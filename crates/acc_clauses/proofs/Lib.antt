@@ -2,6 +2,7 @@ pub mod Founds
 pub mod Overlaid
 pub mod QueuesAfter
 pub mod Laws
+pub mod Spanned
 pub mod Drafted
 pub mod Outlining
 pub mod Turns

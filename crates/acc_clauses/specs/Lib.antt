@@ -1,5 +1,6 @@
 pub mod Words
 pub mod Contents
+pub mod Spans
 pub mod Overlays
 pub mod Outlined
 pub mod Planned

@@ -18,6 +18,7 @@ use Rattle.acc_base.specs.Steps.{act_all}
 use Rattle.acc_base.specs.History.{AreJudged}
 use Rattle.acc_base.specs.Accounts.{AreRecordsSound}
 use Rattle.acc_clauses.specs.declared.acted.Acted.{Acted}
+use Rattle.acc_clauses.specs.Spans.{AreSpans}
 
 -- ---- the tasks of a plan, and what they do
 
@@ -82,9 +83,11 @@ abbrev pub ended_of : List Acted → List ℕ
 ended_of [] = []
 ended_of (x ∷ xs) = end_by x.did.step ++ ended_of xs
 
--- what a draft notes beside its tasks: the births and the ends among them
-pub record IsDraft (xs : List Acted) (births : List (ℕ × ℕ)) (ended : List ℕ) : Type 0 where
-  pub births_are : births ≡ births_of xs
+-- what a draft notes beside its tasks: how many births there are among them, the spans that those take, and the ends
+pub record IsDraft (xs : List Acted) (births : ℕ) (spans : List (ℕ × ℕ)) (ended : List ℕ) : Type 0 where
+  pub births_are : births ≡ length (births_of xs)
+  pub spans_are : AreSpans (births_of xs) spans
+  pub few_spans : length spans ≤ births
   pub ended_are : ended ≡ ended_of xs
   pub few : length xs ≤ 64
 

@@ -3,12 +3,14 @@
 ghost use Rattle.std.specs.Prelude.{List, [], ◌∷◌, ◌++◌, ◌≡◌, ◌<◌, ◌≤◌, length, true};
 ghost use Rattle.acc_clauses.specs.Words.{Counters, Found};
 ghost use Rattle.acc_clauses.specs.Overlays.{IsDraft, births_of, ended_of, with_aim, found_over, counters_over};
+ghost use Rattle.acc_clauses.specs.Spans.{AreSpans};
 ghost use Rattle.acc_clauses.specs.declared.acted.Acted.{Acted};
 
 use crate::acted::Acted;
 use crate::outlines::Outline;
 use crate::rows::section_of;
 use crate::slates::Slate;
+use crate::spans::add_birth;
 use acc_base::{Aim, Did, Section, Step};
 use std::marker::Model;
 
@@ -16,8 +18,10 @@ use std::marker::Model;
 #[derive(Drop)]
 pub(crate) struct Draft {
     acts: Slate<Acted>,
-    // The place and the length of each block that they give birth to.
-    births: Slate<(u64, u64)>,
+    // How many blocks they give birth to.
+    births: u64,
+    // The addresses that those take.
+    spans: Slate<(u64, u64)>,
     // The blocks whose mappings they end.
     ended: Slate<u64>,
     // What look-ups see of them at a glance.
@@ -34,18 +38,27 @@ impl Model for Draft {
 
     ghost view = { λ d. d.acts };
 
-    ghost invariant = { λ d. IsDraft d.acts d.births d.ended × IsOutlined d.acts d.outline };
+    ghost invariant = { λ d. IsDraft d.acts d.births d.spans d.ended × IsOutlined d.acts d.outline };
 }
 
 // Notes the birth or the end that the task makes, after these tasks.
 #[tactic(auto, using(crate::proofs::Drafted::tally_laws))]
-fn tally(births: &mut Slate<(u64, u64)>, ended: &mut Slate<u64>, x: Acted, acts: &[Acted])
-    requires draft { IsDraft acts.now births.old ended.old }
+fn tally(
+    births: &mut u64,
+    spans: &mut Slate<(u64, u64)>,
+    ended: &mut Slate<u64>,
+    x: Acted,
+    acts: &[Acted],
+)
+    requires draft { IsDraft acts.now births.old spans.old ended.old }
     requires few { length acts.now < 64 }
-    ensures { IsDraft (acts.now ++ x ∷ []) births.new ended.new }
+    ensures { IsDraft (acts.now ++ x ∷ []) births.new spans.new ended.new }
 {
     match x.did.step {
-        Step::Born { place, .. } => births.push((place, section_of(x.task).len)),
+        Step::Born { place, .. } => {
+            *births += 1;
+            add_birth(spans, (place, section_of(x.task).len));
+        }
         Step::Dropped { block, ended: over } => {
             if over {
                 ended.push(block);
@@ -64,7 +77,8 @@ impl Draft {
     {
         Draft {
             acts: Slate::new(),
-            births: Slate::new(),
+            births: 0,
+            spans: Slate::new(),
             ended: Slate::new(),
             outline: Outline::new(),
         }
@@ -75,7 +89,8 @@ impl Draft {
         ensures { self.new ≡ [] }
     {
         self.acts.clear();
-        self.births.clear();
+        self.births = 0;
+        self.spans.clear();
         self.ended.clear();
         self.outline = Outline::new();
     }
@@ -85,7 +100,13 @@ impl Draft {
         requires { length self.old < 64 }
         ensures { self.new ≡ self.old ++ x ∷ [] }
     {
-        tally(&mut self.births, &mut self.ended, x, self.acts.as_slice());
+        tally(
+            &mut self.births,
+            &mut self.spans,
+            &mut self.ended,
+            x,
+            self.acts.as_slice(),
+        );
         self.outline.add(&x);
         self.acts.push(x);
     }
@@ -111,12 +132,19 @@ impl Draft {
         self.acts.as_slice()
     }
 
-    /// The place and the length of each block that they give birth to.
-    pub(crate) fn births(&self) -> &[(u64, u64)]
-        ensures value { result.now ≡ births_of self.now }
-        ensures few { length result.now ≤ 64 }
+    /// How many blocks they give birth to.
+    pub(crate) fn births(&self) -> u64
+        ensures value { result ≡ length (births_of self.now) }
+        ensures few { result ≤ 64 }
     {
-        self.births.as_slice()
+        self.births
+    }
+
+    /// The addresses that those take: the place and the length of each span.
+    pub(crate) fn spans(&self) -> &[(u64, u64)]
+        ensures { AreSpans (births_of self.now) result.now }
+    {
+        self.spans.as_slice()
     }
 
     /// The blocks whose mappings they end.

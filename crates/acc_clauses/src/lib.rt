@@ -30,6 +30,7 @@ mod rows;
 mod running;
 mod sections;
 mod slates;
+mod spans;
 mod spares;
 mod stores;
 mod targets;

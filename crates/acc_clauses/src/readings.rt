@@ -99,7 +99,7 @@ pub(crate) fn place_after(view: &View<'_>, draft: &Draft, len: u64) -> Option<u6
     requires len { IsFromOne MEMORY_MAX len }
     ensures { result ≡ place_for (device_memory view.now.limits) (records_after draft.now view.now.state.records).blocks (rounded len) }
 {
-    view.would_take(draft.births(), len)
+    view.would_take(draft.spans(), len)
 }
 
 /// The number of the next block after the tasks, which all enter.
@@ -110,7 +110,7 @@ pub(crate) fn number_after(view: &View<'_>, draft: &Draft) -> u64
     requires births { view.now.state.records.births < 2 ^ 48 }
     ensures { result ≡ (records_after draft.now view.now.state.records).births + 1 }
 {
-    view.next_block() + draft.births().len() as u64
+    view.next_block() + draft.births()
 }
 
 /// How many transfers wait in a queue after the tasks.

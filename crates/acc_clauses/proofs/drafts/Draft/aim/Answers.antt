@@ -7,4 +7,4 @@ use Rattle.acc_clauses.proofs.drafts.Draft.aim.Goals as goal
 pub invariant_of-self : goal.invariant_of-self
 invariant_of-self c =
     let was = c.pop.ensures.items ∙ ap (λ o. c.pop.new.self ++ option_to_list o) c.in-Some.is in
-    rw c.push.ensures.items (drafted_aimed c.pop.new.self c.in-Some.x c.args.aim _ _ (rw was at c.self.invariant.0), outlined_aimed c.pop.new.self c.in-Some.x c.args.aim _ (rw was at c.self.invariant.1))
+    rw c.push.ensures.items (drafted_aimed c.pop.new.self c.in-Some.x c.args.aim _ _ _ (rw was at c.self.invariant.0), outlined_aimed c.pop.new.self c.in-Some.x c.args.aim _ (rw was at c.self.invariant.1))

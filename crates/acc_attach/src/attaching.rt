@@ -1,6 +1,6 @@
 //! The attachment counters as one value.
 
-ghost use Rattle.std.specs.Prelude.{◌≡◌, ◌+◌, ◌^◌, ◌<◌, ◌≤◌, ◌↔◌, [], true, false, Ok, Err, IsOk, IfOk, OnOk, OnErr, IfErr, ◌⊎◌};
+ghost use Rattle.std.specs.Prelude.{◌≡◌, ◌+◌, ◌^◌, ◌<◌, ◌≤◌, ◌↔◌, IsTrue, [], true, false, Ok, Err, IsOk, IfOk, OnOk, OnErr, IfErr, ◌⊎◌};
 ghost use Rattle.acc_base.specs.Attachments.{count_at, with_count, attach, detach, attached_by, without_attachments, is_skipped, next_pointer};
 ghost use Rattle.acc_attach.specs.Attached.{AreAttached, left_of};
 
@@ -63,6 +63,13 @@ impl Attached {
         ensures { AreAttached self.now.counter_max self.now.attached }
     {
         let _ = &self.counters;
+    }
+
+    /// Whether no pointer is attached.
+    pub fn is_empty(&self) -> bool
+        ensures { IsTrue result ↔ (self.now.attached ≡ []) }
+    {
+        self.counters.is_empty()
     }
 
     /// How often a pointer of a block is attached. `pointer` is its host address.

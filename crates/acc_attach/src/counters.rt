@@ -1,6 +1,6 @@
 //! The counters by rising block and pointer, each found by halves.
 
-ghost use Rattle.std.specs.Prelude.{◌≡◌, ◌+◌, ◌<◌, ◌≤◌, ◌&&◌, ◌==◌, [], find, nat_le, None, IsSome, OnOk, OnErr, IfOk, IfErr};
+ghost use Rattle.std.specs.Prelude.{◌≡◌, ◌+◌, ◌<◌, ◌≤◌, ◌&&◌, ◌==◌, ◌↔◌, IsTrue, [], find, nat_le, None, IsSome, OnOk, OnErr, IfOk, IfErr};
 ghost use Rattle.acc_base.specs.Accounts.{EachPair};
 ghost use Rattle.acc_base.specs.Attachments.{IsBefore, is_of, count_at, with_count, without_attachment, without_attachments, is_skipped, next_pointer};
 ghost use Rattle.acc_tree.specs.Listing.{at_key, first_from};
@@ -124,6 +124,13 @@ impl Counters {
         ensures only { IfErr result (λ fault. fault ≡ Fault.Memory) }
     {
         copy_counters_of(&self.rows, alloc)
+    }
+
+    /// Whether there is no counter.
+    pub fn is_empty(&self) -> bool
+        ensures { IsTrue result ↔ (self.now.counters ≡ []) }
+    {
+        self.rows.is_empty()
     }
 
     /// How often a pointer of a block is attached, and where its counter stands.

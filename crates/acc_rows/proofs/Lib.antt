@@ -5,6 +5,7 @@ pub mod Placing
 pub mod Reading
 pub mod Changing
 pub mod Passing
+pub mod NoRows
 pub mod Starting
 pub mod Answering
 pub mod Joining

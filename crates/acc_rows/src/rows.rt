@@ -1,5 +1,5 @@
 //! A sorted list of entries in rows, each found by its key.
-ghost use Rattle.std.specs.Prelude.{◌≡◌, ℕ, ◌+◌, ◌*◌, ◌^◌, ◌<◌, ◌≤◌, [], length, min, Some, None, IsSome, IfErr, OnOk, OnErr};
+ghost use Rattle.std.specs.Prelude.{◌≡◌, ◌↔◌, IsTrue, ℕ, ◌+◌, ◌*◌, ◌^◌, ◌<◌, ◌≤◌, [], length, min, Some, None, IsSome, IfErr, OnOk, OnErr};
 ghost use Rattle.acc_tree.specs.Listing.{KeysRise, at_key, first_from, last_before, with_entry, without_key, with_value, seen};
 ghost use Rattle.acc_rows.specs.Laid.{side_by_side};
 
@@ -157,6 +157,14 @@ impl<T: Copy> Rows<T> {
         }
     }
 
+    /// Whether there is no entry.
+    #[inline]
+    pub fn is_empty(&self) -> bool
+        ensures { IsTrue result ↔ (self.now.entries ≡ []) }
+    {
+        self.rows.is_empty()
+    }
+
     /// The entry of least key from `key` on.
     #[inline]
     pub fn next(&self, key: u128) -> Option<&Entry<T>>
@@ -171,6 +179,9 @@ impl<T: Copy> Rows<T> {
     pub fn next_near(&self, key: u128, near: Place) -> (Option<&Entry<T>>, Place)
         ensures { seen result.0 ≡ first_from key self.now.entries }
     {
+        if self.is_empty() {
+            return (None, near);
+        }
         let place = find_behind(&self.firsts, &self.rows, key, near);
         let Some(entry) = entry_from(&self.rows, place) else {
             return (None, place);

@@ -107,6 +107,10 @@ impl Table {
         ensures { result ≡ first_attached section (view device self.now.state).records }
     {
         let view = self.on(device)?;
+        // Where nothing is attached, no range need be looked for.
+        if view.has_no_pointer() {
+            return None;
+        }
         match view.find(section) {
             Found::Inside { block, .. } => view.next_attached(block, section),
             Found::Empty | Found::Partly | Found::Absent => None,

@@ -1,6 +1,6 @@
 //! The pointers in host memory and on a device (OpenACC 3.3, section 2.6.8).
 
-ghost use Rattle.std.specs.Prelude.{◌≡◌, ◌^◌, ◌<◌, ◌≤◌, ◌==◌, ◌&&◌, Some, find, true, false};
+ghost use Rattle.std.specs.Prelude.{◌≡◌, ◌^◌, ◌<◌, ◌≤◌, ◌==◌, ◌&&◌, ◌↔◌, IsTrue, [], Some, find, true, false};
 ghost use Rattle.acc_base.specs.Section.{covers, is_within, host_memory};
 ghost use Rattle.acc_base.specs.Loans.{is_lent};
 ghost use Rattle.acc_base.specs.Pointers.{attachment_of, host_pointer, device_pointer};
@@ -38,6 +38,13 @@ impl View<'_> {
         ensures { result ≡ next_pointer block from self.now.state.records.attached }
     {
         self.environment.attached.next_pointer(block, from)
+    }
+
+    /// Whether no pointer is attached on the device.
+    pub fn has_no_pointer(&self) -> bool
+        ensures { IsTrue result ↔ (self.now.state.records.attached ≡ []) }
+    {
+        self.environment.attached.is_empty()
     }
 
     /// The attached pointer of a block that has the least host address in a section, with its counter.

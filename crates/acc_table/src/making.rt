@@ -97,6 +97,15 @@ fn event_told(device: u64, directive: Directive, number: u64, did: List<Did>) ->
     }
 }
 
+/// An event that stands where another will come.
+fn blank_event() -> Event {
+    Event::Stepped {
+        device: 0,
+        queue: 0,
+        block: 0,
+    }
+}
+
 /// The reply to a directive whose event has this number.
 fn reply_told(directive: &Directive, number: u64) -> Reply
     ensures { result ≡ reply_told directive.now number }
@@ -148,8 +157,11 @@ fn commit(
 {
     let number = number_told(store, &directive);
     let reply = reply_told(&directive, number);
+    // A blank event is written first: so its memory comes into the cache while the work is done.
+    let place = trace.len();
+    trace.push_reserved(blank_event());
     store.commit(&directive, plan);
-    trace.push_reserved(event_told(store.number(), directive, number, did));
+    trace[place] = event_told(store.number(), directive, number, did);
     reply
 }
 

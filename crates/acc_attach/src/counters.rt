@@ -1,4 +1,4 @@
-//! The counters by rising block and pointer, each found by halves.
+//! The counters by rising block and pointer, each found by its key.
 
 ghost use Rattle.std.specs.Prelude.{◌≡◌, ◌+◌, ◌<◌, ◌≤◌, ◌&&◌, ◌==◌, ◌↔◌, IsTrue, [], find, nat_le, None, IsSome, OnOk, OnErr, IfOk, IfErr};
 ghost use Rattle.acc_base.specs.Accounts.{EachPair};

@@ -1,5 +1,5 @@
 -- How the present table keeps its ranges and regions. No public clause cites this module.
-use Rattle.std.specs.Prelude.{ℕ, ◌≡◌, ◌^◌, ◌<◌, ◌==◌, ◌&&◌, if◌then◌else◌, Bool, true, List, filter, find, map, nat_lt, nat_le, Option, Some, None, option_map, ⊤}
+use Rattle.std.specs.Prelude.{ℕ, ◌≡◌, ◌^◌, ◌<◌, ◌==◌, ◌&&◌, if◌then◌else◌, Bool, true, false, not, List, [], ◌∷◌, filter, find, map, zero, suc, nat_lt, nat_le, Option, Some, None, option_map, ⊤}
 use Rattle.std.specs.List.{AllByRecursion}
 use Rattle.std.specs.Option.{option_or}
 use Rattle.acc_base.specs.declared.items.Section.{Section}
@@ -12,8 +12,8 @@ use Rattle.acc_ordered.specs.declared.entries.Entry.{Entry}
 use Rattle.acc_ordered.specs.Listing.{at_key}
 use Rattle.acc_present.specs.declared.ranges.Change.{Change}
 use Rattle.acc_present.specs.declared.ranges.Change.TheVariants.{Raise, Lower, Clear}
-use Rattle.acc_present.specs.declared.register.OpenRegion.{OpenRegion}
-use Rattle.acc_present.specs.Present.{AreMapped}
+use Rattle.acc_present.specs.declared.register.Place.{Place}
+use Rattle.acc_present.specs.Present.{AreMapped, region_of}
 
 -- ---- the ranges
 
@@ -101,6 +101,36 @@ pub record RegisterState : Type 0 where
   pub room : ℕ
   pub holdings : ℕ
 
--- the numbers of the regions rise
-abbrev pub AreNumbersRising : List OpenRegion → Type 0
-AreNumbersRising open_regions = EachPair (λ (o : OpenRegion) (p : OpenRegion). o.number < p.number) open_regions
+-- the region of a place
+abbrev pub region_in : Place → Region
+region_in p = region_of p.region
+
+-- the regions that are not gone
+abbrev pub live_regions : List Place → List Region
+live_regions places = map region_in (filter (λ p. not p.gone) places)
+
+-- the numbers of the places rise
+abbrev pub AreNumbersRising : List Place → Type 0
+AreNumbersRising places = EachPair (λ (p : Place) (q : Place). p.region.number < q.region.number) places
+
+-- there is a first place, and it is gone
+abbrev pub begins_gone : List Place → Bool
+begins_gone [] = false
+begins_gone (p ∷ ps) = p.gone
+
+-- there is a last place, and it is gone
+abbrev pub ends_gone : List Place → Bool
+ends_gone [] = false
+ends_gone (p ∷ []) = p.gone
+ends_gone (p ∷ q ∷ ps) = ends_gone (q ∷ ps)
+
+-- a place before others, which move up by one as far as the first that is gone; that one is lost
+abbrev pub moved_before : Place → List Place → List Place
+moved_before new [] = new ∷ []
+moved_before new (p ∷ ps) = if p.gone then new ∷ ps else new ∷ moved_before p ps
+
+-- the same, at an index
+abbrev pub moved_up : ℕ → Place → List Place → List Place
+moved_up zero new ps = moved_before new ps
+moved_up (suc at) new [] = new ∷ []
+moved_up (suc at) new (p ∷ ps) = p ∷ moved_up at new ps

@@ -17,10 +17,11 @@ use Rattle.acc_dev.specs.declared.entries.Stored.{Stored}
 use Rattle.acc_dev.specs.Device.{IsRetired}
 use Rattle.acc_base.specs.Holes.{taken_range}
 use Rattle.acc_dev.specs.Marks.{without_mark, IsSoundMark}
-use Rattle.acc_index.specs.Indexed.{IsIndexRising, IsEntry}
+use Rattle.acc_index.specs.Indexed.{IsIndexRising}
+use Rattle.acc_dev.specs.Slots.{IsEntry}
 use Rattle.acc_dev.specs.Kept.{memory_of, block_from, memory_from, mark_from, slot_of, blocks_in, memories_in, marks_in, loans_in, IsBacked, AreSlotsKept, AreNumbersBorn}
 use Rattle.acc_base.proofs.Keyed.{all-remove, apart-remove, map-remove}
-use Rattle.acc_index.proofs.Rising.{start, remove-filter}
+use Rattle.acc_dev.proofs.Rising.{start, remove-filter}
 use Rattle.acc_dev.proofs.Slots.{AreSame, KeepsOthers, same_from, others_off, made-removed}
 use Rattle.acc_dev.proofs.Lent.{AreBacked, in_step}
 use Rattle.acc_dev.proofs.Keeping.{device_of}

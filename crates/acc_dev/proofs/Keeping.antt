@@ -22,11 +22,12 @@ use Rattle.acc_dev.specs.declared.devices.Device.TheInside.{Inside}
 use Rattle.acc_dev.specs.Room.{room_ready, HasRoom}
 use Rattle.acc_dev.specs.Device.{DeviceState, HasBlock, HasBlocksApart, IsLoanOn}
 use Rattle.acc_dev.specs.Marks.{pins_at, is_ended_at, IsSoundMark}
-use Rattle.acc_index.specs.Indexed.{IsIndexRising, IsEntry, IsSlotOf}
+use Rattle.acc_index.specs.Indexed.{IsIndexRising}
+use Rattle.acc_dev.specs.Slots.{IsEntry, IsSlotOf}
 use Rattle.acc_dev.specs.Kept.{memory_of, stored_len, stored_bytes, stored_pins, stored_ended, stored_loan, block_from, mark_from, marks_in, loans_in, slot_of, blocks_in, memories_in, IsOut, IsInOrOut, IsBacked, AreSlotsKept, AreNumbersBorn, IsStoredOf}
 use Rattle.acc_base.proofs.Splitting.{all_at}
 use Rattle.acc_base.proofs.Keyed.{all_from}
-use Rattle.acc_index.proofs.Rising.{start, entry_read}
+use Rattle.acc_dev.proofs.Rising.{start, entry_read}
 use Rattle.acc_dev.proofs.Slots.{block_at-entry, bytes_of-entry, pins_at-entry, is_ended_at-entry, block_at-none}
 use Rattle.acc_dev.proofs.Lent.{AreBacked, loans_each, loan_of-entry, len_of-entry, long_entry, ended_free}
 use Rattle.acc_dev.proofs.Vacant.{hole_of, holes_listed, next_of}

@@ -10,7 +10,8 @@ use Rattle.acc_base.specs.Leases.{is_kept_outside, is_returnable}
 use Rattle.acc_base.proofs.Results.{and_true, equal}
 use Rattle.acc_placement.specs.Space.{Space}
 use Rattle.acc_dev.specs.declared.entries.Stored.{Stored}
-use Rattle.acc_index.specs.Indexed.{IsIndexRising, IsSlotOf}
+use Rattle.acc_index.specs.Indexed.{IsIndexRising}
+use Rattle.acc_dev.specs.Slots.{IsSlotOf}
 use Rattle.acc_dev.specs.Kept.{stored_len, stored_bytes, stored_loan, blocks_in, memories_in, loans_in, is_back_at, AreSlotsKept}
 use Rattle.acc_dev.proofs.LoanLists.{loan_of-none}
 use Rattle.acc_dev.proofs.Lent.{AreBacked, loans_all}

@@ -10,11 +10,12 @@ use Rattle.acc_base.specs.Accounts.{EachPair, IsMemoryOf}
 use Rattle.acc_base.proofs.Elements.{AllByRecursion-weaker}
 use Rattle.acc_dev.specs.declared.entries.Stored.{Stored}
 use Rattle.acc_dev.specs.Device.{AreLoansRising}
-use Rattle.acc_index.specs.Indexed.{IsIndexRising, IsEntry}
+use Rattle.acc_index.specs.Indexed.{IsIndexRising}
+use Rattle.acc_dev.specs.Slots.{IsEntry}
 use Rattle.acc_dev.specs.Kept.{stored_len, stored_bytes, stored_ended, stored_loan, slot_of, blocks_in, memories_in, loans_in, loan_before, IsInOrOut, IsBacked}
 use Rattle.acc_base.proofs.Splitting.{all_at}
 use Rattle.acc_base.proofs.Keyed.{all_from}
-use Rattle.acc_index.proofs.Rising.{start}
+use Rattle.acc_dev.proofs.Rising.{start}
 use Rattle.acc_dev.proofs.Slots.{AreSame, AreTold, KeepsOthers, block_at-entry}
 use Rattle.acc_dev.proofs.LoanLists.{loan_of-here, loan_of-later, loan_of-none, with_loan-first, with_loan-later, without_loan-none, without_loan-here, without_loan-later}
 

@@ -1,3 +1,4 @@
+pub mod Rising
 pub mod Slots
 pub mod LoanLists
 pub mod Lent

@@ -13,12 +13,13 @@ use Rattle.acc_base.proofs.Elements.{AllByRecursion-weaker, find-map}
 use Rattle.acc_base.proofs.Results.{equal_self}
 use Rattle.acc_dev.specs.declared.entries.Stored.{Stored}
 use Rattle.acc_dev.specs.Marks.{Mark, mark_numbered, pins_at, is_ended_at, mark_changed, IsMarkOf}
-use Rattle.acc_index.specs.Indexed.{IsIndexRising, IsEntry, IsSlotOf}
+use Rattle.acc_index.specs.Indexed.{IsIndexRising}
+use Rattle.acc_dev.specs.Slots.{IsEntry, IsSlotOf}
 use Rattle.acc_dev.specs.Kept.{stored_place, stored_len, stored_bytes, stored_pins, stored_ended, block_from, memory_from, mark_from, slot_of, blocks_in, memories_in, marks_in}
 use Rattle.acc_base.proofs.Splitting.{all_at}
 use Rattle.acc_base.proofs.Lookups.{at-none}
 use Rattle.acc_base.proofs.Keyed.{map-remove}
-use Rattle.acc_index.proofs.Rising.{start, entry_number, find_at}
+use Rattle.acc_dev.proofs.Rising.{start, entry_number, find_at}
 
 -- the slots of these entries are as they were
 abbrev pub AreSame : List (Option Stored) → List (Option Stored) → List (ℕ × ℕ) → Type 0

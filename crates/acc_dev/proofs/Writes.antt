@@ -14,9 +14,10 @@ use Rattle.acc_dev.specs.declared.entries.Stored.{Stored}
 use Rattle.acc_dev.specs.Marks.{Mark, pins_at, is_ended_at, IsSoundMark}
 use Rattle.acc_base.specs.Overwriting.{overwritten}
 use Rattle.acc_dev.specs.Device.{DeviceState, IsBlockWritten, IsMarked, IsTakenOut, IsPutBack}
-use Rattle.acc_index.specs.Indexed.{IsIndexRising, IsEntry, IsSlotOf}
+use Rattle.acc_index.specs.Indexed.{IsIndexRising}
+use Rattle.acc_dev.specs.Slots.{IsEntry, IsSlotOf}
 use Rattle.acc_dev.specs.Kept.{stored_len, stored_bytes, stored_ended, stored_loan, mark_from, slot_of, blocks_in, marks_in, loans_in, IsInOrOut, IsBacked, AreSlotsKept, IsRewritten, IsRemarked, IsRelent}
-use Rattle.acc_index.proofs.Rising.{start}
+use Rattle.acc_dev.proofs.Rising.{start}
 use Rattle.acc_dev.proofs.Slots.{KeepsOthers, told_slot, all_filled, blocks_in-kept, memories_in-kept, marks_in-kept, memories_in-changed, marks_in-changed}
 use Rattle.acc_dev.proofs.Lent.{AreBacked, loan_of-entry, loans_in-kept, loans_in-lent, loans_in-restored, backed_changed, backed_kept, backed_like}
 use Rattle.acc_dev.proofs.Keeping.{device_of, filled_slot, bytes_at, loan_of_slot, ended_at, pins_at_slot, long_at}

@@ -3,3 +3,4 @@ pub mod Device
 pub mod Kept
 pub mod Room
 pub mod Ending
+pub mod Slots

@@ -80,15 +80,19 @@ fn block_at(slab: &Slab<Stored>, slot: usize, number: u64) -> Block
 }
 
 /// The blocks of an index, each of which stands in its slot.
-fn copy_blocks_of(slab: &Slab<Stored>, index: &Index, alloc: Global) -> Result<Vec<Block>, Fault>
+fn copy_blocks_of(
+    slab: &Slab<Stored>,
+    index: &Index<usize>,
+    alloc: Global,
+) -> Result<Vec<Block>, Fault>
     requires filled { AllByRecursion (λ e. IsSome (slot_of slab.now.slots e)) index.now.entries }
     ensures ok { IfOk result (λ blocks. blocks.items ≡ blocks_in slab.now.slots index.now.entries) }
     ensures only { IfErr result (λ fault. fault ≡ Fault.Memory) }
 {
     let mut blocks = Vec::with_capacity(alloc, slab.len())?;
     for entry in index.items() {
-        if !entry.gone {
-            blocks.push(block_at(slab, entry.slot, entry.number))?;
+        if let Some(slot) = entry.value {
+            blocks.push(block_at(slab, slot, entry.number))?;
         }
     }
     Ok(blocks)
@@ -115,7 +119,7 @@ fn memory_at(
 /// The bytes of the blocks of an index, each of which stands in its slot.
 fn copy_memories_of(
     slab: &Slab<Stored>,
-    index: &Index,
+    index: &Index<usize>,
     alloc: Global,
 ) -> Result<Vec<SavedBlock>, Fault>
     requires filled { AllByRecursion (λ e. IsSome (slot_of slab.now.slots e)) index.now.entries }
@@ -124,24 +128,28 @@ fn copy_memories_of(
 {
     let mut memories = Vec::with_capacity(alloc, slab.len())?;
     for entry in index.items() {
-        if !entry.gone {
-            memories.push(memory_at(slab, entry.slot, entry.number, alloc)?)?;
+        if let Some(slot) = entry.value {
+            memories.push(memory_at(slab, slot, entry.number, alloc)?)?;
         }
     }
     Ok(memories)
 }
 
 /// The loans of the blocks of an index.
-fn copy_loans_of(slab: &Slab<Stored>, index: &Index, alloc: Global) -> Result<Vec<Loan>, Fault>
+fn copy_loans_of(
+    slab: &Slab<Stored>,
+    index: &Index<usize>,
+    alloc: Global,
+) -> Result<Vec<Loan>, Fault>
     ensures ok { IfOk result (λ loans. loans.items ≡ loans_in slab.now.slots index.now.entries) }
     ensures only { IfErr result (λ fault. fault ≡ Fault.Memory) }
 {
     let mut loans = Vec::new(alloc);
     for entry in index.items() {
-        if entry.gone {
+        let Some(slot) = entry.value else {
             continue;
-        }
-        if let Some(loan) = loan_at(slab, entry.slot) {
+        };
+        if let Some(loan) = loan_at(slab, slot) {
             loans.push(loan)?;
         }
     }

@@ -17,7 +17,7 @@ ghost use Rattle.acc_dev.specs.Kept.{IsStoredOf};
 
 use crate::ended::EndedBlocks;
 use crate::entries::{
-    Stored, make_room, put, remove_block, set_mark, slot_near, slot_of_block, write_at,
+    Stored, make_room, put, remove_block, set_mark, slot, slot_near, slot_of_block, write_at,
 };
 use crate::filling::{fill, filled, make_vectors};
 use acc_base::{DEVICE_BASE, Ended, Fault, Hole, MEMORY_MAX};
@@ -53,7 +53,7 @@ pub struct Device {
     holes: Holes,
     pub(crate) slab: Slab<Stored>,
     // The number and the slot of each block, by rising number.
-    pub(crate) index: Index,
+    pub(crate) index: Index<usize>,
     // Where each block lies whose mapping has ended, and room for those that are mapped.
     ended_blocks: EndedBlocks,
     births: u64,
@@ -283,7 +283,7 @@ impl Device {
     pub fn has(&self, block: u64) -> bool
         ensures { IsTrue result ↔ HasBlock self.now block }
     {
-        self.index.slot(block).is_some()
+        slot(&self.index, block).is_some()
     }
 
     /// Where a block of the device lies: the device address of its first byte, and how many bytes of device memory it

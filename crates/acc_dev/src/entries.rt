@@ -1,6 +1,6 @@
 //! The slots of blocks, and the index by which a number finds its slot.
 
-ghost use Rattle.std.specs.Prelude.{◌≡◌, ℕ, ◌+◌, ◌^◌, ◌<◌, ◌≤◌, ◌≢◌, List, [], ◌∷◌, ◌++◌, ◌&&◌, ◌==◌, length, is_some, IfSome, IfErr, OnOk, IsOk, IsSome, Some, None, slice_index_or, true, IfOk};
+ghost use Rattle.std.specs.Prelude.{◌≡◌, ℕ, ◌+◌, ◌^◌, ◌<◌, ◌≤◌, ◌≢◌, List, [], ◌∷◌, ◌++◌, ◌&&◌, ◌==◌, length, is_some, IfSome, IfNone, IfErr, OnOk, IsOk, IsSome, Some, None, slice_index_or, true, IfOk};
 ghost use Rattle.std.specs.List.{AllByRecursion};
 ghost use Rattle.slab.specs.Slab.{get, slab_len, HasRoomFor};
 ghost use Rattle.acc_base.specs.Limits.{IsFromOne, recorded};
@@ -9,7 +9,8 @@ ghost use Rattle.acc_placement.specs.Ranges.{IsFit, IsLeastFit};
 ghost use Rattle.acc_placement.specs.Space.{IsSameSpace};
 ghost use Rattle.acc_base.specs.Overwriting.{overwritten};
 ghost use Rattle.acc_dev.specs.Marks.{new_mark};
-ghost use Rattle.acc_index.specs.Indexed.{IsIndexRising, IsEntry, IsSlotOf};
+ghost use Rattle.acc_index.specs.Indexed.{IsIndexRising};
+ghost use Rattle.acc_dev.specs.Slots.{IsEntry, IsSlotOf, IsEntryLost};
 ghost use Rattle.acc_dev.specs.Kept.{memory_of, stored_place, stored_len, stored_bytes, stored_pins, stored_ended, stored_loan, slot_of, blocks_in, memories_in, marks_in, loans_in, IsBlockLost, IsBacked, AreSlotsKept, IsRewritten, IsRemarked, IsRelent};
 
 use crate::ended::EndedBlocks;
@@ -38,28 +39,44 @@ pub struct Stored {
     pub loan: Option<Loan>,
 }
 
+/// The slot of a block, if it has one.
+pub fn slot(index: &Index<usize>, block: u64) -> Option<usize>
+    ensures found { IfSome result (IsSlotOf index.now.entries block) }
+    ensures none { IfNone result (AllByRecursion (λ e. e.0 ≡ block → ⊥) index.now.entries) }
+{
+    Some(*index.get(block)?)
+}
+
 /// The slot of a block that has one.
-pub fn slot_of_block(index: &Index, block: u64) -> usize
-    requires rising { IsIndexRising index.now.entries }
-    requires there { AllByRecursion (λ e. e.0 ≡ block → ⊥) index.now.entries → ⊥ }
+pub fn slot_of_block(index: &Index<usize>, block: u64) -> usize
+    requires { AllByRecursion (λ e. e.0 ≡ block → ⊥) index.now.entries → ⊥ }
     ensures { IsSlotOf index.now.entries block result }
 {
-    let Some(slot) = index.slot(block) else {
+    let Some(slot) = slot(index, block) else {
         unreachable!()
     };
     slot
 }
 
 /// As [`slot_of_block`], but the entry is looked for at a place first.
-pub fn slot_near(index: &Index, block: u64, near: usize) -> usize
-    requires rising { IsIndexRising index.now.entries }
-    requires there { AllByRecursion (λ e. e.0 ≡ block → ⊥) index.now.entries → ⊥ }
+pub fn slot_near(index: &Index<usize>, block: u64, near: usize) -> usize
+    requires { AllByRecursion (λ e. e.0 ≡ block → ⊥) index.now.entries → ⊥ }
     ensures { IsSlotOf index.now.entries block result }
 {
-    let Some(slot) = index.slot_near(block, near) else {
+    let Some(slot) = index.get_near(block, near) else {
         unreachable!()
     };
-    slot
+    *slot
+}
+
+/// Takes out the entry of a block, which has one, and returns its slot. It is looked for at a place first.
+fn take_out_near(index: &mut Index<usize>, block: u64, near: usize) -> usize
+    requires rising { IsIndexRising index.old.entries }
+    requires there { AllByRecursion (λ e. e.0 ≡ block → ⊥) index.old.entries → ⊥ }
+    ensures lost { IsEntryLost index.old.entries index.new.entries block result }
+    ensures room { index.old.room ≤ index.new.room }
+{
+    index.take_out_near(block, near)
 }
 
 /// Makes room for `count` blocks more, so that so many calls of [`put`] need no memory. It is refused only where that
@@ -67,7 +84,7 @@ pub fn slot_near(index: &Index, block: u64, near: usize) -> usize
 pub fn make_room(
     holes: &mut Holes,
     slab: &mut Slab<Stored>,
-    index: &mut Index,
+    index: &mut Index<usize>,
     ended: &mut EndedBlocks,
     count: u64,
 ) -> Result<(), Fault>
@@ -100,7 +117,7 @@ pub fn make_room(
 pub fn put(
     holes: &mut Holes,
     slab: &mut Slab<Stored>,
-    index: &mut Index,
+    index: &mut Index<usize>,
     ended: &mut EndedBlocks,
     number: u64,
     bytes: Vec<u8>,
@@ -148,7 +165,7 @@ pub fn put(
 pub fn remove_block(
     holes: &mut Holes,
     slab: &mut Slab<Stored>,
-    index: &mut Index,
+    index: &mut Index<usize>,
     block: u64,
     near: usize,
 )
@@ -163,7 +180,7 @@ pub fn remove_block(
     ensures slab_capacity { slab.new.capacity ≡ slab.old.capacity }
     ensures room_index { index.old.room ≤ index.new.room }
 {
-    let slot = index.take_out_near(block, near);
+    let slot = take_out_near(index, block, near);
     let Stored { place, len, .. } = slab.remove(slot);
     holes.give_back(place, len);
 }

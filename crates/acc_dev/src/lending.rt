@@ -8,7 +8,7 @@ ghost use Rattle.acc_dev.specs.Marks.{is_ended_at};
 ghost use Rattle.acc_dev.specs.Device.{number_at, HasBlock, IsTakenOut, IsLoanRefused, IsPutBack};
 
 use crate::devices::Device;
-use crate::entries::{copy_at, lend_at, loan_at, restore_at, slot_of_block};
+use crate::entries::{copy_at, lend_at, loan_at, restore_at, slot, slot_of_block};
 use crate::returning::slot_back;
 use acc_base::{Fault, Loan};
 use acc_lend::Lease;
@@ -82,7 +82,7 @@ impl Device {
     pub fn loan(&self, block: u64) -> Option<Loan>
         ensures { result ≡ loan_of block self.now.loans }
     {
-        let slot = self.index.slot(block)?;
+        let slot = slot(&self.index, block)?;
         loan_at(&self.slab, slot)
     }
 

@@ -4,10 +4,11 @@ ghost use Rattle.std.specs.Prelude.{◌≡◌, length, is_some, IfSome};
 ghost use Rattle.std.specs.List.{AllByRecursion};
 ghost use Rattle.slab.specs.Slab.{get};
 ghost use Rattle.acc_base.specs.Leases.{is_kept_outside, is_returnable};
-ghost use Rattle.acc_index.specs.Indexed.{IsIndexRising, IsSlotOf};
+ghost use Rattle.acc_index.specs.Indexed.{IsIndexRising};
+ghost use Rattle.acc_dev.specs.Slots.{IsSlotOf};
 ghost use Rattle.acc_dev.specs.Kept.{stored_len, slot_of, blocks_in, memories_in, loans_in, is_back_at, IsBacked};
 
-use crate::entries::Stored;
+use crate::entries::{Stored, slot};
 use acc_index::Index;
 use acc_lend::Lease;
 use slab::Slab;
@@ -45,7 +46,7 @@ fn is_back_at(slab: &Slab<Stored>, slot: usize, device: u64, lease: &Lease, kept
 /// The slot of a device whose block a lease brings back, if there is one.
 pub fn slot_back(
     slab: &Slab<Stored>,
-    index: &Index,
+    index: &Index<usize>,
     device: u64,
     lease: &Lease,
     kept: bool,
@@ -56,7 +57,7 @@ pub fn slot_back(
     ensures slot { IfSome result (IsSlotOf index.now.entries lease.now.block) }
     ensures len { IfSome result (λ slot. stored_len (get slab.now slot) ≡ length lease.now.bytes) }
 {
-    let slot = index.slot(lease.block())?;
+    let slot = slot(index, lease.block())?;
     if is_back_at(slab, slot, device, lease, kept) {
         return Some(slot);
     }

@@ -1,2 +1,1 @@
-pub mod Rising
 pub mod Indexing

@@ -1,59 +1,65 @@
--- An index: its entries by rising number, and how it keeps them.
-use Rattle.std.specs.List.{remove}
-use Rattle.std.specs.Prelude.{ℕ, ◌≡◌, ◌<◌, Bool, not, false, List, [], ◌∷◌, map, filter, length, slice_index_or}
+-- A list of values by rising number: what is found in it, how it changes, and how it is kept.
+use Rattle.std.specs.Prelude.{ℕ, ◌≡◌, ◌<◌, ◌==◌, Bool, not, false, is_some, if◌then◌else◌, nat_lt, List, [], ◌∷◌, filter, find, length, slice_index_or, Option, Some, None, option_map}
 use Rattle.acc_base.specs.Accounts.{EachPair}
 use Rattle.acc_index.specs.declared.index.Entry.{Entry}
 
--- the entries that are not gone, each a number with its slot, and how many more there is room for
-pub record IndexState : Type 0 where
-  pub entries : List (ℕ × ℕ)
+-- the values with their numbers, how many places of others are kept, and how many more values there is room for
+pub record IndexState (T : Type 0) : Type 0 where
+  pub entries : List (ℕ × T)
+  pub gone : ℕ
   pub room : ℕ
 
--- the number of an entry with its slot
-abbrev pub pair_of : Entry → ℕ × ℕ
-pair_of e = (e.number, e.slot)
+module _ {T : Type 0} where
+  -- the numbers rise
+  abbrev pub IsIndexRising : List (ℕ × T) → Type 0
+  IsIndexRising entries = EachPair (λ (d : ℕ × T) (e : ℕ × T). d.0 < e.0) entries
 
--- the entries that are not gone
-abbrev pub live_entries : List Entry → List (ℕ × ℕ)
-live_entries items = map pair_of (filter (λ e. not e.gone) items)
+  -- the value of a number
+  abbrev pub value_at : ℕ → List (ℕ × T) → Option T
+  value_at number entries = option_map (λ (e : ℕ × T). e.1) (find (λ (e : ℕ × T). e.0 == number) entries)
 
--- the numbers rise
-abbrev pub AreEntriesRising : List Entry → Type 0
-AreEntriesRising items = EachPair (λ (d : Entry) (e : Entry). d.number < e.number) items
+  -- the greatest number: numbers rise, so it stands last
+  abbrev pub last_number : List (ℕ × T) → Option ℕ
+  last_number [] = None
+  last_number (e ∷ []) = Some e.0
+  last_number (e ∷ f ∷ es) = last_number (f ∷ es)
 
--- there is a last entry, and it is gone
-abbrev pub ends_gone : List Entry → Bool
-ends_gone [] = false
-ends_gone (e ∷ []) = e.gone
-ends_gone (e ∷ f ∷ es) = ends_gone (f ∷ es)
+  -- the values with one more, by rising number
+  abbrev pub with_value : ℕ → T → List (ℕ × T) → List (ℕ × T)
+  with_value number value [] = (number, value) ∷ []
+  with_value number value (e ∷ es) = if nat_lt number e.0 then (number, value) ∷ e ∷ es else e ∷ with_value number value es
 
--- what an index outside of a list reads
-abbrev pub blank_entry : Entry
-blank_entry = record { number = 0; slot = 0; gone = false }
+  -- the values without that of a number
+  abbrev pub without_number : ℕ → List (ℕ × T) → List (ℕ × T)
+  without_number number entries = filter (λ (e : ℕ × T). not (e.0 == number)) entries
 
--- the number stands at this place
-pub record IsNumberAt (items : List Entry) (number at : ℕ) : Type 0 where
-  pub in_bounds : at < length items
-  pub is : (slice_index_or items at blank_entry).number ≡ number
+  -- ---- how they are kept
 
--- the numbers of an index rise
-abbrev pub IsIndexRising : List (ℕ × ℕ) → Type 0
-IsIndexRising index = EachPair (λ d e. d.0 < e.0) index
+  -- the value of a place before others, unless it is gone
+  abbrev pub live_before : ℕ → Option T → List (ℕ × T) → List (ℕ × T)
+  live_before number None es = es
+  live_before number (Some value) es = (number, value) ∷ es
 
--- the entry at an index is the block's
-pub record IsEntry (index : List (ℕ × ℕ)) (block at : ℕ) : Type 0 where
-  pub in_bounds : at < length index
-  pub number : (slice_index_or index at (0, 0)).0 ≡ block
+  -- the values that are not gone
+  abbrev pub live_entries : List (Entry T) → List (ℕ × T)
+  live_entries [] = []
+  live_entries (e ∷ es) = live_before e.number e.value (live_entries es)
 
--- the slot is that of the block's entry
-pub record IsSlotOf (index : List (ℕ × ℕ)) (block slot : ℕ) : Type 0 where
-  pub at : ℕ
-  pub entry : IsEntry index block at
-  pub is : (slice_index_or index at (0, 0)).1 ≡ slot
+  -- the numbers of places rise
+  abbrev pub AreEntriesRising : List (Entry T) → Type 0
+  AreEntriesRising items = EachPair (λ (d : Entry T) (e : Entry T). d.number < e.number) items
 
--- the entry of a block, which had this slot, is taken out
-pub record IsEntryLost (old new : List (ℕ × ℕ)) (block slot : ℕ) : Type 0 where
-  pub at : ℕ
-  pub entry : IsEntry old block at
-  pub is : (slice_index_or old at (0, 0)).1 ≡ slot
-  pub left : new ≡ remove old at
+  -- there is a last place, and its value is gone
+  abbrev pub ends_gone : List (Entry T) → Bool
+  ends_gone [] = false
+  ends_gone (e ∷ []) = not (is_some e.value)
+  ends_gone (e ∷ f ∷ es) = ends_gone (f ∷ es)
+
+  -- what an index outside of a list reads
+  abbrev pub blank_entry : Entry T
+  blank_entry = record { number = 0; value = None }
+
+  -- the number stands at this place
+  pub record IsNumberAt (items : List (Entry T)) (number at : ℕ) : Type 0 where
+    pub in_bounds : at < length items
+    pub is : (slice_index_or items at blank_entry).number ≡ number

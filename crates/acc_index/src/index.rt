@@ -1,151 +1,191 @@
-//! An index by which a number finds its slot.
+//! Values by rising number.
 
-ghost use Rattle.std.specs.Prelude.{◌≡◌, ℕ, ◌+◌, ◌<◌, ◌≤◌, false, [], ◌∷◌, ◌++◌, length, IfSome, IfNone, IfErr, OnOk, OnErr, vec_len, vec_capacity};
+ghost use Rattle.std.specs.Prelude.{◌≡◌, ℕ, ◌+◌, ◌-◌, ◌*◌, ◌<◌, ◌≤◌, ◌⊎◌, false, [], ◌∷◌, ◌++◌, length, None, Some, IsSome, IfSome, IfNone, IfErr, OnOk, OnErr, MatchOption, vec_len, vec_capacity};
 ghost use Rattle.std.specs.Bool.{OnTrue};
 ghost use Rattle.std.specs.List.{AllByRecursion};
-ghost use Rattle.acc_index.specs.Indexed.{IsSlotOf, IsEntryLost, IsIndexRising, live_entries, AreEntriesRising, IsNumberAt, ends_gone};
+ghost use Rattle.acc_index.specs.Indexed.{IsIndexRising, value_at, last_number, with_value, without_number, live_entries, AreEntriesRising, IsNumberAt, ends_gone};
 
 use acc_base::Fault;
 use std::alloc::Global;
 use std::marker::Model;
 
-/// The slot of a number.
-#[derive(Clone, Copy)]
-pub struct Entry {
+/// A place for the value of a number.
+#[derive(Drop)]
+pub struct Entry<T> {
     /// The number.
     pub number: u64,
-    /// Where what is numbered stands, as a place in a slab or an address.
-    pub slot: usize,
-    /// It was taken out, and its slot may be another's.
-    pub gone: bool,
+    /// Its value. `None` where it was taken out.
+    pub value: Option<T>,
 }
 
-/// Slots by rising number, as those of blocks.
+/// Values by rising number, as the slots of blocks, or what open regions hold.
 ///
-/// An entry that is taken out stays in its place, as gone, until more than half of the entries are. So it moves no
-/// other one. A number stands as far behind the first as it is greater, unless that half was cleared away in between.
-/// A caller that needs an entry twice asks for its place, so that the number is searched for once.
+/// A value that is taken out leaves its place, which is gone, until more than half of the places are. So it moves no
+/// other one, and there are never more places than twice as many as values. A number stands as far behind the first as
+/// it is greater, unless such places were cleared away in between. A caller that needs a value twice asks for its place,
+/// so that the number is searched for once.
 #[derive(Drop)]
-pub struct Index {
+pub struct Index<T> {
     // By rising number. The last one is not gone.
-    items: Vec<Entry>,
-    // How many are gone. It only says when they are cleared away.
-    gone: usize,
+    items: Vec<Entry<T>>,
+    // How many of them are not gone.
+    count: usize,
 }
 
-impl Model for Index {
-    ghost use Rattle.std.specs.Prelude.{◌≡◌, ◌-◌, false, vec_len, vec_capacity};
+impl<T> Model for Index<T> {
+    ghost use Rattle.std.specs.Prelude.{◌≡◌, ◌*◌, ◌-◌, ◌≤◌, false, length, vec_len, vec_capacity};
     ghost use Rattle.acc_index.specs.Indexed.{IndexState, live_entries, AreEntriesRising, ends_gone};
 
-    ghost Value = { IndexState };
+    ghost Value = { IndexState T };
 
-    ghost view = { λ i. record { entries = live_entries i.items.items; room = vec_capacity i.items - vec_len i.items } };
+    ghost view = { λ i. record { entries = live_entries i.items.items; gone = vec_len i.items - i.count; room = vec_capacity i.items - vec_len i.items } };
 
-    ghost invariant = { λ i. AreEntriesRising i.items.items × (ends_gone i.items.items ≡ false) };
+    ghost invariant = { λ i. AreEntriesRising i.items.items × (ends_gone i.items.items ≡ false) × (i.count ≡ length (live_entries i.items.items)) × (vec_len i.items ≤ 2 * i.count) };
 }
 
-impl Index {
-    /// No entry. It needs no memory.
-    pub fn new(alloc: Global) -> Index
+impl<T: Drop> Index<T> {
+    /// No value. It needs no memory.
+    pub fn new(alloc: Global) -> Index<T>
         ensures { result.entries ≡ [] }
     {
         Index {
             items: Vec::new(alloc),
-            gone: 0,
+            count: 0,
         }
     }
 
-    /// That the numbers rise. Nothing is done.
+    /// That the numbers rise, and that no more places are kept for values that are gone than there are values. Nothing is
+    /// done.
     pub fn laws(&self)
-        ensures { IsIndexRising self.now.entries }
+        ensures rising { IsIndexRising self.now.entries }
+        ensures few { self.now.gone ≤ length self.now.entries }
     {
         let _ = &self.items;
     }
 
-    /// All entries by rising number, those that are gone too.
-    pub fn items(&self) -> &[Entry]
+    /// How many values there are.
+    pub fn len(&self) -> usize
+        ensures { result ≡ length self.now.entries }
+    {
+        self.count
+    }
+
+    /// All places by rising number, those that are gone too.
+    pub fn items(&self) -> &[Entry<T>]
         ensures { live_entries result.now ≡ self.now.entries }
     {
         &self.items
     }
 
-    /// Makes room for `count` more entries. It is refused only where that room was missing.
+    /// Makes room for `count` more values. Where that room is missing, places that are gone are cleared away first, if
+    /// they are a quarter of all or more. It is refused only where that room was missing, and they were fewer or not
+    /// enough.
     pub fn reserve(&mut self, count: usize) -> Result<(), Fault>
         ensures entries { self.new.entries ≡ self.old.entries }
         ensures ok { OnOk result (count ≤ self.new.room) }
         ensures only { IfErr result (λ fault. fault ≡ Fault.Memory) }
         ensures needed { OnErr result (self.old.room < count) }
+        ensures cleared { OnErr result ((3 * self.old.gone < length self.old.entries) ⊎ (self.old.room + self.old.gone < count)) }
         ensures room { self.old.room ≤ self.new.room }
     {
+        if self.items.capacity() - self.items.len() < count {
+            clear_many(&mut self.items, self.count);
+        }
         self.items.reserve(count)?;
         Ok(())
     }
 
-    /// The slot of a block, if it has one.
-    pub fn slot(&self, block: u64) -> Option<usize>
-        ensures found { IfSome result (IsSlotOf self.now.entries block) }
-        ensures none { IfNone result (AllByRecursion (λ e. e.0 ≡ block → ⊥) self.now.entries) }
+    /// The value of a number, if it has one.
+    pub fn get(&self, number: u64) -> Option<&T>
+        ensures { MatchOption result (value_at number self.now.entries ≡ None) (λ v. value_at number self.now.entries ≡ Some v.now) }
     {
-        slot_in(&self.items, block, position_of(&self.items, block))
+        value_in(&self.items, number, position_of(&self.items, number))
     }
 
-    /// As [`Index::slot`], but the entry is looked for at a place first, which [`Index::place`] told.
-    pub fn slot_near(&self, block: u64, near: usize) -> Option<usize>
-        ensures found { IfSome result (IsSlotOf self.now.entries block) }
-        ensures none { IfNone result (AllByRecursion (λ e. e.0 ≡ block → ⊥) self.now.entries) }
+    /// As [`Index::get`], but the number is looked for at a place first, which [`Index::place`] told.
+    pub fn get_near(&self, number: u64, near: usize) -> Option<&T>
+        ensures { MatchOption result (value_at number self.now.entries ≡ None) (λ v. value_at number self.now.entries ≡ Some v.now) }
     {
-        slot_in(&self.items, block, position_near(&self.items, block, near))
+        value_in(
+            &self.items,
+            number,
+            position_near(&self.items, number, near),
+        )
     }
 
-    /// Where the entry of a number stands, for the calls that look there first. Nothing rests on it but their time.
-    pub fn place(&self, block: u64) -> usize {
-        position_of(&self.items, block).unwrap_or(0)
+    /// Where a number stands, for the calls that look there first. Nothing rests on it but their time.
+    pub fn place(&self, number: u64) -> usize {
+        position_of(&self.items, number).unwrap_or(0)
     }
 
-    /// Whether a number is above those of all entries, so that [`Index::push`] may be handed it.
+    /// The greatest number, if there is a value.
+    pub fn last(&self) -> Option<u64>
+        ensures { result ≡ last_number self.now.entries }
+    {
+        last_in(&self.items)
+    }
+
+    /// Whether a number is above those of all values, so that [`Index::push`] may be handed it.
     pub fn is_above(&self, number: u64) -> bool
-        ensures { OnTrue result (AllByRecursion (λ e. e.0 < number) self.now.entries) }
+        ensures above { OnTrue result (AllByRecursion (λ e. e.0 < number) self.now.entries) }
+        ensures not_above { result ≡ false → IfSome (last_number self.now.entries) (λ last. number ≤ last) }
     {
-        match self.items.last() {
-            Some(last) => last.number < number,
+        self.laws();
+        match self.last() {
+            Some(last) => last < number,
             None => true,
         }
     }
 
-    /// One entry more, of a number above all, where there is room for it.
-    pub fn push(&mut self, number: u64, slot: usize)
+    /// One value more, of a number above all, where there is room for it.
+    pub fn push(&mut self, number: u64, value: T)
         requires above { AllByRecursion (λ e. e.0 < number) self.old.entries }
         requires room { 1 ≤ self.old.room }
-        ensures entries { self.new.entries ≡ self.old.entries ++ (number, slot) ∷ [] }
+        ensures entries { self.new.entries ≡ self.old.entries ++ (number, value) ∷ [] }
         ensures room { self.old.room ≤ self.new.room + 1 }
     {
         self.items.push_reserved(Entry {
             number,
-            slot,
-            gone: false,
+            value: Some(value),
         });
+        self.count += 1;
     }
 
-    /// Takes out the entry of a block, which has one, and returns its slot. It is looked for at a place first.
-    pub fn take_out_near(&mut self, block: u64, near: usize) -> usize
-        requires there { AllByRecursion (λ e. e.0 ≡ block → ⊥) self.old.entries → ⊥ }
-        ensures lost { IsEntryLost self.old.entries self.new.entries block result }
+    /// One value more, of any number that has none, where there is room for it. Those of greater numbers are moved.
+    pub fn insert(&mut self, number: u64, value: T)
+        requires new { value_at number self.old.entries ≡ None }
+        requires room { 1 ≤ self.old.room }
+        ensures entries { self.new.entries ≡ with_value number value self.old.entries }
+        ensures room { self.old.room ≤ self.new.room + 1 }
+    {
+        if self.is_above(number) {
+            return self.push(number, value);
+        }
+        clear_away(&mut self.items);
+        put_between(&mut self.items, number, value);
+        self.count += 1;
+    }
+
+    /// Takes out the value of a number, which has one. The number is looked for at a place first.
+    pub fn take_out_near(&mut self, number: u64, near: usize) -> T
+        requires { IsSome (value_at number self.old.entries) }
+        ensures value { value_at number self.old.entries ≡ Some result }
+        ensures entries { self.new.entries ≡ without_number number self.old.entries }
         ensures room { self.old.room ≤ self.new.room }
     {
-        let slot = mark_gone(&mut self.items, block, near);
-        let ended = trim(&mut self.items);
-        self.gone = self.gone.saturating_add(1).saturating_sub(ended);
-        if self.items.len() / 2 < self.gone {
+        let value = take_value(&mut self.items, number, near);
+        self.count -= 1;
+        trim(&mut self.items);
+        if self.count < self.items.len() - self.count {
             clear_away(&mut self.items);
-            self.gone = 0;
         }
-        slot
+        value
     }
 }
 
 /// The first and the last place at which a number can stand. The numbers rise by one at least from place to place. So
-/// neither is farther from the first entry, or from the last one, than the numbers are apart.
-fn window(items: &[Entry], number: u64) -> Option<(usize, usize)>
+/// neither is farther from the first place, or from the last one, than the numbers are apart.
+fn window<T>(items: &[Entry<T>], number: u64) -> Option<(usize, usize)>
     requires { AreEntriesRising items.now }
     ensures some { IfSome result (λ w. (w.0 ≤ w.1) × (w.1 < length items.now)) }
     ensures within { IfSome result (λ w. (at : ℕ) → IsNumberAt items.now number at → (w.0 ≤ at) × (at ≤ w.1)) }
@@ -163,7 +203,7 @@ fn window(items: &[Entry], number: u64) -> Option<(usize, usize)>
 }
 
 /// The place of a number, if it stands in a window, which is halved until one place is left.
-fn position_within(items: &[Entry], number: u64, low: usize, high: usize) -> Option<usize>
+fn position_within<T>(items: &[Entry<T>], number: u64, low: usize, high: usize) -> Option<usize>
     requires rising { AreEntriesRising items.now }
     requires window { (low ≤ high) × (high < length items.now) }
     requires within { (at : ℕ) → IsNumberAt items.now number at → (low ≤ at) × (at ≤ high) }
@@ -187,7 +227,7 @@ fn position_within(items: &[Entry], number: u64, low: usize, high: usize) -> Opt
 }
 
 /// The place of a number, if it stands there. Both ends of its window are looked at first.
-fn position_of(items: &[Entry], number: u64) -> Option<usize>
+fn position_of<T>(items: &[Entry<T>], number: u64) -> Option<usize>
     requires { AreEntriesRising items.now }
     ensures found { IfSome result (IsNumberAt items.now number) }
     ensures none { IfNone result (AllByRecursion (λ e. e.number ≡ number → ⊥) items.now) }
@@ -203,7 +243,7 @@ fn position_of(items: &[Entry], number: u64) -> Option<usize>
 }
 
 /// The place of a number, if it stands there. It is looked for at `near` first.
-fn position_near(items: &[Entry], number: u64, near: usize) -> Option<usize>
+fn position_near<T>(items: &[Entry<T>], number: u64, near: usize) -> Option<usize>
     requires { AreEntriesRising items.now }
     ensures found { IfSome result (IsNumberAt items.now number) }
     ensures none { IfNone result (AllByRecursion (λ e. e.number ≡ number → ⊥) items.now) }
@@ -214,39 +254,48 @@ fn position_near(items: &[Entry], number: u64, near: usize) -> Option<usize>
     position_of(items, number)
 }
 
-/// The slot of a number, if it has a place and is not gone.
-fn slot_in(items: &[Entry], block: u64, place: Option<usize>) -> Option<usize>
+/// The value of a number, if it has a place and is not gone.
+fn value_in<T>(items: &[Entry<T>], number: u64, place: Option<usize>) -> Option<&T>
     requires rising { AreEntriesRising items.now }
-    requires place { IfSome place (IsNumberAt items.now block) }
-    requires no_place { IfNone place (AllByRecursion (λ e. e.number ≡ block → ⊥) items.now) }
-    ensures found { IfSome result (IsSlotOf (live_entries items.now) block) }
-    ensures none { IfNone result (AllByRecursion (λ e. e.0 ≡ block → ⊥) (live_entries items.now)) }
+    requires place { IfSome place (IsNumberAt items.now number) }
+    requires no_place { IfNone place (AllByRecursion (λ e. e.number ≡ number → ⊥) items.now) }
+    ensures { MatchOption result (value_at number (live_entries items.now) ≡ None) (λ v. value_at number (live_entries items.now) ≡ Some v.now) }
 {
     let at = place?;
-    let entry = items[at];
-    if entry.gone { None } else { Some(entry.slot) }
+    match &items[at].value {
+        Some(value) => Some(value),
+        None => None,
+    }
 }
 
-/// Marks the entry of a block as gone, and returns its slot. It is looked for at `near` first.
-fn mark_gone(items: &mut [Entry], block: u64, near: usize) -> usize
-    requires rising { AreEntriesRising items.old }
-    requires there { AllByRecursion (λ e. e.0 ≡ block → ⊥) (live_entries items.old) → ⊥ }
-    ensures rising { AreEntriesRising items.new }
-    ensures lost { IsEntryLost (live_entries items.old) (live_entries items.new) block result }
+/// The number of the last place, which is not gone, if there is one.
+fn last_in<T>(items: &[Entry<T>]) -> Option<u64>
+    requires { ends_gone items.now ≡ false }
+    ensures { result ≡ last_number (live_entries items.now) }
 {
-    let Some(at) = position_near(items, block, near) else {
+    Some(items.last()?.number)
+}
+
+/// Takes the value of a number out of its place, which is gone then. The number is looked for at `near` first.
+fn take_value<T>(items: &mut [Entry<T>], number: u64, near: usize) -> T
+    requires rising { AreEntriesRising items.old }
+    requires there { IsSome (value_at number (live_entries items.old)) }
+    ensures rising { AreEntriesRising items.new }
+    ensures value { value_at number (live_entries items.old) ≡ Some result }
+    ensures entries { live_entries items.new ≡ without_number number (live_entries items.old) }
+{
+    let Some(at) = position_near(items, number, near) else {
         unreachable!()
     };
-    let entry = items[at];
-    items[at] = Entry {
-        gone: true,
-        ..entry
+    let entry = &mut items[at];
+    let Some(value) = entry.value.take() else {
+        unreachable!()
     };
-    entry.slot
+    value
 }
 
-/// Takes entries that are gone off the end, and returns how many they were.
-fn trim(items: &mut Vec<Entry>) -> usize
+/// Takes places that are gone off the end.
+fn trim<T: Drop>(items: &mut Vec<Entry<T>>)
     requires { AreEntriesRising items.old.items }
     ensures rising { AreEntriesRising items.new.items }
     ensures last { ends_gone items.new.items ≡ false }
@@ -254,32 +303,69 @@ fn trim(items: &mut Vec<Entry>) -> usize
     ensures len { vec_len items.new ≤ vec_len items.old }
     ensures capacity { vec_capacity items.new ≡ vec_capacity items.old }
 {
-    let before = items.len();
     while is_last_gone(items) {
         items.pop();
     }
-    before.saturating_sub(items.len())
 }
 
-/// There is a last entry, and it is gone.
-fn is_last_gone(items: &[Entry]) -> bool
+/// There is a last place, and it is gone.
+fn is_last_gone<T>(items: &[Entry<T>]) -> bool
     ensures { result ≡ ends_gone items.now }
 {
     match items.last() {
-        Some(entry) => entry.gone,
+        Some(entry) => entry.value.is_none(),
         None => false,
     }
 }
 
-/// Takes out all entries that are gone.
-fn clear_away(items: &mut Vec<Entry>)
+/// Takes out all places that are gone.
+fn clear_away<T: Drop>(items: &mut Vec<Entry<T>>)
+    requires { AreEntriesRising items.old.items }
+    ensures rising { AreEntriesRising items.new.items }
+    ensures here { AllByRecursion (λ e. IsSome e.value) items.new.items }
+    ensures entries { live_entries items.new.items ≡ live_entries items.old.items }
+    ensures count { vec_len items.new ≡ length (live_entries items.old.items) }
+    ensures len { vec_len items.new ≤ vec_len items.old }
+    ensures capacity { vec_capacity items.new ≡ vec_capacity items.old }
+{
+    items.retain(|entry| entry.value.is_some());
+}
+
+/// Takes out all places that are gone if they are a quarter of all or more. So many are not.
+fn clear_many<T: Drop>(items: &mut Vec<Entry<T>>, count: usize)
     requires rising { AreEntriesRising items.old.items }
     requires last { ends_gone items.old.items ≡ false }
+    requires count { count ≡ length (live_entries items.old.items) }
     ensures rising { AreEntriesRising items.new.items }
     ensures last { ends_gone items.new.items ≡ false }
     ensures entries { live_entries items.new.items ≡ live_entries items.old.items }
     ensures len { vec_len items.new ≤ vec_len items.old }
+    ensures cleared { (vec_len items.new ≡ count) ⊎ (3 * (vec_len items.old - count) < count) }
     ensures capacity { vec_capacity items.new ≡ vec_capacity items.old }
 {
-    items.retain(|entry| !entry.gone);
+    if items.len() / 4 <= items.len() - count {
+        clear_away(items);
+    }
+}
+
+/// Puts the value of a number that has no place among places none of which is gone, where there is room for it.
+fn put_between<T: Drop>(items: &mut Vec<Entry<T>>, number: u64, value: T)
+    requires rising { AreEntriesRising items.old.items }
+    requires here { AllByRecursion (λ e. IsSome e.value) items.old.items }
+    requires new { value_at number (live_entries items.old.items) ≡ None }
+    requires room { vec_len items.old < vec_capacity items.old }
+    ensures rising { AreEntriesRising items.new.items }
+    ensures here { AllByRecursion (λ e. IsSome e.value) items.new.items }
+    ensures entries { live_entries items.new.items ≡ with_value number value (live_entries items.old.items) }
+    ensures len { vec_len items.new ≡ vec_len items.old + 1 }
+    ensures capacity { vec_capacity items.old ≤ vec_capacity items.new }
+{
+    let at = items.partition_point(|entry| entry.number < number);
+    let _ = items.insert(
+        at,
+        Entry {
+            number,
+            value: Some(value),
+        },
+    );
 }

@@ -5,4 +5,3 @@ pub mod Limits
 pub mod Fresh
 pub mod Crossing
 pub mod Recounting
-pub mod Starting

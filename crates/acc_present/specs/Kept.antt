@@ -1,19 +1,19 @@
 -- How the present table keeps its ranges and regions. No public clause cites this module.
-use Rattle.std.specs.Prelude.{ℕ, ◌≡◌, ◌^◌, ◌<◌, ◌==◌, ◌&&◌, if◌then◌else◌, Bool, true, false, not, List, [], ◌∷◌, filter, find, map, zero, suc, nat_lt, nat_le, Option, Some, None, option_map, ⊤}
+use Rattle.std.specs.Prelude.{ℕ, ◌≡◌, ◌^◌, ◌<◌, ◌==◌, ◌&&◌, if◌then◌else◌, Bool, true, List, filter, map, nat_lt, nat_le, Option, Some, None, option_map, ⊤}
+use Rattle.std.specs.declared.alloc.Global.{Global}
+use Rattle.std.specs.declared.vec.Vec.{Vec}
 use Rattle.std.specs.List.{AllByRecursion}
-use Rattle.std.specs.Option.{option_or}
 use Rattle.acc_base.specs.declared.items.Section.{Section}
 use Rattle.acc_base.specs.declared.mappings.Range.{Range}
+use Rattle.acc_base.specs.declared.regions.Holding.{Holding}
 use Rattle.acc_base.specs.declared.mappings.Found.TheVariants.{Absent}
 use Rattle.acc_base.specs.Ranges.{range_of, range_from, where_is_apart, counter_in, risen, fallen, cleared}
 use Rattle.acc_base.specs.Register.{Region}
-use Rattle.acc_base.specs.Accounts.{EachPair}
+use Rattle.acc_index.specs.Indexed.{IndexState, value_at}
 use Rattle.acc_ordered.specs.declared.entries.Entry.{Entry}
-use Rattle.acc_ordered.specs.Listing.{at_key}
 use Rattle.acc_present.specs.declared.ranges.Change.{Change}
 use Rattle.acc_present.specs.declared.ranges.Change.TheVariants.{Raise, Lower, Clear}
-use Rattle.acc_present.specs.declared.register.Place.{Place}
-use Rattle.acc_present.specs.Present.{AreMapped, region_of}
+use Rattle.acc_present.specs.Present.{AreMapped}
 
 -- ---- the ranges
 
@@ -32,21 +32,9 @@ pub record IsKeyed (e : Entry Range) : Type 0 where
 
 -- ---- the start of each block's range
 
--- what the starts of blocks are seen as
-pub record StartsState : Type 0 where
-  -- those of blocks that came behind all others, and those of the other blocks
-  pub rising : List (ℕ × ℕ)
-  pub others : List (Entry ℕ)
-  -- how many more can be kept without allocating
-  pub room : ℕ
-
 -- the start that is kept for a block
-abbrev pub start_in : StartsState → ℕ → Option ℕ
-start_in s block = option_or (option_map (λ e. e.1) (find (λ e. e.0 == block) s.rising)) (option_map (λ e. e.value) (at_key block s.others))
-
--- no block is kept in both
-abbrev pub AreStartsApart : List (ℕ × ℕ) → List (Entry ℕ) → Type 0
-AreStartsApart rising others = AllByRecursion (λ (e : ℕ × ℕ). at_key e.0 others ≡ None) rising
+abbrev pub start_in : IndexState ℕ → ℕ → Option ℕ
+start_in starts block = value_at block starts.entries
 
 -- the start of the range that is mapped to a block
 abbrev pub start_at : ℕ → List Range → Option ℕ
@@ -95,42 +83,18 @@ recounted block change most r = if r.block == block && allows change most r then
 
 -- ---- the open regions
 
--- the open regions, how many more can be added without allocating, and how many holdings of the next one
+-- the open regions, how many places are kept for others that are gone, how many more can be added without allocating,
+-- and how many holdings of the next one
 pub record RegisterState : Type 0 where
   pub regions : List Region
+  pub gone : ℕ
   pub room : ℕ
   pub holdings : ℕ
 
--- the region of a place
-abbrev pub region_in : Place → Region
-region_in p = region_of p.region
+-- the region of a number with what it holds
+abbrev pub region_in : ℕ × Vec Holding Global → Region
+region_in e = record { number = e.0; holdings = e.1.items }
 
--- the regions that are not gone
-abbrev pub live_regions : List Place → List Region
-live_regions places = map region_in (filter (λ p. not p.gone) places)
-
--- the numbers of the places rise
-abbrev pub AreNumbersRising : List Place → Type 0
-AreNumbersRising places = EachPair (λ (p : Place) (q : Place). p.region.number < q.region.number) places
-
--- there is a first place, and it is gone
-abbrev pub begins_gone : List Place → Bool
-begins_gone [] = false
-begins_gone (p ∷ ps) = p.gone
-
--- there is a last place, and it is gone
-abbrev pub ends_gone : List Place → Bool
-ends_gone [] = false
-ends_gone (p ∷ []) = p.gone
-ends_gone (p ∷ q ∷ ps) = ends_gone (q ∷ ps)
-
--- a place before others, which move up by one as far as the first that is gone; that one is lost
-abbrev pub moved_before : Place → List Place → List Place
-moved_before new [] = new ∷ []
-moved_before new (p ∷ ps) = if p.gone then new ∷ ps else new ∷ moved_before p ps
-
--- the same, at an index
-abbrev pub moved_up : ℕ → Place → List Place → List Place
-moved_up zero new ps = moved_before new ps
-moved_up (suc at) new [] = new ∷ []
-moved_up (suc at) new (p ∷ ps) = p ∷ moved_up at new ps
+-- the regions of some numbers
+abbrev pub regions_in : List (ℕ × Vec Holding Global) → List Region
+regions_in entries = map region_in entries

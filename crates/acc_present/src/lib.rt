@@ -6,7 +6,6 @@ mod copying;
 mod presence;
 mod ranges;
 mod register;
-mod starts;
 
 pub use presence::Present;
 pub use register::OpenRegion;

@@ -1,6 +1,6 @@
 //! The present table as one value.
 
-ghost use Rattle.std.specs.Prelude.{◌≡◌, false, ℕ, ◌+◌, ◌*◌, ◌^◌, ◌<◌, ◌≤◌, ◌↔◌, length, map, option_map, MatchResult, None, Some, Err, IfOk, IfErr, OnOk, OnErr, IfSome, MatchOption};
+ghost use Rattle.std.specs.Prelude.{◌≡◌, false, ℕ, ◌+◌, ◌*◌, ◌^◌, ◌<◌, ◌≤◌, ◌↔◌, length, map, option_map, MatchResult, None, Some, Err, IfOk, IfErr, OnOk, OnErr, IfSome, MatchOption, vec_capacity};
 ghost use Rattle.std.specs.Bool.{OnTrue};
 ghost use Rattle.acc_base.specs.declared.mappings.Range.{Range};
 ghost use Rattle.acc_base.specs.declared.mappings.Counter.TheVariants.{Structured, Dynamic};
@@ -13,8 +13,8 @@ ghost use Rattle.acc_present.specs.Kept.{IsNext, IsChangeable, changed_by};
 
 use crate::ranges::{Change, Recount, changed, told_by, value_of};
 use crate::register::{OpenRegion, Register};
-use crate::starts::Starts;
 use acc_base::{Counter, Counters, Fault, Found, Holding, Range, Section, Steps};
+use acc_index::Index;
 use acc_ordered::{Entry, Found as InTree, Tree};
 use std::alloc::Global;
 use std::marker::Model;
@@ -25,15 +25,15 @@ use std::marker::Model;
 /// Contracts see the table, and the room that was made for more beside it. A refused call leaves the table as it was.
 /// Only `new`, `add`, `enter` and `reserve` allocate for it, and `copy_ranges` and `copy_regions` for their results.
 ///
-/// The ranges stand in a [`Tree`] by rising start. The start of each block's range is kept beside it, and found mostly
-/// without a search.
+/// The ranges stand in a [`Tree`] by rising start. The start of each block's range stands in an [`Index`] beside it, and is
+/// found mostly without a search.
 #[derive(Drop)]
 pub struct Present {
     counter_max: u64,
     // By start.
     ranges: Tree<Range>,
-    // By block.
-    starts: Starts,
+    // The host address at which the range of each block begins.
+    starts: Index<u64>,
     register: Register,
 }
 
@@ -94,7 +94,7 @@ impl Present {
         Present {
             counter_max,
             ranges: Tree::new(alloc, blank),
-            starts: Starts::new(alloc),
+            starts: Index::new(alloc),
             register: Register::new(alloc),
         }
     }
@@ -211,14 +211,14 @@ impl Present {
         ensures { result ≡ range_of block self.now.table.ranges }
     {
         let start = self.starts.get(block)?;
-        range_if(self.ranges.get(start))
+        range_if(self.ranges.get(*start))
     }
 
     /// The host address at which the range begins that is mapped to a block, if one is. It is found mostly without a search.
     pub fn start(&self, block: u64) -> Option<u64>
         ensures { result ≡ option_map (λ r. r.section.start) (range_of block self.now.table.ranges) }
     {
-        self.starts.get(block)
+        Some(*self.starts.get(block)?)
     }
 
     /// The range that is mapped to a block, if one is, as [`Present::range`] returns it. It is found by one search where
@@ -343,11 +343,9 @@ impl Present {
         ensures table { self.new.table ≡ with_ranges self.old.table (without_range block self.old.table.ranges) }
         ensures room { IsRoomKept self.old.room self.new.room }
     {
-        let Some(start) = self.starts.get(block) else {
-            unreachable!()
-        };
+        // The oldest block is looked at first.
+        let start = self.starts.take_out_near(block, 0);
         self.ranges.remove(start);
-        self.starts.remove(block);
     }
 
     // ---- reference counters
@@ -611,6 +609,7 @@ impl Present {
     /// [`Fault::Memory`] alone.
     pub fn copy_regions(&self, alloc: Global) -> Result<Vec<OpenRegion>, Fault>
         ensures ok { IfOk result (λ regions. map region_of regions.items ≡ self.now.table.regions) }
+        ensures exact { IfOk result (λ regions. vec_capacity regions ≡ length self.now.table.regions) }
         ensures only { IfErr result (λ fault. fault ≡ Fault.Memory) }
     {
         self.register.copy_regions(alloc)
@@ -634,7 +633,7 @@ impl Present {
         ensures room { IsRoomKept self.old.room self.new.room }
     {
         self.ranges.reserve(ranges)?;
-        self.starts.reserve(ranges)?;
+        self.starts.reserve(ranges as usize)?;
         self.register.reserve(regions as usize, holdings as usize)?;
         Ok(())
     }

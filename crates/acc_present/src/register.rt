@@ -1,16 +1,13 @@
 //! The register of open data regions.
 
-ghost use Rattle.std.specs.Prelude.{◌≡◌, ◌+◌, ◌<◌, ◌≤◌, ◌⊎◌, false, [], length, map, nat_lt, None, Some, IsSome, IfOk, IfErr, OnOk, OnErr, MatchOption, vec_capacity};
-ghost use Rattle.std.specs.VecDeque.{deque_len, deque_capacity};
+ghost use Rattle.std.specs.Prelude.{◌≡◌, ◌+◌, ◌*◌, ◌<◌, ◌≤◌, ◌⊎◌, [], length, map, None, Some, IsSome, IfOk, IfErr, OnOk, OnErr, MatchOption, vec_capacity};
 ghost use Rattle.acc_base.specs.Register.{region_at, newest_region, holdings_at, with_region, without_region};
-ghost use Rattle.acc_base.specs.Splits.{IsSplitBy};
 ghost use Rattle.acc_present.specs.Present.{AreNumbered, region_of};
-ghost use Rattle.acc_present.specs.Kept.{AreNumbersRising, live_regions, begins_gone, ends_gone, moved_up};
 
 use crate::copying::copy_regions_of;
 use acc_base::{Fault, Holding};
+use acc_index::Index;
 use std::alloc::Global;
-use std::collections::VecDeque;
 use std::marker::Model;
 use std::mem;
 
@@ -23,210 +20,27 @@ pub struct OpenRegion {
     pub holdings: Vec<Holding>,
 }
 
-/// The place of a region.
-#[derive(Drop)]
-pub struct Place {
-    /// The region, without holdings where it is gone.
-    pub region: OpenRegion,
-    /// It is open no longer.
-    pub gone: bool,
-}
-
-/// Where a number stands, or where it would stand.
-fn place_of(regions: &VecDeque<Place>, number: u64) -> usize
-    requires { AreNumbersRising regions.now.items }
-    ensures { IsSplitBy (λ p. nat_lt p.region.number number) regions.now.items result }
-{
-    // A new region mostly comes behind all, and the one that is asked for is often the oldest.
-    if let Some(newest) = regions.back()
-        && newest.region.number < number
-    {
-        return regions.len();
-    }
-    if let Some(oldest) = regions.front()
-        && number <= oldest.region.number
-    {
-        return 0;
-    }
-    regions.partition_point(|p| p.region.number < number)
-}
-
-/// What an open region holds, or `None` where there is none of that number.
-fn holdings_of(regions: &VecDeque<Place>, number: u64) -> Option<&[Holding]>
-    requires { AreNumbersRising regions.now.items }
-    ensures { MatchOption result (holdings_at number (live_regions regions.now.items) ≡ None) (λ h. holdings_at number (live_regions regions.now.items) ≡ Some h.now) }
-{
-    let place = regions.get(place_of(regions, number))?;
-    if place.region.number != number || place.gone {
-        return None;
-    }
-    Some(&place.region.holdings)
-}
-
-/// The number of the open region that was entered last, if one is open.
-fn newest_of(regions: &VecDeque<Place>) -> Option<u64>
-    requires { ends_gone regions.now.items ≡ false }
-    ensures { result ≡ newest_region (live_regions regions.now.items) }
-{
-    let last = regions.len().checked_sub(1)?;
-    Some(regions[last].region.number)
-}
-
-/// One region more, where there is room for it and none has its number.
-fn put(regions: &mut VecDeque<Place>, new: OpenRegion)
-    requires rising { AreNumbersRising regions.old.items }
-    requires last { ends_gone regions.old.items ≡ false }
-    requires new { region_at new.number (live_regions regions.old.items) ≡ None }
-    requires room { deque_len regions.old < deque_capacity regions.old }
-    ensures rising { AreNumbersRising regions.new.items }
-    ensures last { ends_gone regions.new.items ≡ false }
-    ensures regions { live_regions regions.new.items ≡ with_region (region_of new) (live_regions regions.old.items) }
-    ensures len { deque_len regions.new ≤ deque_len regions.old + 1 }
-    ensures capacity { deque_capacity regions.new ≡ deque_capacity regions.old }
-{
-    let at = place_of(regions, new.number);
-    let place = Place {
-        region: new,
-        gone: false,
-    };
-    move_up(regions, at, place);
-}
-
-/// Puts a place at an index. Those from there on move up by one, as far as the first one that is gone, which is lost. So
-/// none but open regions of higher numbers are moved.
-fn move_up(regions: &mut VecDeque<Place>, at: usize, new: Place)
-    requires within { at ≤ deque_len regions.old }
-    requires room { deque_len regions.old < deque_capacity regions.old }
-    ensures items { regions.new.items ≡ moved_up at new regions.old.items }
-    ensures len { deque_len regions.new ≤ deque_len regions.old + 1 }
-    ensures capacity { deque_capacity regions.new ≡ deque_capacity regions.old }
-{
-    let mut place = new;
-    let mut index = at;
-    while index < regions.len() {
-        let displaced = mem::replace(&mut regions[index], place);
-        if displaced.gone {
-            return;
-        }
-        place = displaced;
-        index += 1;
-    }
-    regions.push_back_reserved(place);
-}
-
-/// Lets go of what an open region holds. It keeps its place, and moves no other one.
-fn mark_gone(regions: &mut VecDeque<Place>, number: u64, alloc: Global)
-    requires rising { AreNumbersRising regions.old.items }
-    requires there { IsSome (region_at number (live_regions regions.old.items)) }
-    ensures rising { AreNumbersRising regions.new.items }
-    ensures regions { live_regions regions.new.items ≡ without_region number (live_regions regions.old.items) }
-    ensures len { deque_len regions.new ≡ deque_len regions.old }
-    ensures capacity { deque_capacity regions.new ≡ deque_capacity regions.old }
-{
-    let at = place_of(regions, number);
-    let region = OpenRegion {
-        number,
-        holdings: Vec::new(alloc),
-    };
-    regions[at] = Place { region, gone: true };
-}
-
-/// Takes places that are gone off the end.
-fn trim_back(regions: &mut VecDeque<Place>)
-    requires rising { AreNumbersRising regions.old.items }
-    ensures rising { AreNumbersRising regions.new.items }
-    ensures last { ends_gone regions.new.items ≡ false }
-    ensures regions { live_regions regions.new.items ≡ live_regions regions.old.items }
-    ensures len { deque_len regions.new ≤ deque_len regions.old }
-    ensures capacity { deque_capacity regions.new ≡ deque_capacity regions.old }
-{
-    while is_last_gone(regions) {
-        regions.pop_back();
-    }
-}
-
-/// Takes places that are gone off the front.
-fn trim_front(regions: &mut VecDeque<Place>)
-    requires rising { AreNumbersRising regions.old.items }
-    requires last { ends_gone regions.old.items ≡ false }
-    ensures rising { AreNumbersRising regions.new.items }
-    ensures last { ends_gone regions.new.items ≡ false }
-    ensures regions { live_regions regions.new.items ≡ live_regions regions.old.items }
-    ensures len { deque_len regions.new ≤ deque_len regions.old }
-    ensures capacity { deque_capacity regions.new ≡ deque_capacity regions.old }
-{
-    while is_first_gone(regions) {
-        regions.pop_front();
-    }
-}
-
-/// There is a last place, and it is gone.
-fn is_last_gone(regions: &VecDeque<Place>) -> bool
-    ensures { result ≡ ends_gone regions.now.items }
-{
-    match regions.back() {
-        Some(place) => place.gone,
-        None => false,
-    }
-}
-
-/// There is a first place, and it is gone.
-fn is_first_gone(regions: &VecDeque<Place>) -> bool
-    ensures { result ≡ begins_gone regions.now.items }
-{
-    match regions.front() {
-        Some(place) => place.gone,
-        None => false,
-    }
-}
-
-/// Takes out all places that are gone.
-fn clear_away(regions: &mut VecDeque<Place>)
-    requires rising { AreNumbersRising regions.old.items }
-    ensures rising { AreNumbersRising regions.new.items }
-    ensures last { ends_gone regions.new.items ≡ false }
-    ensures regions { live_regions regions.new.items ≡ live_regions regions.old.items }
-    ensures len { deque_len regions.new ≤ deque_len regions.old }
-    ensures capacity { deque_capacity regions.new ≡ deque_capacity regions.old }
-{
-    regions.retain(|place| !place.gone);
-}
-
 /// The open regions.
 ///
-/// A number is searched for by halves, unless it comes behind all others, or is not behind the oldest one. A region that
-/// is left stays in its place, as gone and without holdings. Those that are gone are taken off both ends at once, and
-/// from between the others as soon as they are more than half. A region that is opened below others moves those of
-/// higher numbers, as far as a place that is gone.
+/// What they hold stands in an [`Index`], by their numbers. So the newest and the oldest region are found at once, and a
+/// region that is left moves no other one.
 #[derive(Drop)]
 pub struct Register {
     alloc: Global,
-    // By rising number. The last one is not gone.
-    regions: VecDeque<Place>,
-    // How many of them are open.
-    count: usize,
+    regions: Index<Vec<Holding>>,
     // Empty, with room for the holdings of the next region.
     spare: Vec<Holding>,
 }
 
 impl Model for Register {
-    ghost use Rattle.std.specs.Prelude.{◌≡◌, ◌-◌, false, [], length, vec_capacity};
-    ghost use Rattle.std.specs.VecDeque.{deque_len, deque_capacity};
-    ghost use Rattle.acc_present.specs.Kept.{RegisterState, AreNumbersRising, live_regions, ends_gone};
+    ghost use Rattle.std.specs.Prelude.{◌≡◌, [], vec_capacity};
+    ghost use Rattle.acc_present.specs.Kept.{RegisterState, regions_in};
 
     ghost Value = { RegisterState };
 
-    ghost view = { λ r. record {
-      regions = live_regions r.regions.items;
-      room = deque_capacity r.regions - deque_len r.regions;
-      holdings = vec_capacity r.spare;
-    } };
+    ghost view = { λ r. record { regions = regions_in r.regions.entries; gone = r.regions.gone; room = r.regions.room; holdings = vec_capacity r.spare } };
 
-    ghost invariant = { λ r.
-        AreNumbersRising r.regions.items
-        × (ends_gone r.regions.items ≡ false)
-        × (r.count ≡ length (live_regions r.regions.items))
-        × (r.spare.items ≡ []) };
+    ghost invariant = { λ r. r.spare.items ≡ [] };
 }
 
 impl Register {
@@ -236,50 +50,53 @@ impl Register {
     {
         Register {
             alloc,
-            regions: VecDeque::new(alloc),
-            count: 0,
+            regions: Index::new(alloc),
             spare: Vec::new(alloc),
         }
     }
 
-    /// What holds of all open regions.
+    /// What holds of all open regions, and that no more places are kept for regions that are gone than are open.
     pub fn laws(&self)
-        ensures { AreNumbered self.now.regions }
+        ensures numbered { AreNumbered self.now.regions }
+        ensures few { self.now.gone ≤ length self.now.regions }
     {
-        let _ = &self.regions;
+        self.regions.laws();
     }
 
     /// How many regions are open.
     pub fn len(&self) -> u64
         ensures { result ≡ length self.now.regions }
     {
-        self.count as u64
+        self.regions.len() as u64
     }
 
     /// The number of the open region that was entered last, if one is open.
     pub fn newest(&self) -> Option<u64>
         ensures { result ≡ newest_region self.now.regions }
     {
-        newest_of(&self.regions)
+        self.regions.last()
     }
 
     /// What an open region holds, or `None` where there is none of that number.
     pub fn holdings(&self, number: u64) -> Option<&[Holding]>
         ensures { MatchOption result (holdings_at number self.now.regions ≡ None) (λ h. holdings_at number self.now.regions ≡ Some h.now) }
     {
-        holdings_of(&self.regions, number)
+        let holdings = self.regions.get(number)?;
+        Some(holdings)
     }
 
     /// The open regions by rising number, in a vector of their own.
     pub fn copy_regions(&self, alloc: Global) -> Result<Vec<OpenRegion>, Fault>
         ensures ok { IfOk result (λ regions. map region_of regions.items ≡ self.now.regions) }
+        ensures exact { IfOk result (λ regions. vec_capacity regions ≡ length self.now.regions) }
         ensures only { IfErr result (λ fault. fault ≡ Fault.Memory) }
     {
-        copy_regions_of(&self.regions, self.count, alloc)
+        copy_regions_of(&self.regions, alloc)
     }
 
     /// Makes room for so many more regions, the next of which has so many holdings. It is refused only where some of
-    /// that room was missing.
+    /// that room was missing. Places of regions that are gone are taken for others, where they are a quarter of all or
+    /// more.
     pub fn reserve(&mut self, regions: usize, holdings: usize) -> Result<(), Fault>
         ensures regions { self.new.regions ≡ self.old.regions }
         ensures ok { OnOk result (regions ≤ self.new.room) }
@@ -294,19 +111,20 @@ impl Register {
         Ok(())
     }
 
-    /// Opens a region. It is refused only where there was no room for one.
+    /// Opens a region. It is refused only where there was no room for one, and fewer places than a quarter were of
+    /// regions that are gone.
     pub fn enter(&mut self, number: u64, holdings: Vec<Holding>) -> Result<(), Fault>
         requires { region_at number self.old.regions ≡ None }
         ensures ok { OnOk result (self.new.regions ≡ with_region (record { number = number; holdings = holdings.items }) self.old.regions) }
         ensures only { IfErr result (λ fault. fault ≡ Fault.Memory) }
         ensures needed { OnErr result (self.old.room ≡ 0) }
+        ensures cleared { OnErr result ((3 * self.old.gone < length self.old.regions) ⊎ (self.old.gone ≡ 0)) }
         ensures unchanged { OnErr result (self.new.regions ≡ self.old.regions) }
         ensures room { self.old.room ≤ self.new.room + 1 }
         ensures room_holdings { self.old.holdings ≤ self.new.holdings }
     {
         self.regions.reserve(1)?;
-        put(&mut self.regions, OpenRegion { number, holdings });
-        self.count += 1;
+        self.regions.insert(number, holdings);
         Ok(())
     }
 
@@ -320,14 +138,7 @@ impl Register {
     {
         let mut own = mem::replace(&mut self.spare, Vec::new(self.alloc));
         let _ = own.extend_from_slice(holdings);
-        put(
-            &mut self.regions,
-            OpenRegion {
-                number,
-                holdings: own,
-            },
-        );
-        self.count += 1;
+        self.regions.insert(number, own);
     }
 
     /// The region is no longer open.
@@ -337,12 +148,7 @@ impl Register {
         ensures room { self.old.room ≤ self.new.room }
         ensures room_holdings { self.old.holdings ≤ self.new.holdings }
     {
-        mark_gone(&mut self.regions, number, self.alloc);
-        self.count -= 1;
-        trim_back(&mut self.regions);
-        trim_front(&mut self.regions);
-        if self.regions.len() / 2 < self.regions.len() - self.count {
-            clear_away(&mut self.regions);
-        }
+        // The oldest region is looked at first.
+        self.regions.take_out_near(number, 0);
     }
 }

@@ -1,7 +1,7 @@
 use Rattle.std.proofs.Common.{◌≡◌, Some, get_or, ◌∙◌}
-use Rattle.acc_index.specs.Indexed.{IsSlotOf}
+use Rattle.acc_dev.specs.Slots.{IsSlotOf}
 use Rattle.acc_dev.specs.Kept.{block_from, memory_from, mark_from, slot_of}
-use Rattle.acc_index.proofs.Rising.{start}
+use Rattle.acc_dev.proofs.Rising.{start}
 use Rattle.acc_dev.proofs.Slots.{AreSame, KeepsOthers, made-removed}
 use Rattle.acc_dev.proofs.Lent.{loans_in-same, loans_in-remove}
 use Rattle.acc_dev.proofs.Keeping.{filled_slot, len_stored}

@@ -9,8 +9,8 @@ use Rattle.acc_dev.proofs.Keeping.{device_of, block_listed, filled_slot, room_ke
 use Rattle.acc_dev.proofs.Writes.{marked_kept, marked_of, lent_mapped}
 use Rattle.acc_dev.proofs.devices.Device.mark.Goals as goal
 
-pub slot_near-slot-requires-clause-there : goal.slot_near-slot-requires-clause-there
-slot_near-slot-requires-clause-there c = (block_listed c.self.inside c.args.self.now c.args.block c.self.view_is c.requires.there)
+pub slot_near-slot-requires : goal.slot_near-slot-requires
+slot_near-slot-requires c = (block_listed c.self.inside c.args.self.now c.args.block c.self.view_is c.requires.there)
 
 pub set_mark-requires : goal.set_mark-requires
 set_mark-requires c =

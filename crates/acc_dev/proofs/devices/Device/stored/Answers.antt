@@ -5,8 +5,8 @@ use Rattle.acc_dev.specs.Room.{room_ready}
 use Rattle.acc_dev.proofs.Keeping.{block_listed, filled_slot, stored_of}
 use Rattle.acc_dev.proofs.devices.Device.stored.Goals as goal
 
-pub slot_of_block-requires-clause-there : goal.slot_of_block-requires-clause-there
-slot_of_block-requires-clause-there c = (block_listed c.self.inside c.args.self.now c.args.block c.self.view_is c.requires)
+pub slot_of_block-requires : goal.slot_of_block-requires
+slot_of_block-requires c = (block_listed c.self.inside c.args.self.now c.args.block c.self.view_is c.requires)
 
 pub index-requires : goal.index-requires
 index-requires c =

@@ -5,8 +5,8 @@ use Rattle.acc_dev.specs.Room.{room_ready}
 use Rattle.acc_dev.proofs.Keeping.{block_listed, filled_slot, stored_of}
 use Rattle.acc_dev.proofs.devices.Device.stored_near.Goals as goal
 
-pub slot_near-requires-clause-there : goal.slot_near-requires-clause-there
-slot_near-requires-clause-there c = (block_listed c.self.inside c.args.self.now c.args.block c.self.view_is c.requires)
+pub slot_near-requires : goal.slot_near-requires
+slot_near-requires c = (block_listed c.self.inside c.args.self.now c.args.block c.self.view_is c.requires)
 
 pub index-requires : goal.index-requires
 index-requires c =

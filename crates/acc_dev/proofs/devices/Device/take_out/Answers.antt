@@ -12,8 +12,8 @@ use Rattle.acc_dev.proofs.Writes.{lent_kept, taken_out_of}
 use Rattle.acc_dev.proofs.Lends.{lent_at, none_here, section_within, capped_at}
 use Rattle.acc_dev.proofs.devices.Device.take_out.Goals as goal
 
-pub slot_of_block-slot-requires-clause-there : goal.slot_of_block-slot-requires-clause-there
-slot_of_block-slot-requires-clause-there c = (block_listed c.self.inside c.args.self.now c.args.block c.self.view_is c.requires.there)
+pub slot_of_block-slot-requires : goal.slot_of_block-slot-requires
+slot_of_block-slot-requires c = (block_listed c.self.inside c.args.self.now c.args.block c.self.view_is c.requires.there)
 
 pub copy_at-requires : goal.copy_at-requires
 copy_at-requires c =

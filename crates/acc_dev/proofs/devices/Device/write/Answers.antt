@@ -7,8 +7,8 @@ use Rattle.acc_dev.proofs.EndedPlaces.{ended_same}
 use Rattle.acc_dev.proofs.Writes.{within_slot, written_kept, written_of}
 use Rattle.acc_dev.proofs.devices.Device.write.Goals as goal
 
-pub slot_of_block-slot-requires-clause-there : goal.slot_of_block-slot-requires-clause-there
-slot_of_block-slot-requires-clause-there c = (block_listed c.self.inside c.args.self.now c.args.block c.self.view_is c.requires.there)
+pub slot_of_block-slot-requires : goal.slot_of_block-slot-requires
+slot_of_block-slot-requires c = (block_listed c.self.inside c.args.self.now c.args.block c.self.view_is c.requires.there)
 
 pub write_at-requires-clause-filled : goal.write_at-requires-clause-filled
 write_at-requires-clause-filled c =

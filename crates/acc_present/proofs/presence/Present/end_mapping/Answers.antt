@@ -4,6 +4,8 @@ use Rattle.std.specs.List.{AllByRecursion}
 use Rattle.acc_base.specs.declared.mappings.Range.{Range}
 use Rattle.acc_base.specs.Ranges.{without_range}
 use Rattle.acc_base.proofs.Elements.{AllByRecursion-filter}
+use Rattle.acc_index.specs.Indexed.{value_at}
+use Rattle.acc_index.proofs.Indexing.{value-without}
 use Rattle.acc_ordered.specs.Listing.{at_key}
 use Rattle.acc_present.specs.Present.{PresentState, IsWithinLimit, with_ranges}
 use Rattle.acc_present.specs.Kept.{start_in, ranges_in}
@@ -13,15 +15,15 @@ use Rattle.acc_present.proofs.presence.Present.end_mapping.Goals as goal
 pub remove-requires : goal.remove-requires
 remove-requires c =
     let es = c.self.inside.ranges.entries in
-    let found = started c.args.block c.in-Some.start es (start_in c.self.inside.starts) c.self.invariant.2 (sym c.get.ensures ∙ c.in-Some.is) in
+    let found = started c.args.block c.take_out_near-start.result es (start_in c.self.inside.starts) c.self.invariant.2 c.take_out_near-start.ensures.value in
     record { there = subst (λ (n : ℕ). IsSome (at_key n es)) found.2 (key_there c.args.block es found.0 c.self.invariant.2.mapped found.1) }
 
-now : (c : goal.After-remove-2) → IsUnmappedNow c.args.block c.self.inside.ranges.entries c.remove.new.self.entries (start_in c.remove-2.new.self)
+now : (c : goal.After-remove) → IsUnmappedNow c.args.block c.self.inside.ranges.entries c.remove.new.self.entries (start_in c.take_out_near-start.new.self)
 now c =
     let es = c.self.inside.ranges.entries in
     let starts = start_in c.self.inside.starts in
-    let found = started c.args.block c.in-Some.start es starts c.self.invariant.2 (sym c.get.ensures ∙ c.in-Some.is) in
-    rw (c.remove.ensures.entries, ← found.2) (unmapped_now c.args.block es starts (start_in c.remove-2.new.self) found.0 c.self.invariant.2 found.1 c.remove-2.ensures.of)
+    let found = started c.args.block c.take_out_near-start.result es starts c.self.invariant.2 c.take_out_near-start.ensures.value in
+    rw (c.remove.ensures.entries, ← found.2) (unmapped_now c.args.block es starts (start_in c.take_out_near-start.new.self) found.0 c.self.invariant.2 found.1 (λ b. ap (value_at b) c.take_out_near-start.ensures.entries ∙ value-without c.args.block b c.self.inside.starts.entries))
 
 pub invariant_of-self : goal.invariant_of-self
 invariant_of-self c =

@@ -1,4 +1,4 @@
-use Rattle.std.proofs.Common.{Option, ap, sym, ◌∙◌}
+use Rattle.std.proofs.Common.{◌≡◌, Option, Some, ap, ◌∙◌}
 use Rattle.std.specs.Prelude.{option_map}
 use Rattle.acc_base.specs.declared.mappings.Range.{Range}
 use Rattle.acc_base.specs.Ranges.{range_of}
@@ -10,5 +10,5 @@ use Rattle.acc_present.proofs.presence.Present.range.Goals as goal
 
 pub returns : goal.returns
 returns c =
-    let given = sym c.get.ensures ∙ c.in_ok-start.was in
-    c.range_if.ensures ∙ ap (λ (o : Option (Entry Range)). option_map (λ (e : Entry Range). e.value) o) c.get-2.ensures ∙ range_at c.args.block c.in_ok-start.start c.self.inside.ranges.entries (start_in c.self.inside.starts) c.self.invariant.2 given ∙ ap (λ (p : PresentState). range_of c.args.block p.table.ranges) c.self.view_is
+    let given : start_in c.self.inside.starts c.args.block ≡ Some c.in_ok-start.start.now = rw c.in_ok-start.was at c.get.ensures in
+    c.range_if.ensures ∙ ap (λ (o : Option (Entry Range)). option_map (λ (e : Entry Range). e.value) o) c.get-2.ensures ∙ range_at c.args.block c.in_ok-start.start.now c.self.inside.ranges.entries (start_in c.self.inside.starts) c.self.invariant.2 given ∙ ap (λ (p : PresentState). range_of c.args.block p.table.ranges) c.self.view_is

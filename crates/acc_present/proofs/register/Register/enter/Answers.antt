@@ -1,16 +1,15 @@
-use Rattle.std.proofs.Common.{length, ap, arith}
-use Rattle.acc_present.specs.Kept.{live_regions}
-use Rattle.acc_present.proofs.Registering.{one_with, regions_few}
+use Rattle.std.proofs.Common.{ap, ◌∙◌}
+use Rattle.acc_base.specs.Register.{region_at, with_region}
+use Rattle.acc_index.specs.Indexed.{with_value}
+use Rattle.acc_present.specs.Kept.{RegisterState, regions_in}
+use Rattle.acc_present.proofs.Registering.{new_number, region_more}
 use Rattle.acc_present.proofs.register.Register.enter.Goals as goal
 
-pub overflow_add-self : goal.overflow_add-self
-overflow_add-self c =
-    let few = regions_few c.self.inside.regions.items in
-    omega (arith, few, c.self.invariant.2)
+pub insert-requires-clause-new : goal.insert-requires-clause-new
+insert-requires-clause-new c = rw c.in_ok-reserve.ensures.entries (new_number c.args.number c.self.inside.regions.entries (ap (λ (s : RegisterState). region_at c.args.number s.regions) c.self.view_is ∙ c.requires))
 
-pub invariant_of-self-2 : goal.invariant_of-self-2
-invariant_of-self-2 c =
-    let more = one_with (record { number = c.args.number; holdings = c.args.holdings.items }) (live_regions c.reserve.new.self.items) in
-    let count = ap (λ rs. length rs) c.put.ensures.regions in
-    let same = ap (λ xs. length (live_regions xs)) c.reserve.ensures.items in
-    (c.put.ensures.rising, c.put.ensures.last, omega (arith, more, count, same, c.self.invariant.2), c.self.invariant.3)
+pub returns-clause-ok : goal.returns-clause-ok
+returns-clause-ok c =
+    ap regions_in (c.insert.ensures.entries ∙ ap (with_value c.args.number c.args.holdings) c.in_ok-reserve.ensures.entries)
+    ∙ region_more c.args.number c.args.holdings c.self.inside.regions.entries
+    ∙ ap (λ (s : RegisterState). with_region (record { number = c.args.number; holdings = c.args.holdings.items }) s.regions) c.self.view_is

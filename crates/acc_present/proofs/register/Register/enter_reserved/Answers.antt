@@ -1,15 +1,16 @@
-use Rattle.std.proofs.Common.{length, ap, arith, rules}
-use Rattle.acc_present.specs.Kept.{live_regions}
-use Rattle.acc_present.proofs.Registering.{one_with, regions_few}
+use Rattle.std.proofs.Common.{◌≡◌, rules, ap, ◌∙◌}
+use Rattle.acc_base.specs.Register.{region_at, with_region}
+use Rattle.acc_present.specs.Kept.{RegisterState, regions_in}
+use Rattle.acc_present.proofs.Registering.{new_number, region_more}
 use Rattle.acc_present.proofs.register.Register.enter_reserved.Goals as goal
 
-pub overflow_add-self : goal.overflow_add-self
-overflow_add-self c =
-    let few = regions_few c.self.inside.regions.items in
-    omega (arith, few, c.self.invariant.2)
+pub insert-requires-clause-new : goal.insert-requires-clause-new
+insert-requires-clause-new c = new_number c.args.number c.self.inside.regions.entries (ap (λ (s : RegisterState). region_at c.args.number s.regions) c.self.view_is ∙ c.requires.new)
 
-pub invariant_of-self : goal.invariant_of-self
-invariant_of-self c =
-    let more = one_with (record { number = c.args.number; holdings = c.extend_from_slice.new.self.items }) (live_regions c.self.inside.regions.items) in
-    let count = ap (λ rs. length rs) c.put.ensures.regions in
-    (c.put.ensures.rising, c.put.ensures.last, omega (arith, more, count, c.self.invariant.2), search (rules, c.new.ensures.items))
+pub returns-clause-regions : goal.returns-clause-regions
+returns-clause-regions c =
+    let own : c.extend_from_slice.new.self.items ≡ c.args.holdings.now = search rules in
+    ap regions_in c.insert.ensures.entries
+    ∙ region_more c.args.number c.extend_from_slice.new.self c.self.inside.regions.entries
+    ∙ ap (λ hs. with_region (record { number = c.args.number; holdings = hs }) (regions_in c.self.inside.regions.entries)) own
+    ∙ ap (λ (s : RegisterState). with_region (record { number = c.args.number; holdings = c.args.holdings.now }) s.regions) c.self.view_is

@@ -1,5 +1,5 @@
 -- A count of the keys of a row that lie below a key, eighth by eighth and then one by one.
-use Rattle.std.proofs.Common.{ℕ, zero, suc, ◌≡◌, ◌+◌, ◌-◌, ◌*◌, ◌<◌, ◌≤◌, ◌⊎◌, inl, inr, true, false, List, [], ◌∷◌, length, get_or, take, drop, arith, sym, subst, ◌∙◌}
+use Rattle.std.proofs.Common.{ℕ, zero, suc, ◌≡◌, ◌+◌, ◌-◌, ◌*◌, ◌<◌, ◌≤◌, ◌⊎◌, inl, inr, true, false, List, [], ◌∷◌, length, get_or, take, drop, arith, sym, subst}
 use Rattle.std.specs.Prelude.{nat_lt}
 use Rattle.std.specs.Bool.{if◌then◌else◌}
 use Rattle.std.specs.List.{AllByRecursion}
@@ -118,24 +118,27 @@ passed_front keys key (suc i) rising bound less =
     let same : suc i - 1 ≡ i = omega arith in
     passed_up (λ (k : ℕ). k) key keys i 0 rising (omega arith) (subst (λ (n : ℕ). get_or keys n 0 < key) same (less (omega arith)))
 
-failed_back : (keys : List ℕ) (key high place : ℕ) → Rising keys → high ≤ length keys → place ≡ high → (0 < place → get_or keys (place - 1) 0 < key) → (high < length keys → (0 < high) × (key ≤ get_or keys (high - 1) 0)) → high ≡ length keys
-failed_back keys key high place rising bound same passed last =
-    let less : 0 < high → get_or keys (high - 1) 0 < key = subst (λ (n : ℕ). 0 < n → get_or keys (n - 1) 0 < key) same passed in
-    elim (less_or_same high (length keys) bound) [ inl w ↦ absurd (let l : get_or keys (high - 1) 0 < key = less (last w).0 in let m : key ≤ get_or keys (high - 1) 0 = (last w).1 in omega arith) | inr w ↦ w ]
-
 drop_all : (keys : List ℕ) (key : ℕ) → AllByRecursion (λ k. nat_lt k key ≡ false) (drop (length keys) keys)
 drop_all [] key = tt
 drop_all (x ∷ xs) key = drop_all xs key
 
--- so the row is split there, where the end is that of the row or of an eighth that does not lie below whole
-pub counted_split : (keys : List ℕ) (key high place : ℕ) → Rising keys → high ≤ length keys → IsCounted keys key high place → (high < length keys → (0 < high) × (key ≤ get_or keys (high - 1) 0)) → IsSplitBy (λ k. nat_lt k key) keys place
-counted_split keys key high place rising bound counted last =
+-- no key lies below from a place on whose own does not, or that is the end
+none_behind : (keys : List ℕ) (key high : ℕ) → Rising keys → high ≤ length keys → (high < length keys → key ≤ get_or keys high 0) → AllByRecursion (λ k. nat_lt k key ≡ false) (drop high keys)
+none_behind keys key high rising bound next =
+    elim (less_or_same high (length keys) bound) [
+      | inl w ↦ failed_down (λ (k : ℕ). k) key keys high 0 rising w (next w)
+      | inr w ↦ subst (λ (n : ℕ). AllByRecursion (λ k. nat_lt k key ≡ false) (drop n keys)) (sym w) (drop_all keys key)
+    ]
+
+-- so the row is split there, where the key at the end does not lie below, or that is the end of the row
+pub counted_split : (keys : List ℕ) (key high place : ℕ) → Rising keys → high ≤ length keys → IsCounted keys key high place → (high < length keys → key ≤ get_or keys high 0) → IsSplitBy (λ k. nat_lt k key) keys place
+counted_split keys key high place rising bound counted next =
     let order : place ≤ high = counted.order in
     record {
       bound = omega arith;
       passed = passed_front keys key place rising (omega arith) counted.passed;
       failed = elim (less_or_same place high order) [
         | inl w ↦ failed_down (λ (k : ℕ). k) key keys place 0 rising (omega arith) (counted.failed w)
-        | inr w ↦ subst (λ (n : ℕ). AllByRecursion (λ k. nat_lt k key ≡ false) (drop n keys)) (sym (w ∙ failed_back keys key high place rising bound w counted.passed last)) (drop_all keys key)
+        | inr w ↦ subst (λ (n : ℕ). AllByRecursion (λ k. nat_lt k key ≡ false) (drop n keys)) (sym w) (none_behind keys key high rising bound next)
       ];
     }

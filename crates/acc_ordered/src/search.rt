@@ -32,18 +32,18 @@ fn count_eighths(keys: &[u64], key: u64, comparisons: &mut Steps) -> usize
     low
 }
 
-/// How many keys of a row lie below `key`, by at most sixteen comparisons. No branch is taken by any of them: which one
-/// a search takes in the end cannot be foreseen.
+/// How many keys of a row lie below `key`, by at most fifteen comparisons: one for each eighth, and seven in the one
+/// where the count ends. No branch is taken by any of them: which one a search takes in the end cannot be foreseen.
 #[inline]
 pub fn count_below(keys: &[u64], key: u64, comparisons: &mut Steps) -> usize
     requires rising { EachPair (λ (a : ℕ) (b : ℕ). a < b) keys.now }
     requires few { length keys.now ≤ 64 }
     requires limit { comparisons.old ≤ 2 ^ 32 }
     ensures split { IsSplitBy (λ k. nat_lt k key) keys.now result }
-    ensures comparisons { comparisons.new ≤ comparisons.old + 16 }
+    ensures comparisons { comparisons.new ≤ comparisons.old + 15 }
 {
     let low = count_eighths(keys, key, comparisons);
-    let high = keys.len().min(low + 8);
+    let high = keys.len().min(low + 7);
     let mut place = low;
     for nth in low..high {
         comparisons.tick();

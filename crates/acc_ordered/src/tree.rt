@@ -25,7 +25,7 @@ use std::marker::Model;
 /// or 8 entries, that row is joined with one beside it, if they have at most 32 together, and a node waits again. So does
 /// one whose row becomes empty.
 ///
-/// A search comes to at most two nodes for each binary digit of the number of entries. It then makes at most sixteen
+/// A search comes to at most two nodes for each binary digit of the number of entries. It then makes at most fifteen
 /// comparisons in one row, none of which is a branch.
 pub struct Tree<T: Copy> {
     alloc: Global,
@@ -122,7 +122,8 @@ impl<T: Copy> Tree<T> {
     }
 
     /// The entry of a key, if it is there, by at most two steps for each binary digit of the number of entries. There is
-    /// one at least where there are entries. At most 2^32 were counted before.
+    /// one at least where there are entries. A step is a node; the keys of the one row that is read are not counted, of
+    /// which at most fifteen are compared. At most 2^32 were counted before.
     #[inline]
     pub fn get_counted<'a>(&'a self, key: u64, steps: &mut Steps) -> Option<Found<'a, T>>
         requires limit { steps.old ≤ 2 ^ 32 }
@@ -146,7 +147,7 @@ impl<T: Copy> Tree<T> {
     }
 
     /// The entries on both sides of a key, by at most two steps for each binary digit of the number of entries. There is
-    /// one at least where there are entries. At most 2^32 were counted before.
+    /// one at least where there are entries. A step is as in [`Tree::get_counted`]. At most 2^32 were counted before.
     #[inline]
     pub fn around_counted<'a>(&'a self, key: u64, steps: &mut Steps) -> Around<'a, T>
         requires limit { steps.old ≤ 2 ^ 32 }

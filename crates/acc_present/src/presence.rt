@@ -118,8 +118,9 @@ impl Present {
     }
 
     /// Where a section lies, as [`Present::find`] says, by at most two steps for each binary digit of the number of
-    /// mapped ranges. There is one at least where ranges are mapped and the section is not empty. At most 2^32 were
-    /// counted before.
+    /// mapped ranges. There is one at least where ranges are mapped and the section is not empty. A step is a node that
+    /// holds up to 64 ranges. Of one node the ranges are compared too, at most fifteen, and not counted. At most 2^32
+    /// were counted before.
     pub fn find_counted(&self, section: Section, steps: &mut Steps) -> Found
         requires limit { steps.old ≤ 2 ^ 32 }
         ensures found { result ≡ where_is section self.now.table.ranges }

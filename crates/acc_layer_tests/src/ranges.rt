@@ -1,10 +1,10 @@
-//! Ranges that come and go in no order, beside a plain list of them, and a million of them.
+//! Ranges that come and go in no order, beside a plain list of them; rows of few that are joined; and a million of them.
 
 ghost use Rattle.acc_present.specs.Present.{HasRange};
 
 use crate::mappings::{is_absent, map_all, section_of};
 use crate::placement::following;
-use acc_base::{Counters, Fault, Found, Section};
+use acc_base::{Counters, Fault, Found, Section, Steps};
 use acc_present::Present;
 use std::alloc::Global;
 use std::test::Fail;
@@ -87,6 +87,68 @@ fn first_difference(alloc: Global, steps: u64) -> Result<Option<u64>, Fault> {
 #[test]
 fn ten_thousand_changes_agree_with_a_list(rt: HostRuntime) -> Result<(), Fail> {
     assert_eq!(rt; first_difference(rt.alloc(), 10_000)?, None);
+    Ok(())
+}
+
+/// To how many blocks ranges are mapped, by rising addresses; which of these mappings end, from one block to another; and
+/// how many nodes a search for the range of a block comes to then.
+///
+/// A node is a row, which has place for 64, and these fill one after the other. Two of them are the first and, on its
+/// right, the second. Seven are three one below the other, with the fourth at the top and the first on the left. Where a
+/// row comes to 16 or to 8, it is joined with one beside it, if they have at most 32 together. So of seven rows that come
+/// to one range each, every one but the first is joined on its way, and a single node is left.
+const JOINED: &[(u64, &[(u64, u64)], u64, u64)] = &[
+    (128, &[], 64, 2),
+    (128, &[(80, 128), (0, 47)], 64, 2),
+    (128, &[(80, 128), (0, 48)], 64, 1),
+    (128, &[(0, 48), (80, 128)], 64, 1),
+    (128, &[(81, 128), (0, 48)], 64, 2),
+    (128, &[(81, 128), (0, 56)], 64, 1),
+    (448, &[], 0, 3),
+    (
+        448,
+        &[
+            (1, 64),
+            (65, 128),
+            (129, 192),
+            (193, 256),
+            (257, 320),
+            (321, 384),
+            (385, 448),
+        ],
+        0,
+        1,
+    ),
+];
+
+/// Ends the mappings to the blocks from one to another.
+fn end_all(present: &mut Present, from: u64, to: u64) {
+    for block in from..to {
+        if present.range(block).is_some() {
+            end_mapping(present, block);
+        }
+    }
+}
+
+/// How many nodes a search for the range of a block comes to, of so many that were mapped and some whose mappings ended.
+fn nodes_to(alloc: Global, count: u64, ended: &[(u64, u64)], block: u64) -> Result<u64, Fault> {
+    let mut present = Present::new(alloc, 1);
+    map_all(&mut present, count)?;
+    for (from, to) in ended {
+        end_all(&mut present, *from, *to);
+    }
+    let mut steps = Steps::new();
+    present.find_counted(section_of(block), &mut steps);
+    Ok(steps.count())
+}
+
+// No contract says that rows are joined. Where none is, memory grows with the ranges that were mapped at any time.
+#[test]
+fn rows_of_few_ranges_are_joined(rt: HostRuntime) -> Result<(), Fail> {
+    for (count, ended, block, nodes) in JOINED {
+        let found = nodes_to(rt.alloc(), *count, ended, *block)?;
+        assert_eq!(rt; found, *nodes, "{count} {ended:?} {block}");
+    }
     Ok(())
 }
 

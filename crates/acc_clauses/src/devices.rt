@@ -1,6 +1,6 @@
 //! What one device has, as one value, and how it changes.
 
-ghost use Rattle.std.specs.Prelude.{ℕ, ◌≡◌, ◌+◌, ◌^◌, ◌<◌, ◌≤◌, List, All, IfOk, IfErr, OnOk, OnErr, IsSome, None, Ok, length, take, true, false};
+ghost use Rattle.std.specs.Prelude.{ℕ, ◌≡◌, ◌+◌, ◌^◌, ◌<◌, ◌≤◌, List, [], All, IfOk, IfErr, OnOk, OnErr, IsSome, None, Ok, length, take, true, false};
 ghost use Rattle.acc_base.specs.declared.faults.Fault.TheVariants.{Memory};
 ghost use Rattle.acc_base.specs.Limits.{IsFromOne, IsWithinBounds, limits_on};
 ghost use Rattle.acc_base.specs.Section.{device_memory};
@@ -153,7 +153,8 @@ impl DeviceData {
     ///
     /// # Errors
     ///
-    /// [`Fault::Memory`] alone, where some of that room was missing. The bytes of a birth are always made anew.
+    /// [`Fault::Memory`] alone, where some of that room was missing. The bytes of a birth are always made anew. None are
+    /// kept for other births, and none at all where it is refused.
     pub(crate) fn reserve(
         &mut self,
         lens: &[u64],
@@ -166,16 +167,19 @@ impl DeviceData {
         ensures limits { self.new.limits ≡ self.old.limits }
         ensures device { self.new.device ≡ self.old.device }
         ensures room { OnOk result (HasRoomFor lens.now self.new.room) }
+        ensures births { OnOk result (self.new.room.births ≡ lens.now) }
+        ensures refused { OnErr result (self.new.room.births ≡ []) }
         ensures room_region { OnOk result (HasRegionRoom regions holdings self.new.room) }
         ensures room_pointers { OnOk result (pointers ≤ self.new.room.attachments) }
         ensures puts { self.new.room.puts ≡ self.old.room.puts }
         ensures only { IfErr result (λ fault. fault ≡ Memory) }
         ensures needed { OnErr result (LacksRoom lens.now regions holdings pointers self.old.room) }
     {
-        // Most directives need no room, and what follows would look at each list for it. What was made for births that
-        // never came is given up all the same.
+        // What was made for births that never came is given up before all else.
+        self.environment.device.reserve(&[])?;
+        // Most directives need no room, and what follows would look at each list for it.
         if lens.is_empty() && regions == 0 && holdings == 0 && pointers == 0 {
-            return self.environment.device.reserve(&[]);
+            return Ok(());
         }
         self.grow(lens, regions, holdings, pointers)
     }
@@ -190,21 +194,24 @@ impl DeviceData {
     ) -> Result<(), Fault>
         requires few { length lens.now ≤ 64 }
         requires lens { All (IsFromOne MEMORY_MAX) lens.now }
+        requires none { self.old.room.births ≡ [] }
         ensures limits { self.new.limits ≡ self.old.limits }
         ensures device { self.new.device ≡ self.old.device }
         ensures room { OnOk result (HasRoomFor lens.now self.new.room) }
+        ensures births { OnOk result (self.new.room.births ≡ lens.now) }
+        ensures refused { OnErr result (self.new.room.births ≡ []) }
         ensures room_region { OnOk result (HasRegionRoom regions holdings self.new.room) }
         ensures room_pointers { OnOk result (pointers ≤ self.new.room.attachments) }
         ensures puts { self.new.room.puts ≡ self.old.room.puts }
         ensures only { IfErr result (λ fault. fault ≡ Memory) }
         ensures needed { OnErr result (LacksRoom lens.now regions holdings pointers self.old.room) }
     {
-        self.environment.device.reserve(lens)?;
         self.environment
             .present
             .reserve(lens.len() as u64, regions, holdings)?;
         self.environment.attached.reserve(pointers)?;
-        Ok(())
+        // Last comes what is large, so that none of it stays where other room is refused.
+        self.environment.device.reserve(lens)
     }
 
     /// Makes room for so many transfers in a queue. Nothing else changes, also where it is refused.

@@ -17,7 +17,7 @@ ghost use Rattle.acc_host.specs.Host.{bytes_in, IsRead, IsOutOfHost};
 ghost use Rattle.acc_clauses.specs.Contents.{AreNew};
 ghost use Rattle.acc_clauses.specs.Devices.{device_in_view, in_use};
 ghost use Rattle.acc_clauses.specs.Planned.{IsPlanOf, state_by};
-ghost use Rattle.acc_clauses.specs.Acts.{CanWrite, HasPlanRoom, LacksPlanRoom};
+ghost use Rattle.acc_clauses.specs.Acts.{CanWrite, HasPlanRoom, LacksPlanRoom, lens_born};
 
 use crate::devices::DeviceData;
 use crate::effects::puts_in;
@@ -146,6 +146,8 @@ impl Store {
         ensures limits { self.new.limits ≡ self.old.limits }
         ensures state { self.new.state ≡ self.old.state }
         ensures room { OnOk result (HasPlanRoom directive.now plan.now self.new.room) }
+        ensures births { OnOk result (self.new.room.births ≡ lens_born plan.now.tasks plan.now.dids) }
+        ensures unplanned { lens_born plan.now.tasks plan.now.dids ≡ [] → self.new.room.births ≡ [] }
         ensures only { IfErr result (λ fault. fault ≡ Memory) }
         ensures needed { OnErr result (LacksPlanRoom directive.now plan.now self.old.room) }
     {

@@ -1,5 +1,4 @@
 use Rattle.std.proofs.Common.{ℕ, ◌≡◌, List, [], ◌∷◌, length, refl, arith}
-use Rattle.std.specs.Prelude.{Result, Ok, Err, OnOk}
 use Rattle.std.proofs.lemmas.Bool.Decides.{nat_tests}
 use Rattle.acc_clauses.specs.Contents.{Room}
 use Rattle.acc_clauses.specs.Acts.{HasRoomFor}
@@ -10,10 +9,5 @@ no_births : (lens : List ℕ) (room : Room) → length lens ≡ 0 → HasRoomFor
 no_births [] room none = record { rest = room.births; births_are = refl; ranges = omega arith }
 no_births (x ∷ xs) room none = absurd (omega arith)
 
--- whatever comes of a call
-in_any_case : {A E : Type 0} (r : Result A E) (P : Type 0) → P → OnOk r P
-in_any_case (Ok x) P h = h
-in_any_case (Err e) P h = tt
-
 pub returns-then-pointers-eq0-clause-room : goal.returns-then-pointers-eq0-clause-room
-returns-then-pointers-eq0-clause-room c = in_any_case c.reserve.result _ (no_births c.args.lens.now _ (grind (arith, nat_tests, c.if-is_empty.ensures)))
+returns-then-pointers-eq0-clause-room c = no_births c.args.lens.now _ (grind (arith, nat_tests, c.if-is_empty.ensures))

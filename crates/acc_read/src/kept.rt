@@ -1,10 +1,27 @@
 //! A list that is filled while a line is read.
 
-ghost use Rattle.std.specs.Prelude.{◌≡◌, ◌==◌, ◌∷◌, ◌++◌, [], false, List, length, MatchResult};
+ghost use Rattle.std.specs.Prelude.{◌≡◌, ◌==◌, ◌∷◌, ◌++◌, [], false, IfOk, IsOk, List, length, vec_len, vec_capacity, MatchResult};
 ghost use Rattle.acc_read.specs.Meanings.{IsKept};
 
 use acc_base::List as Items;
 use std::alloc::{AllocError, Global};
+
+/// A copy that has no room to spare.
+///
+/// # Errors
+///
+/// Where there is no memory for it.
+fn fitted<T: Copy>(alloc: Global, items: &[T]) -> Result<Vec<T>, AllocError>
+    ensures same { IfOk result (λ copy. copy.items ≡ items.now) }
+    ensures fits { IfOk result (λ copy. vec_capacity copy ≡ vec_len copy) }
+    ensures needed { items.now ≡ [] → IsOk result }
+{
+    let mut copy = Vec::with_capacity(alloc, items.len())?;
+    for item in items {
+        copy.push_reserved(*item);
+    }
+    Ok(copy)
+}
 
 /// What is kept of the items of a line. One alone takes no memory. Once memory was refused for one of them no more are
 /// kept, and the rest of the line can still be read for its faults.
@@ -46,6 +63,25 @@ impl<T: Copy> Kept<T> {
         }
     }
 
+    /// The item that stands alone, or all items, with no room to spare.
+    ///
+    /// # Errors
+    ///
+    /// Where memory was wanting for one of them, or is for that.
+    fn whole(self) -> Result<Result<Vec<T>, T>, AllocError>
+        ensures all { (items : List T) → IsKept self items
+            → MatchResult result (λ whole. MatchResult whole (λ all. all.items ≡ items) (λ item. item ∷ [] ≡ items)) (λ _. (length items == 0) ≡ false) }
+        ensures fits { IfOk result (λ whole. IfOk whole (λ all. vec_capacity all ≡ vec_len all)) }
+    {
+        if self.is_wanting {
+            return Err(AllocError);
+        }
+        match self.alone {
+            Some(item) => Ok(Err(item)),
+            None => Ok(Ok(fitted(*self.items.allocator(), &self.items)?)),
+        }
+    }
+
     /// All items, in no more memory than they need: one takes none.
     ///
     /// # Errors
@@ -55,14 +91,9 @@ impl<T: Copy> Kept<T> {
         ensures { (items : List T) → IsKept self items
             → MatchResult result (λ all. all ≡ items) (λ _. (length items == 0) ≡ false) }
     {
-        if self.is_wanting {
-            return Err(AllocError);
+        match self.whole()? {
+            Ok(items) => Ok(Items::from_vec(items)),
+            Err(item) => Ok(Items::one(item)),
         }
-        let mut items = self.items;
-        if let Some(item) = self.alone {
-            return Ok(Items::one(item));
-        }
-        items.shrink_to_fit();
-        Ok(Items::from_vec(items))
     }
 }

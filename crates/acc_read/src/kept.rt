@@ -67,7 +67,7 @@ impl<T: Copy> Kept<T> {
     ///
     /// # Errors
     ///
-    /// Where memory was wanting for one of them, or is for that.
+    /// Where memory was wanting for one of them, or is for a list of just their length.
     fn whole(self) -> Result<Result<Vec<T>, T>, AllocError>
         ensures all { (items : List T) → IsKept self items
             → MatchResult result (λ whole. MatchResult whole (λ all. all.items ≡ items) (λ item. item ∷ [] ≡ items)) (λ _. (length items == 0) ≡ false) }
@@ -86,7 +86,7 @@ impl<T: Copy> Kept<T> {
     ///
     /// # Errors
     ///
-    /// Where memory was wanting for one of them.
+    /// Where memory was wanting for one of them, or is for a list of just their length.
     pub fn finish(self) -> Result<Items<T>, AllocError>
         ensures { (items : List T) → IsKept self items
             → MatchResult result (λ all. all ≡ items) (λ _. (length items == 0) ≡ false) }

@@ -6,7 +6,7 @@ ghost use Rattle.acc_base.specs.Limits.{recorded};
 ghost use Rattle.acc_base.specs.Bytes.{host_after_write};
 ghost use Rattle.acc_base.specs.Judge.{plan_of, written};
 ghost use Rattle.acc_base.specs.Records.{State};
-ghost use Rattle.acc_clauses.specs.Acts.{CanWrite, HasPlanRoom};
+ghost use Rattle.acc_clauses.specs.Acts.{CanWrite, HasPlanRoom, lens_born};
 ghost use Rattle.acc_clauses.specs.Planned.{IsPlanOf};
 ghost use Rattle.acc_table.specs.Making.{is_idle, number_told, event_told, reply_told, planned_verdict, MayBeToldOf, IsCommitted, IsAsBefore};
 
@@ -129,6 +129,7 @@ fn make_room(
     ensures same { IsAsBefore store.old store.new trace.old.items trace.new.items }
     ensures did { IfOk result (λ did. did ≡ plan.now.written) }
     ensures room { OnOk result (HasPlanRoom directive.now plan.now store.new.room) }
+    ensures births { OnOk result (store.new.room.births ≡ lens_born plan.now.tasks plan.now.dids) }
     ensures place { OnOk result (vec_len trace.new < vec_capacity trace.new) }
     ensures only { IfErr result (λ fault. fault ≡ Memory) }
 {

@@ -1,6 +1,6 @@
 //! Loans of blocks to kernels: a block is lent, the bytes of its lease are read and written, and it is brought back.
 
-ghost use Rattle.std.specs.Prelude.{◌≡◌, ◌+◌, ◌<◌, ◌≤◌, ◌++◌, slice_index_or, slice_set};
+ghost use Rattle.std.specs.Prelude.{◌≡◌, ◌+◌, ◌<◌, ◌≤◌, ◌++◌, OnOk, OnErr, slice_index_or, slice_set};
 ghost use Rattle.std.specs.VecDeque.{deque_len, deque_capacity};
 ghost use Rattle.std.specs.List.{position};
 ghost use Rattle.acc_table.specs.Turns.{lent_by};
@@ -14,7 +14,7 @@ use crate::statuses::{FaultFields, Refusal, tell, tell_number};
 use acc_base::{Fault, Section};
 use acc_lend::Lease;
 use acc_table::{Call, Reply, abandon};
-use std::alloc::Global;
+use std::alloc::{AllocError, Global};
 use std::collections::VecDeque;
 use std::mem;
 
@@ -35,6 +35,20 @@ fn place_of(leases: &VecDeque<Lease>, serial: u64) -> Option<usize>
     }
     let at = place_in(back, serial)?;
     Some(front.len() + at)
+}
+
+/// Makes a place for one lease more at the end of the list.
+///
+/// # Errors
+///
+/// Where there is no memory for it, and only where each place that the list had is taken.
+fn make_place(leases: &mut VecDeque<Lease>) -> Result<(), AllocError>
+    ensures same { leases.new.items ≡ leases.old.items }
+    ensures len { deque_len leases.new ≡ deque_len leases.old }
+    ensures place { OnOk result (deque_len leases.new + 1 ≤ deque_capacity leases.new) }
+    ensures needed { OnErr result (deque_capacity leases.old ≤ deque_len leases.old) }
+{
+    leases.reserve(1)
 }
 
 /// Takes the lease at a place out of the list. One of no bytes stands there until it comes back.
@@ -83,7 +97,7 @@ impl Environment {
     fn lend(&mut self, region: u64, section: Section) -> Result<u64, Refusal>
         ensures { IsLent self.old region section (λ r. result ≡ r) self.new }
     {
-        self.leases.reserve(1)?;
+        make_place(&mut self.leases)?;
         match self.table.apply(Call::Lend { region, section }) {
             Ok(reply) => Ok(keep(reply, &mut self.leases)),
             Err((call, fault)) => {

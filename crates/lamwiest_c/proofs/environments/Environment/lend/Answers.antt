@@ -11,5 +11,5 @@ returns-in-Ok c =
     let e : DataEnvironment = record { world = c.self.inside.table; leases = c.self.inside.leases.items } in
     let v : DataEnvironment = record { world = c.apply.new.self; leases = c.keep.new.leases.items } in
     let T : Told = λ r. Ok c.keep.result ≡ r in
-    let leases : v.leases ≡ e.leases ++ lent_by c.in-Ok.reply = c.keep.ensures.leases ∙ ap (λ (xs : List Leased). xs ++ lent_by c.in-Ok.reply) c.reserve.ensures.items in
+    let leases : v.leases ≡ e.leases ++ lent_by c.in-Ok.reply = c.keep.ensures.leases ∙ ap (λ (xs : List Leased). xs ++ lent_by c.in-Ok.reply) c.make_place.ensures.same in
     subst (λ (x : DataEnvironment). IsLent x c.args.region c.args.section T v) c.self.view_is (done_lent e v c.args.region c.args.section T c.in-Ok.reply c.in-Ok.ensures.done leases (ap Ok c.keep.ensures.value))

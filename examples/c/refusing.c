@@ -1,6 +1,6 @@
 /*
  * The three functions of heap.c for tests: they count the growths of memory, refuse one of them, and count the blocks
- * that are not given back.
+ * and bytes that are not given back.
  */
 #include "refusing.h"
 #include <stdint.h>
@@ -12,6 +12,12 @@ typedef struct tried {
     void *at;
 } tried;
 
+/* Stands before each block, which is so aligned as malloc's. */
+typedef union head {
+    size_t size;
+    max_align_t most_aligned;
+} head;
+
 tried rattle_alloc(size_t size, size_t align);
 tried rattle_realloc(void *at, size_t kept, size_t size, size_t align);
 void rattle_dealloc(void *at);
@@ -20,11 +26,14 @@ static uint8_t nowhere;
 static size_t growths;
 static size_t refused; /* the number of the one that is refused, or 0 */
 static size_t blocks;
+static size_t bytes;
+static size_t most;
 
 void refuse_growth(size_t number)
 {
     growths = 0;
     refused = number;
+    most = bytes;
 }
 
 bool was_growth_refused(void)
@@ -32,39 +41,67 @@ bool was_growth_refused(void)
     return refused != 0 && growths >= refused;
 }
 
+size_t growths_made(void)
+{
+    return growths;
+}
+
 size_t blocks_held(void)
 {
     return blocks;
 }
 
-/* Whether a growth is to be refused. */
-static bool is_refused(void)
+size_t bytes_held(void)
 {
-    return ++growths == refused;
+    return bytes;
 }
 
-static tried answer(void *at)
+size_t most_bytes_held(void)
 {
-    tried answered = {.ok = at != NULL, .at = at != NULL ? at : &nowhere};
+    return most;
+}
+
+static tried answer(head *at)
+{
+    tried answered = {.ok = at != NULL, .at = at != NULL ? (void *)(at + 1) : &nowhere};
     return answered;
+}
+
+/* Gives a block another size, or makes one where there is none. */
+static head *sized(head *block, size_t size)
+{
+    size_t before = block != NULL ? block->size : 0;
+    head *grown = ++growths == refused ? NULL : realloc(block, sizeof *grown + size);
+
+    if (grown != NULL) {
+        grown->size = size;
+        bytes += size - before;
+        most = most < bytes ? bytes : most;
+    }
+    return grown;
 }
 
 tried rattle_alloc(size_t size, size_t align)
 {
-    void *at = is_refused() ? NULL : malloc(size != 0 ? size : align);
+    head *made = sized(NULL, size);
 
-    blocks += at != NULL;
-    return answer(at);
+    (void)align;
+    blocks += made != NULL;
+    return answer(made);
 }
 
 tried rattle_realloc(void *at, size_t kept, size_t size, size_t align)
 {
     (void)kept;
-    return answer(is_refused() ? NULL : realloc(at, size != 0 ? size : align));
+    (void)align;
+    return answer(sized((head *)at - 1, size));
 }
 
 void rattle_dealloc(void *at)
 {
+    head *block = (head *)at - 1;
+
     blocks--;
-    free(at);
+    bytes -= block->size;
+    free(block);
 }

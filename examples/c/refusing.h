@@ -5,13 +5,21 @@
 #include <stdbool.h>
 #include <stddef.h>
 
-/* Refuses the growth of this number from now on, counted from 1, and no other; none for 0. */
+/* Refuses the growth of this number from now on, counted from 1, and no other; none for 0. Both counts below begin
+   anew. */
 void refuse_growth(size_t number);
 
 /* Whether it was refused. */
 bool was_growth_refused(void);
 
-/* How many blocks the library has. */
+/* How many growths the library asked for since then. */
+size_t growths_made(void);
+
+/* How many bytes it had at most since then. */
+size_t most_bytes_held(void);
+
+/* How many blocks and bytes the library has. */
 size_t blocks_held(void);
+size_t bytes_held(void);
 
 #endif

@@ -1,7 +1,8 @@
 /*
- * What a table holds over a long run. In each life some are alive of which one stays, while 100,000 others come and go.
- * A first round has more of them at once, so that room for them is made. From then on the library asks for no memory but
- * what the lists of an event and a fold need, and it holds as much as before.
+ * What a table asks for and holds over a long run. In each life 128 of a kind are alive while some 100,000 others come
+ * and go: in no order beside one that stays, or the oldest first. A first round has more of them at once, so that room
+ * for them is made. From then on the library asks for memory only for the lists of events, for the bytes of blocks and
+ * for folds, and it holds as much as before.
  */
 #include "lamwiest.h"
 #include "refusing.h"
@@ -10,16 +11,16 @@
 #include <stdlib.h>
 
 enum {
-    ALIVE = 128,   /* how many are alive between two steps */
-    MOST = 2048,   /* how many may be alive in a first round */
-    ROUNDS = 10,   /* how many rounds come behind it */
-    FOLDS = 20,    /* how often the trace is folded in a round */
-    EVENTS = 1024, /* how many events there are from one fold to the next at most */
-    ITEMS = 64,    /* how many items a directive has at most */
-    HOLDINGS = 8,  /* how many items an entry to a region has */
-    BATCH = 64,    /* how many arrays come side by side where one of them stays */
-    REFUSALS = 1000,
-    FEW_BYTES = 1024
+    ALIVE = 128,     /* how many are alive between two steps */
+    MOST = 2048,     /* how many may be alive in a first round */
+    ROUNDS = 10,     /* how many rounds come behind it */
+    FOLDS = 20,      /* how often the trace is folded in a round */
+    EVENTS = 1024,   /* how many events there are from one fold to the next at most */
+    ITEMS = 64,      /* how many items a directive has at most */
+    HOLDINGS = 8,    /* how many items an entry to a region has */
+    BATCH = 64,      /* how many arrays come side by side where one of them stays */
+    REFUSALS = 1000, /* how many directives are refused whose births then never come */
+    FEW_BYTES = 1024 /* more than one lease needs, and less than many do */
 };
 
 /* An array of 16 bytes that is mapped all the time, and where the others begin, which are as long. */
@@ -216,14 +217,14 @@ static size_t oldest(uint64_t step)
     return step % ALIVE;
 }
 
-/* Regions and blocks that are gone have at most as many places as the others. At an end they have none. A row has place
-   for 64 ranges, of which a few are there at least. A region takes memory for its items, for what it holds, and for what
-   each item did, also at its exit; and a block for its bytes. */
+/* Places of those that are gone are at most as many as the others, and none is kept at an end. Rows of ranges or of
+   pointers are a quarter full or more, taken together. A region takes memory for its items, for what it holds, and for
+   what each item did, also at its exit; a block takes memory for its bytes. */
 static const life LIVES[] = {
     {"regions", NULL, enter, leave, any, 2 * ALIVE, 10000, 4},
     {"regions, the oldest first", NULL, enter, leave, oldest, ALIVE, 10000, 4},
     {"blocks and ranges", NULL, map, unmap, any, 4 * ALIVE, 10000, 1},
-    {"ranges that thin out", NULL, map_batch, unmap, any, 8 * ALIVE, 160, BATCH},
+    {"ranges that thin out", NULL, map_batch, unmap, any, 4 * ALIVE, 160, BATCH},
     {"attached pointers", begin_pointers, attach, detach, any, 4 * ALIVE, 10000, 0},
     {"leases", begin_leases, lend, gather, any, 2 * ALIVE, 10000, 0},
 };

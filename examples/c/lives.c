@@ -15,10 +15,11 @@ enum {
     MOST = 2048,     /* how many may be alive in a first round */
     ROUNDS = 10,     /* how many rounds come behind it */
     FOLDS = 20,      /* how often the trace is folded in a round */
-    EVENTS = 1024,   /* how many events there are from one fold to the next at most */
+    EVENTS = 2048,   /* how many events there are from one fold to the next at most */
     ITEMS = 64,      /* how many items a directive has at most */
     HOLDINGS = 8,    /* how many items an entry to a region has */
-    BATCH = 64,      /* how many arrays come side by side where one of them stays */
+    BATCH = 512,     /* how many arrays come side by side of which few stay */
+    STAY = 64,       /* the first of so many stays */
     REFUSALS = 1000, /* how many directives are refused whose births then never come */
     FEW_BYTES = 1024 /* more than one lease needs, and less than many do */
 };
@@ -50,6 +51,7 @@ typedef struct world {
 typedef struct life {
     const char *name;
     void (*begin)(world *world);
+    void (*first)(world *world, size_t place); /* how they come in the first round */
     void (*come)(world *world, size_t place);
     void (*go)(world *world, size_t place);
     size_t (*next)(uint64_t step); /* the place of the one that goes, which the next one takes */
@@ -144,18 +146,38 @@ static void unmap(world *world, size_t place)
     exit_data(world, LW_DELETE, world->alive[place]);
 }
 
-/* Those around the one that stays go at once. */
+/* Those of a batch alone that stay. */
+static void map_few(world *world, size_t place)
+{
+    world->alive[place] = OTHERS + APART * world->came;
+    world->came += BATCH;
+    for (size_t i = 0; i < BATCH; i += STAY) {
+        enter_data(world, LW_CREATE, world->alive[place] + APART * i, LEN);
+    }
+}
+
+static void unmap_few(world *world, size_t place)
+{
+    for (size_t i = 0; i < BATCH; i += STAY) {
+        exit_data(world, LW_DELETE, world->alive[place] + APART * i);
+    }
+}
+
+/* A whole batch, of which those go at once that do not stay. */
 static void map_batch(world *world, size_t place)
 {
     uint64_t first = OTHERS + APART * world->came;
 
-    for (size_t i = 0; i < BATCH; i++) {
-        map(world, place);
-    }
-    for (size_t i = 1; i < BATCH; i++) {
-        exit_data(world, LW_DELETE, first + APART * i);
-    }
     world->alive[place] = first;
+    world->came += BATCH;
+    for (size_t i = 0; i < BATCH; i++) {
+        enter_data(world, LW_CREATE, first + APART * i, LEN);
+    }
+    for (size_t i = 0; i < BATCH; i++) {
+        if (i % STAY != 0) {
+            exit_data(world, LW_DELETE, first + APART * i);
+        }
+    }
 }
 
 /* ---- Attached pointers ---- */
@@ -218,15 +240,16 @@ static size_t oldest(uint64_t step)
 }
 
 /* Places of those that are gone are at most as many as the others, and none is kept at an end. Rows of ranges or of
-   pointers are a quarter full or more, taken together. A region takes memory for its items, for what it holds, and for
-   what each item did, also at its exit; a block takes memory for its bytes. */
+   pointers are a quarter full or more, taken together. Of ranges that thin out 1,024 stay, and 512 more are there for a
+   while: so 6,144 come first. A region takes memory for its items, for what it holds, and for what each item did, also
+   at its exit; a block takes memory for its bytes. */
 static const life LIVES[] = {
-    {"regions", NULL, enter, leave, any, 2 * ALIVE, 10000, 4},
-    {"regions, the oldest first", NULL, enter, leave, oldest, ALIVE, 10000, 4},
-    {"blocks and ranges", NULL, map, unmap, any, 4 * ALIVE, 10000, 1},
-    {"ranges that thin out", NULL, map_batch, unmap, any, 4 * ALIVE, 160, BATCH},
-    {"attached pointers", begin_pointers, attach, detach, any, 4 * ALIVE, 10000, 0},
-    {"leases", begin_leases, lend, gather, any, 2 * ALIVE, 10000, 0},
+    {"regions", NULL, enter, enter, leave, any, 2 * ALIVE, 10000, 4},
+    {"regions, the oldest first", NULL, enter, enter, leave, oldest, ALIVE, 10000, 4},
+    {"blocks and ranges", NULL, map, map, unmap, any, 4 * ALIVE, 10000, 1},
+    {"ranges that thin out", NULL, map_few, map_batch, unmap_few, any, 6 * ALIVE, 20, BATCH},
+    {"attached pointers", begin_pointers, attach, attach, detach, any, 4 * ALIVE, 10000, 0},
+    {"leases", begin_leases, lend, lend, gather, any, 2 * ALIVE, 10000, 0},
 };
 
 static void step(world *world, const life *life, size_t place)
@@ -242,7 +265,7 @@ static void play_first(world *world, const life *life)
         life->begin(world);
     }
     for (size_t place = 0; place < life->most; place++) {
-        life->come(world, place);
+        life->first(world, place);
     }
     for (size_t place = ALIVE; place < life->most; place++) {
         life->go(world, place);

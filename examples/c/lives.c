@@ -245,7 +245,7 @@ static size_t oldest(uint64_t step)
    at its exit; a block takes memory for its bytes. */
 static const life LIVES[] = {
     {"regions", NULL, enter, enter, leave, any, 2 * ALIVE, 10000, 4},
-    {"regions, the oldest first", NULL, enter, enter, leave, oldest, ALIVE, 10000, 4},
+    {"regions, the oldest first", NULL, enter, enter, leave, oldest, 2 * ALIVE, 10000, 4},
     {"blocks and ranges", NULL, map, map, unmap, any, 4 * ALIVE, 10000, 1},
     {"ranges that thin out", NULL, map_few, map_batch, unmap_few, any, 6 * ALIVE, 20, BATCH},
     {"attached pointers", begin_pointers, attach, attach, detach, any, 4 * ALIVE, 10000, 0},

@@ -61,18 +61,21 @@ fn run_calls(alloc: Global, seed: u64, rounds: u64) -> Result<Tally, Fault> {
     Ok(desk.finish())
 }
 
-/// A region for each array, entered in no order. The oldest is exited first.
+/// A region for each array, entered in no order. The oldest is exited first. Between, the host writes other bytes.
 fn regions(desk: &mut Desk) -> Result<(), Fault> {
     let mut open = VecDeque::new(desk.alloc);
-    let step = desk.below(2_500).wrapping_mul(8).wrapping_add(7_919);
+    let step = desk.stride(2_000);
+    desk.fill(ARRAYS.all())?;
     for nth in 0..ARRAYS.count {
         let array = ARRAYS.at(nth.wrapping_mul(step));
         let number = desk.enter(one(RegionClause::Copy, array));
         open.push_back(number)?;
     }
+    desk.fill(ARRAYS.all())?;
     while let Some(number) = open.pop_front() {
         desk.exit(number);
     }
+    desk.note_host(ARRAYS.all());
     desk.fold()
 }
 
@@ -89,6 +92,7 @@ fn leases(desk: &mut Desk) -> Result<(), Fault> {
     left?;
     desk.exit(region);
     end(desk, LEASES)?;
+    desk.note_host(ARRAYS.all());
     desk.fold()
 }
 
@@ -155,7 +159,9 @@ fn last_refused(desk: &mut Desk) -> Result<(), Fault> {
         let items = nearly_fit(desk)?;
         desk.enter_data(List::from_vec(items));
     }
+    desk.fill(ARRAYS.all())?;
     end(desk, 10_000)?;
+    desk.note_host(ARRAYS.all());
     desk.fold()
 }
 

@@ -3,13 +3,18 @@
 use crate::desks::{Desk, limits};
 use crate::items::{Row, one, section};
 use crate::tallies::Tally;
-use acc_base::{EnterClause, ExitClause, Fault, HOST_BASE, List, RegionClause, UpdateClause};
+use acc_base::{
+    EnterClause, ExitClause, Fault, HOST_BASE, List, RegionClause, Section, UpdateClause,
+};
 use acc_lend::{Add, run_one};
 use acc_table::Call;
 use std::alloc::Global;
 
 /// The length of the large array.
 const LARGE: u64 = 16_777_216;
+
+/// The length of a part of it that is read back.
+const PART: u64 = LARGE / 16;
 
 /// Arrays of 4 KiB.
 const PAGES: Row = Row {
@@ -28,16 +33,25 @@ pub fn run(alloc: Global, seed: u64, rounds: u64) -> Result<Tally, Fault> {
 fn run_large(alloc: Global, seed: u64, rounds: u64) -> Result<Tally, Fault> {
     let config = limits(LARGE, LARGE)?;
     let mut desk = Desk::new(alloc, config, seed, Tally::new())?;
-    for _ in 0..rounds {
-        large(&mut desk)?;
+    play_large(&mut desk, rounds)
+}
+
+/// So many rounds on the large array. Each reads one part in sixteen back on both sides, and the last reads all.
+fn play_large(desk: &mut Desk, rounds: u64) -> Result<Tally, Fault> {
+    desk.fill(section(0, LARGE))?;
+    for round in 0..rounds {
+        let at = (round % 16).wrapping_mul(PART);
+        large(desk, section(at, PART))?;
     }
+    desk.note_host(section(0, LARGE));
     Ok(desk.finish())
 }
 
 /// Maps the large array, changes it on both sides, updates it both ways and copies it back.
-fn large(desk: &mut Desk) -> Result<(), Fault> {
+fn large(desk: &mut Desk, part: Section) -> Result<(), Fault> {
     let all = section(0, LARGE);
     desk.enter_data(one(EnterClause::Copyin, all));
+    desk.note_device(part);
     let at = desk.below(LARGE - 4_096);
     write(desk, at)?;
     desk.update(one(UpdateClause::ToDevice, all), None);
@@ -48,9 +62,8 @@ fn large(desk: &mut Desk) -> Result<(), Fault> {
     }
     desk.exit(region);
     desk.update(one(UpdateClause::ToSelf, all), None);
-    let at = desk.below(LARGE - 4_096);
-    desk.note_host(section(at, 4_096));
     desk.exit_data(one(ExitClause::Copyout, all));
+    desk.note_host(part);
     Ok(())
 }
 
@@ -76,6 +89,7 @@ fn work(desk: &mut Desk, region: u64, at: u64) {
 fn run_full(alloc: Global, seed: u64, rounds: u64, tally: Tally) -> Result<Tally, Fault> {
     let config = limits(1_048_576, 1_048_576)?.with_full_trace();
     let mut desk = Desk::new(alloc, config, seed, tally)?;
+    desk.fill(PAGES.all())?;
     play_full(&mut desk, rounds)
 }
 
@@ -92,6 +106,7 @@ fn play_full(desk: &mut Desk, rounds: u64) -> Result<Tally, Fault> {
         )?;
         desk.enter_data(items);
     }
+    note_pages(desk);
     let region = desk.enter(one(RegionClause::Present, PAGES.at(0)));
     for _ in 0..rounds {
         full(desk, region)?;
@@ -107,8 +122,15 @@ fn play_full(desk: &mut Desk, rounds: u64) -> Result<Tally, Fault> {
         )?;
         desk.exit_data(items);
     }
-    desk.note_host(section(0, 1_048_576));
+    desk.note_host(PAGES.all());
     Ok(desk.finish())
+}
+
+/// Reads what the device has of each page.
+fn note_pages(desk: &mut Desk) {
+    for nth in 0..PAGES.count {
+        desk.note_device(PAGES.at(nth));
+    }
 }
 
 /// A hundred rounds of five events, and a fold.

@@ -1,15 +1,14 @@
 //! A table at which calls are made, and what they answered.
 
-use crate::items::section;
 use crate::tallies::Tally;
 use acc_base::{
-    Config, Directive, EnterClause, ExitClause, Fault, Item, List, RegionClause, Section,
-    UpdateClause,
+    Config, Directive, EnterClause, ExitClause, Fault, Item, List, MEMORY_MAX, RegionClause,
+    Section, UpdateClause,
 };
 use acc_lend::Lease;
 use acc_random::Chance;
 use acc_table::{Call, Reply, Table, abandon};
-use std::alloc::Global;
+use std::alloc::{AllocError, Global};
 
 /// A trace that has so many events is folded.
 const FOLD: usize = 16_384;
@@ -25,6 +24,10 @@ pub struct Desk {
     pub chance: Chance,
     /// What was answered.
     pub tally: Tally,
+    /// The number of the device on which directives act.
+    pub device: u64,
+    // Bytes by chance, apart from the numbers.
+    bytes: Chance,
 }
 
 /// Limits of a table with host memory and device memory of these sizes.
@@ -40,6 +43,15 @@ pub fn limits(host: u64, device: u64) -> Result<Config, Fault> {
     )
 }
 
+/// As many bytes by chance as so many have in whole words.
+pub fn chance_bytes(alloc: Global, chance: &mut Chance, len: u64) -> Result<Vec<u8>, AllocError> {
+    let mut bytes = Vec::with_capacity(alloc, len.min(MEMORY_MAX) as usize)?;
+    for _ in 0..len / 8 {
+        bytes.extend_from_slice(&chance.number().to_le_bytes())?;
+    }
+    Ok(bytes)
+}
+
 impl Desk {
     /// A new table of these limits, with numbers of a seed.
     pub fn new(alloc: Global, config: Config, seed: u64, tally: Tally) -> Result<Desk, Fault> {
@@ -49,12 +61,30 @@ impl Desk {
             table,
             chance: Chance::new(seed),
             tally,
+            device: 0,
+            bytes: Chance::new(!seed),
         })
     }
 
     /// A number below a bound, by chance.
     pub fn below(&mut self, bound: u64) -> u64 {
         self.chance.number() % bound.max(1)
+    }
+
+    /// The host writes bytes by chance, as many whole words as a section has.
+    pub fn fill(&mut self, section: Section) -> Result<(), Fault> {
+        let bytes = chance_bytes(self.alloc, &mut self.bytes, section.len)?;
+        let addr = section.start;
+        self.call(Call::HostWrite {
+            addr,
+            bytes: List::from_vec(bytes),
+        });
+        Ok(())
+    }
+
+    /// A stride by chance that shares no factor with a power of ten. So among as many arrays it passes each of them.
+    pub fn stride(&mut self, tens: u64) -> u64 {
+        self.below(tens).wrapping_mul(10).wrapping_add(9)
     }
 
     /// Makes a call, and returns the number that it replied; 0 where it was refused.
@@ -68,9 +98,10 @@ impl Desk {
         }
     }
 
-    /// Enters a region on the first device, and returns its number.
+    /// Enters a region, and returns its number.
     pub fn enter(&mut self, items: List<Item<RegionClause>>) -> u64 {
-        self.call(Call::Do(Directive::Enter { device: 0, items }))
+        let device = self.device;
+        self.call(Call::Do(Directive::Enter { device, items }))
     }
 
     /// Exits a region.
@@ -80,7 +111,7 @@ impl Desk {
 
     /// An `enter data`.
     pub fn enter_data(&mut self, items: List<Item<EnterClause>>) {
-        let (device, queue) = (0, None);
+        let (device, queue) = (self.device, None);
         self.call(Call::Do(Directive::EnterData {
             device,
             items,
@@ -90,7 +121,7 @@ impl Desk {
 
     /// An `exit data`.
     pub fn exit_data(&mut self, items: List<Item<ExitClause>>) {
-        let (device, finalize, queue) = (0, false, None);
+        let (device, finalize, queue) = (self.device, false, None);
         self.call(Call::Do(Directive::ExitData {
             device,
             items,
@@ -101,7 +132,7 @@ impl Desk {
 
     /// An `update`, at once or through a queue.
     pub fn update(&mut self, items: List<Item<UpdateClause>>, queue: Option<u64>) {
-        let (device, if_present) = (0, false);
+        let (device, if_present) = (self.device, false);
         self.call(Call::Do(Directive::Update {
             device,
             items,
@@ -112,7 +143,7 @@ impl Desk {
 
     /// A `wait` for a queue.
     pub fn wait(&mut self, queue: u64) {
-        let (device, queue) = (0, Some(queue));
+        let (device, queue) = (self.device, Some(queue));
         self.call(Call::Do(Directive::Wait { device, queue }));
     }
 
@@ -120,7 +151,7 @@ impl Desk {
     pub fn lend(&mut self, region: u64, section: Section) -> Option<Lease> {
         match self.table.apply(Call::Lend { region, section }) {
             Ok(Reply::Lease(lease)) => {
-                self.tally.note(lease.serial());
+                self.tally.note_lease(&lease);
                 Some(lease)
             }
             Ok(reply) => {
@@ -141,7 +172,13 @@ impl Desk {
         self.tally.note_bytes(bytes);
     }
 
-    /// Notes what the events did, and folds the trace, where there are so many.
+    /// Notes the bytes that the device has of a section.
+    pub fn note_device(&mut self, section: Section) {
+        let bytes = self.table.device_read(self.device, section).unwrap_or(&[]);
+        self.tally.note_bytes(bytes);
+    }
+
+    /// Notes the events, and folds the trace, where there are so many.
     pub fn fold_when_due(&mut self) -> Result<(), Fault> {
         if self.table.trace().len() < FOLD {
             return Ok(());
@@ -149,7 +186,7 @@ impl Desk {
         self.fold()
     }
 
-    /// Notes what the events did, and folds the trace.
+    /// Notes the events, and folds the trace.
     pub fn fold(&mut self) -> Result<(), Fault> {
         self.tally.note_events(self.table.trace());
         let count = self.table.rebase()?;
@@ -157,7 +194,7 @@ impl Desk {
         Ok(())
     }
 
-    /// Notes all mapped ranges, one after the other, and returns how many they are.
+    /// Notes all mapped ranges of the device, one after the other, and returns how many they are.
     pub fn note_ranges(&mut self) -> u64 {
         let mut from = 0u64;
         let mut count = 0u64;
@@ -173,11 +210,8 @@ impl Desk {
 
     /// Notes the range of least start at or above an address, and returns the address behind its start.
     fn note_range(&mut self, from: u64) -> Option<u64> {
-        let range = self.table.mapped(0, from)?;
-        self.tally.note(range.start);
-        self.tally.note(range.place);
-        self.tally.note(range.dynamic);
-        self.tally.note(range.structured);
+        let range = self.table.mapped(self.device, from)?;
+        self.tally.note_mapped(range);
         Some(range.start.wrapping_add(1))
     }
 
@@ -185,16 +219,18 @@ impl Desk {
     pub fn finish(&mut self) -> Tally {
         self.tally.note_events(self.table.trace());
         self.tally.note(self.table.events());
-        let used = self.table.used(0);
-        let open = self.table.regions();
-        let ranges = self.note_ranges();
-        let left = used.wrapping_add(open).wrapping_add(ranges);
+        let mut left = self.table.regions();
+        for device in 0..self.table.config().devices() {
+            self.device = device;
+            left = left.wrapping_add(self.left_on());
+        }
         self.tally.left = self.tally.left.wrapping_add(left);
         self.tally
     }
 
-    /// The section of all of a front of host memory.
-    pub fn front(&self, len: u64) -> Section {
-        section(0, len)
+    /// The bytes in use of the device, and its mapped ranges, summed up.
+    fn left_on(&mut self) -> u64 {
+        let used = self.table.used(self.device);
+        used.wrapping_add(self.note_ranges())
     }
 }

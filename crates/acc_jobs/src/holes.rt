@@ -56,13 +56,31 @@ fn length(chance: &mut Chance) -> u64 {
 
 impl Pool {
     fn play(&mut self, rounds: u64) -> Result<Tally, Fault> {
+        self.fill_all()?;
         for _ in 0..rounds {
             self.thousand()?;
         }
+        self.fill_all()?;
         for nth in 0..ARRAYS {
-            self.end(nth);
+            self.read_back(nth);
         }
         Ok(self.desk.finish())
+    }
+
+    /// The host writes into all arrays.
+    fn fill_all(&mut self) -> Result<(), Fault> {
+        for nth in 0..ARRAYS {
+            self.desk.fill(self.array(nth))?;
+        }
+        Ok(())
+    }
+
+    /// Reads what an array has on both sides, and ends its mapping where it is mapped.
+    fn read_back(&mut self, nth: u64) {
+        let array = self.array(nth);
+        self.desk.note_device(array);
+        self.end(nth);
+        self.desk.note_host(array);
     }
 
     fn thousand(&mut self) -> Result<(), Fault> {
@@ -79,7 +97,16 @@ impl Pool {
             self.bear(nth);
         } else if self.due > 0 {
             self.due -= 1;
+            self.note_some(nth);
             self.end(nth);
+        }
+    }
+
+    /// Reads what the device has of one array in eight.
+    fn note_some(&mut self, nth: u64) {
+        if nth % 8 == 0 {
+            let array = self.array(nth);
+            self.desk.note_device(array);
         }
     }
 

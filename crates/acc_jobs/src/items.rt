@@ -48,6 +48,12 @@ impl Row {
         )
     }
 
+    /// The section from the start of the first to the end of the last.
+    pub fn all(self) -> Section {
+        let behind = self.count.saturating_sub(1).wrapping_mul(self.apart);
+        section(self.first, behind.wrapping_add(self.len))
+    }
+
     /// Items of a clause for so many sections from a number on, each so many numbers behind the one before it.
     pub fn items<C: Copy + Drop>(
         self,

@@ -1,16 +1,27 @@
 //! A time-step loop: small directives among arrays that are mapped already.
 
 use crate::desks::{Desk, limits};
-use crate::items::{Row, one, section};
+use crate::items::{Row, one};
 use crate::tallies::Tally;
-use acc_base::{EnterClause, ExitClause, Fault, RegionClause, UpdateClause};
+use acc_base::{EnterClause, ExitClause, Fault, HOST_BASE, RegionClause, Section, UpdateClause};
 use std::alloc::Global;
 
 /// Numbers of mapped arrays.
 const COUNTS: [u64; 4] = [1, 1_000, 10_000, 100_000];
 
-/// The place of the scalars, behind all arrays.
-const SCALARS: u64 = 6_400_000;
+/// The scalars, behind all arrays.
+const SCALARS: Row = Row {
+    first: 6_400_000,
+    apart: 16,
+    len: 8,
+    count: 30,
+};
+
+/// All that lies behind the arrays: the scalars, and further arrays.
+const BEHIND: Section = Section {
+    start: HOST_BASE + 6_400_000,
+    len: 73_728,
+};
 
 /// Plays time steps among arrays of each number.
 pub fn run(alloc: Global, seed: u64, rounds: u64) -> Result<Tally, Fault> {
@@ -27,6 +38,7 @@ fn play(alloc: Global, seed: u64, count: u64, rounds: u64, tally: Tally) -> Resu
     work(&mut desk, count, rounds)
 }
 
+/// Maps all arrays, and plays time steps. Behind the mapping the host writes other bytes, so that both sides differ.
 fn work(desk: &mut Desk, count: u64, rounds: u64) -> Result<Tally, Fault> {
     let arrays = Row {
         first: 0,
@@ -34,11 +46,16 @@ fn work(desk: &mut Desk, count: u64, rounds: u64) -> Result<Tally, Fault> {
         len: 48,
         count,
     };
+    desk.fill(BEHIND)?;
+    desk.fill(arrays.all())?;
     map_all(desk, arrays)?;
+    desk.fill(arrays.all())?;
     for _ in 0..rounds {
         step(desk, arrays)?;
     }
     end_all(desk, arrays)?;
+    desk.note_host(BEHIND);
+    desk.note_host(arrays.all());
     Ok(desk.finish())
 }
 
@@ -81,15 +98,16 @@ fn step(desk: &mut Desk, arrays: Row) -> Result<(), Fault> {
 fn region(desk: &mut Desk, arrays: Row) -> Result<(), Fault> {
     let count = desk.below(27).wrapping_add(4).min(arrays.count);
     let first = desk.below(arrays.count);
-    let stride = desk.below(999).wrapping_add(1);
+    let stride = desk.stride(100);
     let items = arrays.list(desk.alloc, RegionClause::Copy, first, stride, count)?;
     let number = desk.enter(items);
     let edge = arrays.at(first);
-    let edge = acc_base::Section {
+    let edge = Section {
         start: edge.start,
         len: 8,
     };
     desk.update(one(UpdateClause::ToSelf, edge), None);
+    desk.note_host(edge);
     desk.update(one(UpdateClause::ToDevice, edge), None);
     desk.exit(number);
     Ok(())
@@ -107,38 +125,33 @@ fn pair(desk: &mut Desk, arrays: Row) {
 
 /// Thirty scalars that are born and ended: each in a region of its own, and all in one.
 fn scalars(desk: &mut Desk) -> Result<(), Fault> {
-    let scalars = Row {
-        first: SCALARS,
-        apart: 16,
-        len: 8,
-        count: 30,
-    };
-    let items = scalars.list(desk.alloc, RegionClause::Copy, 0, 1, 30)?;
+    let items = SCALARS.list(desk.alloc, RegionClause::Copy, 0, 1, 30)?;
     let number = desk.enter(items);
     desk.exit(number);
     for _ in 0..8u64 {
-        scalar(desk, scalars);
+        scalar(desk);
     }
+    desk.note_host(SCALARS.all());
     Ok(())
 }
 
-fn scalar(desk: &mut Desk, scalars: Row) {
+fn scalar(desk: &mut Desk) {
     let place = desk.below(30);
-    let number = desk.enter(one(RegionClause::Copy, scalars.at(place)));
+    let number = desk.enter(one(RegionClause::Copy, SCALARS.at(place)));
     desk.exit(number);
 }
 
 /// Sixty-four items in one directive, and as many arrays that were not mapped.
 fn many(desk: &mut Desk, arrays: Row) -> Result<(), Fault> {
     let first = desk.below(arrays.count);
-    let stride = desk.below(99).wrapping_add(1);
+    let stride = desk.stride(10);
     let items = arrays.list(desk.alloc, EnterClause::Copyin, first, stride, 64)?;
     desk.enter_data(items);
     let items = arrays.list(desk.alloc, ExitClause::Delete, first, stride, 64)?;
     desk.exit_data(items);
     let at = desk.below(1_000).wrapping_mul(64);
     let others = Row {
-        first: SCALARS.wrapping_add(at).wrapping_add(4_096),
+        first: SCALARS.first.wrapping_add(at).wrapping_add(4_096),
         apart: 64,
         len: 32,
         count: 64,
@@ -146,6 +159,6 @@ fn many(desk: &mut Desk, arrays: Row) -> Result<(), Fault> {
     let items = others.list(desk.alloc, RegionClause::Copy, 0, 1, 64)?;
     let number = desk.enter(items);
     desk.exit(number);
-    desk.note_host(section(SCALARS, 64));
+    desk.note_host(others.all());
     Ok(())
 }

@@ -5,13 +5,17 @@
 mod awkward;
 mod bytes;
 mod desks;
+mod hands;
 mod holes;
 mod items;
 mod loops;
+mod numbers;
 mod pointers;
 mod scripts;
 mod tallies;
 mod texts;
+mod threads;
+mod walks;
 
 use crate::tallies::Tally;
 use acc_base::Fault;
@@ -20,6 +24,11 @@ use std::env;
 use std::rt::Env;
 use std::sync::Wait;
 use std::thread::Threads;
+
+/// All jobs.
+const JOBS: [&str; 8] = [
+    "loops", "holes", "pointers", "scripts", "bytes", "awkward", "threads", "walks",
+];
 
 fn main(rt: HostRuntime) -> Result<()> {
     let seed = number(&rt, 2)?;
@@ -53,7 +62,7 @@ fn tell<R: Print + Threads + Wait + Sync + AllocGlobal>(
     if job != "all" {
         return tell_one(rt, job, seed, rounds);
     }
-    for name in ["loops", "holes", "pointers", "scripts", "bytes", "awkward"] {
+    for name in JOBS {
         tell_one(rt, name, seed, rounds)?;
     }
     Ok(())
@@ -85,6 +94,8 @@ fn done<R: Threads + Wait + Sync + AllocGlobal>(
         "scripts" => scripts::run(rt, seed, rounds),
         "bytes" => bytes::run(rt.alloc(), seed, rounds),
         "awkward" => awkward::run(rt, seed, rounds),
+        "threads" => threads::run(rt, seed, rounds),
+        "walks" => walks::run(rt, seed, rounds),
         _ => return Ok(None),
     };
     Ok(Some(tally?))
@@ -101,6 +112,8 @@ fn tell_tally<R: Print>(rt: &R, job: &str, tally: Tally, rounds: u64) -> Result<
 }
 
 fn tell_usage<R: Print>(rt: &R) -> Result<()> {
-    println!(rt; "usage: acc_jobs all|loops|holes|pointers|scripts|bytes|awkward SEED ROUNDS")?;
+    println!(rt;
+        "usage: acc_jobs all|loops|holes|pointers|scripts|bytes|awkward|threads|walks SEED ROUNDS"
+    )?;
     Ok(())
 }

@@ -10,6 +10,12 @@ use std::alloc::{AllocError, Global};
 /// How many structs there are, of 16 bytes each. A pointer is its first eight bytes.
 const STRUCTS: u64 = 20_000;
 
+/// All structs and all targets.
+const MEMORY: Section = Section {
+    start: HOST_BASE,
+    len: 1_280_000,
+};
+
 /// The targets of the pointers.
 const TARGETS: Row = Row {
     first: 320_000,
@@ -26,6 +32,7 @@ pub fn run(alloc: Global, seed: u64, rounds: u64) -> Result<Tally, Fault> {
 }
 
 fn play(desk: &mut Desk, rounds: u64) -> Result<Tally, Fault> {
+    desk.fill(MEMORY)?;
     for _ in 0..rounds {
         copy_all(desk)?;
     }
@@ -37,26 +44,26 @@ fn structure(nth: u64) -> Section {
     section((nth % STRUCTS).wrapping_mul(16), 16)
 }
 
-/// An order of all structs that no one foresees: each is so far behind the one before it.
-fn stride(desk: &mut Desk) -> u64 {
-    desk.below(2_500).wrapping_mul(8).wrapping_add(7_919)
-}
-
+/// Copies all structs, in an order that no one foresees: each is so far behind the one before it. Between, the host
+/// writes other bytes, so that both sides differ.
 fn copy_all(desk: &mut Desk) -> Result<(), Fault> {
     let all = section(0, STRUCTS.wrapping_mul(16));
     desk.enter_data(one(EnterClause::Copyin, all));
-    let step = stride(desk);
+    desk.note_device(all);
+    let step = desk.stride(2_000);
     for nth in 0..STRUCTS {
         attach(desk, nth.wrapping_mul(step))?;
     }
+    desk.fill(MEMORY)?;
     desk.update(one(UpdateClause::ToSelf, all), None);
     desk.update(one(UpdateClause::ToDevice, all), None);
+    desk.note_device(all);
     for nth in 0..STRUCTS {
         detach(desk, nth.wrapping_mul(step))?;
     }
-    desk.note_host(section(0, 4_096));
     desk.exit_data(one(ExitClause::Copyout, all));
     end_all(desk)?;
+    desk.note_host(MEMORY);
     desk.fold()
 }
 

@@ -7,6 +7,7 @@ use acc_base::Fault;
 use acc_follow::{Beside, Frame, Page, PictureSink, Setting, Stop, Views, follow};
 use acc_script::{MemorySink, MemorySource, Status};
 use std::alloc::Global;
+use std::cell::Cell;
 use std::sync::Wait;
 use std::thread::Threads;
 
@@ -40,11 +41,17 @@ const JSON: Views = Views {
     pictures: false,
 };
 
-/// Keeps no picture.
-struct NoPictures;
+/// Notes the bytes of each picture.
+#[derive(Drop)]
+struct Album {
+    tally: Cell<Tally>,
+}
 
-impl PictureSink for NoPictures {
-    fn keep(&self, _frame: Frame, _picture: &[u8]) -> Result<(), Stop> {
+impl PictureSink for Album {
+    fn keep(&self, _frame: Frame, picture: &[u8]) -> Result<(), Stop> {
+        let mut tally = self.tally.get();
+        tally.note_bytes(picture);
+        self.tally.set(tally);
         Ok(())
     }
 }
@@ -88,7 +95,7 @@ fn play_more<R: Threads + Wait + Sync + AllocGlobal>(
     play_text(rt, &many(alloc, seed, 500, 5_000, 50)?, JSON, sink)
 }
 
-/// Plays a script, and adds what it prints, what is shown beside it, and how it ended.
+/// Plays a script, and adds what it prints, what is shown beside it, a digest of the pictures, and how it ended.
 pub fn play_text<R: Threads + Wait + Sync + AllocGlobal>(
     rt: &R,
     text: &str,
@@ -96,8 +103,12 @@ pub fn play_text<R: Threads + Wait + Sync + AllocGlobal>(
     sink: &mut MemorySink,
 ) -> Result<(), Fault> {
     let mut err = MemorySink::new(rt.alloc());
-    let ending = follow_text(rt, text, views, sink, &mut err)?;
+    let album = Album {
+        tally: Cell::new(Tally::new()),
+    };
+    let ending = follow_text(rt, text, views, &album, sink, &mut err)?;
     acc_script::write_all(sink, err.as_slice());
+    acc_script::write_all(sink, &album.tally.get().digest.to_le_bytes());
     acc_script::write_all(sink, ending.as_bytes());
     Ok(())
 }
@@ -106,6 +117,7 @@ fn follow_text<R: Threads + Wait + Sync + AllocGlobal>(
     rt: &R,
     text: &str,
     views: Views,
+    album: &Album,
     out: &mut MemorySink,
     err: &mut MemorySink,
 ) -> Result<&'static str, Fault> {
@@ -118,7 +130,7 @@ fn follow_text<R: Threads + Wait + Sync + AllocGlobal>(
     let mut reason = Page::new(rt.alloc());
     let beside = Beside {
         err,
-        pictures: &NoPictures,
+        pictures: album,
         reason: &mut reason,
     };
     match follow(rt, setting, &mut reader, out, beside) {

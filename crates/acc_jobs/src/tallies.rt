@@ -1,7 +1,15 @@
 //! What calls answered, summed up.
 
-use acc_base::{Did, Event, Fault, Step};
-use acc_table::Reply;
+use crate::numbers::{Numbered, fields_of_aim, fields_of_event, fields_of_fault, fields_of_step};
+use acc_base::{Aim, Did, Event, Fault, Item};
+use acc_lend::Lease;
+use acc_table::{Mapped, Reply};
+
+/// What each sum of words is multiplied by.
+const FACTOR: u64 = 0x9E37_79B9_7F4A_7C15;
+
+/// How many bytes of a lease are noted at most.
+const FRONT: usize = 4_096;
 
 /// A digest of all that was answered, and what was left behind.
 #[derive(Clone, Copy)]
@@ -12,35 +20,9 @@ pub struct Tally {
     pub left: u64,
 }
 
-/// What a step did to which block, as one number.
-fn number_of_step(step: Step) -> u64 {
-    match step {
-        Step::Nothing => 1,
-        Step::Counted { block } => block.wrapping_mul(8).wrapping_add(2),
-        Step::Born { block, place } => block.wrapping_mul(8).wrapping_add(place),
-        Step::Dropped { block, ended } => {
-            block
-                .wrapping_mul(8)
-                .wrapping_add(4)
-                .wrapping_add(u64::from(ended))
-        }
-        Step::Moved { block } => block.wrapping_mul(8).wrapping_add(6),
-    }
-}
-
-/// The number that a reply has. A lease is abandoned.
-fn number_of_reply(reply: Reply) -> u64 {
-    match reply {
-        Reply::Done => 0,
-        Reply::Entered { number } => number,
-        Reply::Lease(lease) => {
-            let serial = lease.serial();
-            lease.abandon();
-            serial
-        }
-        Reply::Drained { count } => count,
-        Reply::Idle => 1,
-    }
+/// A sum of words, with one more.
+fn summed(sum: u64, word: [u8; 8]) -> u64 {
+    (sum.rotate_left(5) ^ u64::from_le_bytes(word)).wrapping_mul(FACTOR)
 }
 
 impl Tally {
@@ -54,48 +36,139 @@ impl Tally {
 
     /// Notes a number.
     pub fn note(&mut self, number: u64) {
-        let mixed = (self.digest ^ number).wrapping_mul(0x9E37_79B9_7F4A_7C15);
+        let mixed = (self.digest ^ number).wrapping_mul(FACTOR);
         self.digest = mixed ^ (mixed >> 29);
     }
 
-    /// Notes bytes, eight at a time.
+    /// Notes numbers.
+    pub fn note_all(&mut self, numbers: &[u64]) {
+        for number in numbers {
+            self.note(*number);
+        }
+    }
+
+    /// Notes how many bytes there are, and all of them.
     pub fn note_bytes(&mut self, bytes: &[u8]) {
-        for eight in bytes.chunks(8) {
-            self.note_eight(eight);
+        self.note(bytes.len() as u64);
+        let (words, rest) = bytes.as_chunks::<8>();
+        let (fours, last) = words.as_chunks::<4>();
+        self.note_fours(fours);
+        for word in last {
+            self.note(u64::from_le_bytes(*word));
+        }
+        for byte in rest {
+            self.note(u64::from(*byte));
         }
     }
 
-    fn note_eight(&mut self, bytes: &[u8]) {
-        let mut number = 0u64;
-        for byte in bytes {
-            number = (number << 8) | u64::from(*byte);
+    /// Notes words by four sums, since one alone would wait for itself.
+    fn note_fours(&mut self, fours: &[[[u8; 8]; 4]]) {
+        let (mut one, mut two, mut three, mut four) = (1, 2, 3, 4);
+        for [first, second, third, fourth] in fours {
+            one = summed(one, *first);
+            two = summed(two, *second);
+            three = summed(three, *third);
+            four = summed(four, *fourth);
         }
-        self.note(number);
+        self.note_all(&[one, two, three, four]);
     }
 
-    /// Notes an accepted call, and returns the number that it replied.
+    /// Notes an accepted call, and returns the number that it replied. A lease is abandoned.
     pub fn accept(&mut self, reply: Reply) -> u64 {
-        let number = number_of_reply(reply);
-        self.note(number);
+        let (kind, number) = match reply {
+            Reply::Done => (0, 0),
+            Reply::Entered { number } => (1, number),
+            Reply::Lease(lease) => (2, self.accept_lease(lease)),
+            Reply::Drained { count } => (3, count),
+            Reply::Idle => (4, 1),
+        };
+        self.note_all(&[kind, number]);
         number
+    }
+
+    fn accept_lease(&mut self, lease: Lease) -> u64 {
+        self.note_lease(&lease);
+        let serial = lease.serial();
+        lease.abandon();
+        serial
+    }
+
+    /// Notes a lease, with a front of the bytes that it lends.
+    pub fn note_lease(&mut self, lease: &Lease) {
+        let (at, len) = (lease.offset() as u64, lease.len() as u64);
+        self.note_all(&[lease.device(), lease.serial(), lease.block(), at, len]);
+        let bytes = lease.bytes();
+        self.note_bytes(bytes.get(..FRONT).unwrap_or(bytes));
     }
 
     /// Notes a refused call, and returns 0.
     pub fn refuse(&mut self, fault: Fault) -> u64 {
-        self.note(fault.number().wrapping_add(1_000));
+        let (first, second) = fields_of_fault(fault);
+        self.note_all(&[fault.number().wrapping_add(1_000), first, second]);
         0
     }
 
-    /// Notes what events did.
+    /// Notes a mapped range.
+    pub fn note_mapped(&mut self, range: Mapped) {
+        let lent = u64::from(range.lent);
+        self.note_all(&[range.start, range.len, range.place]);
+        self.note_all(&[range.structured, range.dynamic, lent]);
+    }
+
+    /// Notes events.
     pub fn note_events(&mut self, events: &[Event]) {
         for event in events {
-            self.note_dids(event.did());
+            self.note_event(event);
         }
     }
 
-    fn note_dids(&mut self, dids: &[Did]) {
-        for did in dids {
-            self.note(number_of_step(did.step));
+    fn note_event(&mut self, event: &Event) {
+        self.note_all(&fields_of_event(event));
+        self.note_items_of(event);
+        for did in event.did() {
+            self.note_did(*did);
+        }
+    }
+
+    /// Notes the items or the bytes that an event has.
+    fn note_items_of(&mut self, event: &Event) {
+        match event {
+            Event::Entered { items, .. } => self.note_items(items.as_slice()),
+            Event::EnteredData { items, .. } => self.note_items(items.as_slice()),
+            Event::ExitedData { items, .. } => self.note_items(items.as_slice()),
+            Event::Updated { items, .. } => self.note_items(items.as_slice()),
+            Event::HostWritten { bytes, .. } | Event::Gathered { bytes, .. } => {
+                self.note_bytes(bytes.as_slice())
+            }
+            _ => {}
+        }
+    }
+
+    fn note_items<C: Numbered>(&mut self, items: &[Item<C>]) {
+        for item in items {
+            self.note_item(item);
+        }
+    }
+
+    fn note_item<C: Numbered>(&mut self, item: &Item<C>) {
+        let kind = item.clause.number().wrapping_mul(2);
+        let has_pointer = u64::from(item.pointer.is_some());
+        let len = item.section.len.wrapping_mul(32);
+        self.note(item.section.start);
+        self.note(len.wrapping_add(kind).wrapping_add(has_pointer));
+        if let Some(pointer) = item.pointer {
+            self.note(pointer);
+        }
+    }
+
+    fn note_did(&mut self, did: Did) {
+        let (step, place) = fields_of_step(did.step);
+        self.note(step);
+        if place != 0 {
+            self.note(place);
+        }
+        if did.aim != Aim::None {
+            self.note_all(&fields_of_aim(did.aim));
         }
     }
 }

@@ -13,6 +13,9 @@ pub struct Text {
 /// How many arrays of a script are mapped.
 pub const ARRAYS: u64 = 2_000;
 
+/// One array in so many is filled and shown.
+const SHOWN: u64 = 32;
+
 impl Text {
     fn new(alloc: Global, seed: u64) -> Text {
         Text {
@@ -25,12 +28,22 @@ impl Text {
         self.chance.number() % bound.max(1)
     }
 
-    /// Declares arrays of 64 bytes, `a0` and so on.
+    /// Declares arrays of 64 bytes, `a0` and so on. The host writes 16 bytes into one in 32 of them.
     fn arrays(&mut self, count: u64) -> Result<(), AllocError> {
         for nth in 0..count {
             write!(self.text, "array a{nth} 64\n")?;
         }
+        for part in 0..count.div_ceil(SHOWN) {
+            self.fill(part.wrapping_mul(SHOWN))?;
+        }
         Ok(())
+    }
+
+    fn fill(&mut self, nth: u64) -> Result<(), AllocError> {
+        write!(self.text, "write a{nth}[8] ")?;
+        self.put_eight()?;
+        self.put_eight()?;
+        self.text.push_str("\n")
     }
 
     /// Maps arrays, four on a line.
@@ -53,12 +66,22 @@ impl Text {
         )
     }
 
-    /// Ends the mappings of arrays, one on a line.
+    /// Ends the mappings of arrays, one on a line, and shows one in 32 of them on both sides.
     fn end(&mut self, count: u64) -> Result<(), AllocError> {
         for nth in 0..count {
-            write!(self.text, "exit data copyout(a{nth})\n")?;
+            self.end_one(nth)?;
         }
         Ok(())
+    }
+
+    fn end_one(&mut self, nth: u64) -> Result<(), AllocError> {
+        if nth % SHOWN != 0 {
+            return write!(self.text, "exit data copyout(a{nth})\n");
+        }
+        write!(
+            self.text,
+            "peek a{nth}\nexit data copyout(a{nth})\nshow a{nth}\n"
+        )
     }
 
     /// A directive of one item, or two that go together, on one of so many mapped arrays.
@@ -173,6 +196,8 @@ fn nest(text: &mut Text, depth: u64) -> Result<(), AllocError> {
             "data copyin(a{nth}[0:32]) create(a{nth}[0:16])\nkernel number 5 a{nth}[0:8]\nupdate self(a{nth}[0:8])\n"
         )?;
     }
+    let nth = text.below(8).wrapping_mul(8);
+    write!(text.text, "peek a{nth}[0:32]\nshow a{nth}\n")?;
     for _ in 0..depth {
         text.text.push_str("end data\n")?;
     }

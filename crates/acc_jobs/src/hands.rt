@@ -1,0 +1,218 @@
+//! A thread that makes calls on a table that it shares.
+
+use crate::desks::chance_bytes;
+use crate::items::Row;
+use crate::tallies::Tally;
+use acc_base::{EnterClause, ExitClause, Fault, Item, RegionClause, Section, UpdateClause};
+use acc_lend::{Add, Lease, run_one};
+use acc_random::Chance;
+use acc_runtime::{Caller, Region, Runtime};
+use std::alloc::AllocError;
+use std::sync::Wait;
+use std::sync::ledger::Ledger;
+
+/// How many calls a thread may make.
+const TICKETS: u64 = 1 << 36;
+
+/// The arrays of a thread, of which the even ones stay mapped while it works.
+const ARRAYS: Row = Row {
+    first: 0,
+    apart: 512,
+    len: 256,
+    count: 64,
+};
+
+/// What a thread has for itself.
+#[derive(Drop)]
+pub struct Worker<Regions: Ledger, Tickets: Ledger, Events: Ledger> {
+    /// Its shares.
+    pub caller: Caller<Regions, Tickets, Events>,
+    /// What was answered.
+    pub tally: Tally,
+    chance: Chance,
+    number: u64,
+}
+
+impl<Regions: Ledger, Tickets: Ledger, Events: Ledger> Worker<Regions, Tickets, Events> {
+    /// A worker of a number, with one region that it may enter.
+    pub fn new(
+        caller: &mut Caller<Regions, Tickets, Events>,
+        seed: u64,
+        number: u64,
+    ) -> Result<Worker<Regions, Tickets, Events>, Fault> {
+        Ok(Worker {
+            caller: caller.split(1, TICKETS)?,
+            tally: Tally::new(),
+            chance: Chance::new(seed.wrapping_add(number)),
+            number,
+        })
+    }
+
+    /// Its own arrays.
+    fn arrays(&self) -> Row {
+        Row {
+            first: self.number.wrapping_mul(65_536),
+            ..ARRAYS
+        }
+    }
+}
+
+/// A worker at a table.
+#[derive(Drop)]
+pub struct Hand<'a, Regions: Ledger, Tickets: Ledger, Events: Ledger, R> {
+    /// The handle of its thread.
+    pub rt: &'a R,
+    /// The table.
+    pub runtime: &'a Runtime<Regions, Tickets, Events>,
+    /// Itself.
+    pub worker: &'a mut Worker<Regions, Tickets, Events>,
+}
+
+/// One item of a clause.
+fn item_of<C: Drop, R: AllocGlobal>(
+    rt: &R,
+    clause: C,
+    section: Section,
+) -> Result<Vec<Item<C>>, AllocError> {
+    let item = Item {
+        clause,
+        section,
+        pointer: None,
+    };
+    Ok(vec![in rt.alloc(); item]?)
+}
+
+impl<Regions: Ledger, Tickets: Ledger, Events: Ledger, R: Wait + AllocGlobal> Hand<
+    '_,
+    Regions,
+    Tickets,
+    Events,
+    R,
+> {
+    /// Makes so many steps with the even arrays mapped, until a fault.
+    pub fn work(&mut self, steps: u64) -> Result<(), Fault> {
+        self.map_even()?;
+        for _ in 0..steps {
+            self.step()?;
+        }
+        self.unmap_even()
+    }
+
+    fn device(&self) -> u64 {
+        self.worker.number % 2
+    }
+
+    fn queue(&self) -> Option<u64> {
+        Some(self.worker.number % 16)
+    }
+
+    fn map_even(&mut self) -> Result<(), Fault> {
+        let (rt, device) = (self.rt, self.device());
+        let arrays = self.worker.arrays();
+        let items = arrays.items(rt.alloc(), EnterClause::Copyin, 0, 2, 32)?;
+        self.runtime
+            .enter_data(rt, &mut self.worker.caller, device, items, None)
+    }
+
+    fn unmap_even(&mut self) -> Result<(), Fault> {
+        let (rt, device) = (self.rt, self.device());
+        let arrays = self.worker.arrays();
+        let items = arrays.items(rt.alloc(), ExitClause::Copyout, 0, 2, 32)?;
+        self.runtime
+            .exit_data(rt, &mut self.worker.caller, device, items, false, None)
+    }
+
+    /// All calls on one of its arrays. Between, the host writes other bytes.
+    fn step(&mut self) -> Result<(), Fault> {
+        let number = self.worker.chance.number();
+        let array = self.worker.arrays().at(number);
+        self.write(array)?;
+        self.map(array)?;
+        self.enter(array)?;
+        self.write(array)?;
+        self.update(UpdateClause::ToSelf, array)?;
+        self.read(array)?;
+        self.write(array)?;
+        self.update(UpdateClause::ToDevice, array)?;
+        self.write(array)?;
+        self.unmap(array)?;
+        self.read(array)
+    }
+
+    fn write(&mut self, array: Section) -> Result<(), Fault> {
+        let rt = self.rt;
+        let bytes = chance_bytes(rt.alloc(), &mut self.worker.chance, array.len)?;
+        self.runtime
+            .host_write(rt, &mut self.worker.caller, array.start, bytes)
+    }
+
+    /// Notes what the host has of an array.
+    fn read(&mut self, array: Section) -> Result<(), Fault> {
+        let bytes = self.runtime.host_read(self.rt, array)?;
+        self.worker.tally.note_bytes(&bytes);
+        Ok(())
+    }
+
+    fn map(&mut self, array: Section) -> Result<(), Fault> {
+        let (rt, device) = (self.rt, self.device());
+        let items = item_of(rt, EnterClause::Copyin, array)?;
+        self.runtime
+            .enter_data(rt, &mut self.worker.caller, device, items, None)
+    }
+
+    fn unmap(&mut self, array: Section) -> Result<(), Fault> {
+        let (rt, device) = (self.rt, self.device());
+        let items = item_of(rt, ExitClause::Copyout, array)?;
+        self.runtime
+            .exit_data(rt, &mut self.worker.caller, device, items, false, None)
+    }
+
+    /// Copies an array one way through its queue, and waits for that.
+    fn update(&mut self, clause: UpdateClause, array: Section) -> Result<(), Fault> {
+        let (rt, device, queue) = (self.rt, self.device(), self.queue());
+        let items = item_of(rt, clause, array)?;
+        let caller = &mut self.worker.caller;
+        self.runtime
+            .update(rt, caller, device, items, false, queue)?;
+        let count = self.runtime.wait(rt, caller, device, queue)?;
+        self.worker.tally.note(count);
+        Ok(())
+    }
+
+    /// Enters a region over an array, works on it, and exits.
+    fn enter(&mut self, array: Section) -> Result<(), Fault> {
+        let (rt, device) = (self.rt, self.device());
+        let items = item_of(rt, RegionClause::Present, array)?;
+        let region = self
+            .runtime
+            .enter(rt, &mut self.worker.caller, device, items)?;
+        let lent = self.lend(&region, array);
+        match self.runtime.exit(rt, &mut self.worker.caller, region) {
+            Ok(()) => lent,
+            Err((region, fault)) => {
+                region.abandon();
+                Err(fault)
+            }
+        }
+    }
+
+    /// Lends an array in a region, and lets a kernel work on it.
+    fn lend(&mut self, region: &Region, array: Section) -> Result<(), Fault> {
+        let mut lease = self
+            .runtime
+            .lend(self.rt, &mut self.worker.caller, region, array)?;
+        self.worker.tally.note_bytes(lease.bytes());
+        run_one(&mut lease, &Add(3), &[]);
+        self.gather(lease)
+    }
+
+    fn gather(&mut self, lease: Lease) -> Result<(), Fault> {
+        match self.runtime.gather(self.rt, &mut self.worker.caller, lease) {
+            Ok(()) => Ok(()),
+            Err((lease, fault)) => {
+                lease.abandon();
+                Err(fault)
+            }
+        }
+    }
+}

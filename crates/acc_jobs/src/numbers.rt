@@ -1,0 +1,164 @@
+//! Answers as numbers: what they are, and each of their fields.
+
+use acc_base::{Aim, EnterClause, Event, ExitClause, Fault, RegionClause, Step, UpdateClause};
+
+/// A clause that has a number, from 0 to 15.
+pub trait Numbered: Copy {
+    /// The number of the clause, with its modifier.
+    fn number(self) -> u64;
+}
+
+impl Numbered for RegionClause {
+    fn number(self) -> u64 {
+        match self {
+            RegionClause::Copy => 0,
+            RegionClause::Copyin => 1,
+            RegionClause::Copyout { zero } => u64::from(zero).wrapping_add(2),
+            RegionClause::Create { zero } => u64::from(zero).wrapping_add(4),
+            RegionClause::NoCreate => 6,
+            RegionClause::Present => 7,
+            RegionClause::Attach => 8,
+        }
+    }
+}
+
+impl Numbered for EnterClause {
+    fn number(self) -> u64 {
+        self.as_region().number()
+    }
+}
+
+impl Numbered for ExitClause {
+    fn number(self) -> u64 {
+        match self {
+            ExitClause::Delete => 0,
+            ExitClause::Copyout => 1,
+            ExitClause::Detach => 2,
+        }
+    }
+}
+
+impl Numbered for UpdateClause {
+    fn number(self) -> u64 {
+        u64::from(self.copies_out())
+    }
+}
+
+/// A kind and a number, as one number.
+fn kind_of(kind: u64, number: u64) -> u64 {
+    number.wrapping_mul(16).wrapping_add(kind)
+}
+
+/// What a step did to which block, and the place of a block that was born; else 0.
+pub fn fields_of_step(step: Step) -> (u64, u64) {
+    match step {
+        Step::Nothing => (0, 0),
+        Step::Counted { block } => (kind_of(1, block), 0),
+        Step::Born { block, place } => (kind_of(2, block), place),
+        Step::Dropped { block, ended } => (kind_of(u64::from(ended).wrapping_add(3), block), 0),
+        Step::Moved { block } => (kind_of(5, block), 0),
+    }
+}
+
+/// What became of a pointer in which block, the pointer, and its new target; else 0.
+pub fn fields_of_aim(aim: Aim) -> [u64; 3] {
+    match aim {
+        Aim::None => [6, 0, 0],
+        Aim::New {
+            pointer,
+            block,
+            target,
+        } => [kind_of(7, block), pointer, target],
+        Aim::Again { pointer, block } => [kind_of(8, block), pointer, 0],
+        Aim::Less { pointer, block } => [kind_of(9, block), pointer, 0],
+        Aim::Cleared { pointer, block } => [kind_of(10, block), pointer, 0],
+    }
+}
+
+/// A queue as a number: 0 for none.
+fn number_of(queue: &Option<u64>) -> u64 {
+    match queue {
+        Some(number) => number.wrapping_add(1),
+        None => 0,
+    }
+}
+
+/// What an event is on which device, its other numbers, and how many items did something.
+pub fn fields_of_event(event: &Event) -> [u64; 6] {
+    let count = event.did().len() as u64;
+    let on = event.device();
+    match event {
+        Event::Entered { number, .. } => [kind_of(0, on), *number, count, 0, 0, 0],
+        Event::Left { number, .. } => [kind_of(1, on), *number, count, 0, 0, 0],
+        Event::EnteredData { queue, .. } => [kind_of(2, on), number_of(queue), count, 0, 0, 0],
+        Event::ExitedData {
+            finalize,
+            queue,
+            ..
+        } => [
+            kind_of(3, on),
+            number_of(queue),
+            count,
+            u64::from(*finalize),
+            0,
+            0,
+        ],
+        Event::Updated {
+            if_present,
+            queue,
+            ..
+        } => [
+            kind_of(4, on),
+            number_of(queue),
+            count,
+            u64::from(*if_present),
+            0,
+            0,
+        ],
+        _ => fields_of_other(event, on),
+    }
+}
+
+/// The same of an event that has no items.
+fn fields_of_other(event: &Event, on: u64) -> [u64; 6] {
+    match event {
+        Event::Waited { queue, count, .. } => [kind_of(5, on), number_of(queue), *count, 0, 0, 0],
+        Event::Stepped { queue, block, .. } => [kind_of(6, on), *queue, *block, 0, 0, 0],
+        Event::HostWritten { addr, len, .. } => [kind_of(7, on), *addr, *len, 0, 0, 0],
+        Event::Lent {
+            region,
+            section,
+            block,
+            serial,
+            ..
+        } => [
+            kind_of(8, on),
+            *region,
+            section.start,
+            section.len,
+            *block,
+            *serial,
+        ],
+        Event::Gathered { serial, block, .. } => [kind_of(9, on), *serial, *block, 0, 0, 0],
+        _ => [kind_of(10, on), 0, 0, 0, 0, 0],
+    }
+}
+
+/// The fields of a fault that a table has, at most two; else 0.
+pub fn fields_of_fault(fault: Fault) -> (u64, u64) {
+    match fault {
+        Fault::NoTickets { left } | Fault::NoAllowance { left } => (left, 0),
+        Fault::TooManyItems { n } => (n, 0),
+        Fault::TraceFull { len } => (len, 0),
+        Fault::OutOfHost { item } | Fault::Misaligned { item } => (item, 0),
+        Fault::PartlyPresent { item } | Fault::NotPresent { item } => (item, 0),
+        Fault::CounterFull { item } => (item, 0),
+        Fault::NoQueue { q } | Fault::QueueFull { q } => (q, 0),
+        Fault::Lent { block } => (block, 0),
+        Fault::DeviceFull { item, need } => (item, need),
+        Fault::NoRegion { number } => (number, 0),
+        Fault::NoLease { serial } => (serial, 0),
+        Fault::NoDevice { device } => (device, 0),
+        _ => (0, 0),
+    }
+}

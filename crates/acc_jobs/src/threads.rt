@@ -1,0 +1,247 @@
+//! Threads that share a table, each with arrays and a queue of its own, and kernels that work in one to four threads.
+//! What is noted does not depend on which thread comes first.
+
+ghost use Rattle.std.specs.Prelude.{◌≡◌};
+
+use crate::desks::{Desk, limits};
+use crate::hands::{Hand, Worker};
+use crate::items::{one, section};
+use crate::tallies::Tally;
+use acc_base::{Config, EnterClause, ExitClause, Fault, RegionClause, Section};
+use acc_lend::{Add, Cuts, Lease, Open, run_parts};
+use acc_runtime::{Blanks, Caller, Runtime, blanks};
+use acc_table::Call;
+use std::marker::Brand;
+use std::sync::Wait;
+use std::sync::ledger::Ledger;
+use std::thread::{Threads, for_each_mut};
+
+/// How many steps all threads of a table make in a round.
+const STEPS: u64 = 2_000;
+
+/// The length of the array that kernels work on.
+const LARGE: u64 = 4_194_304;
+
+/// How many threads share a table, and how many rounds they make.
+#[derive(Clone, Copy)]
+struct Plan {
+    seed: u64,
+    rounds: u64,
+    threads: u64,
+}
+
+/// Makes so many rounds with one, two and four threads on a table, and as many with kernels.
+pub fn run<R: Threads + Wait + Sync + AllocGlobal>(
+    rt: &R,
+    seed: u64,
+    rounds: u64,
+) -> Result<Tally, Fault> {
+    let mut tally = Tally::new();
+    for threads in [1, 2, 4] {
+        let plan = Plan {
+            seed,
+            rounds,
+            threads,
+        };
+        share(rt, plan, &mut tally)?;
+    }
+    run_kernels(rt, seed, rounds, tally)
+}
+
+/// A new table of two devices for threads.
+fn share<R: Threads + Wait + Sync + AllocGlobal>(
+    rt: &R,
+    plan: Plan,
+    tally: &mut Tally,
+) -> Result<(), Fault> {
+    let config = limits(2_097_152, 2_097_152)?.with_devices(2)?;
+    let blanks = blanks(&config);
+    share_new::<Brand, Brand, Brand, R>(rt, config, blanks, plan, tally)
+}
+
+fn share_new<
+    Regions: Ledger + Send + Sync,
+    Tickets: Ledger + Send + Sync,
+    Events: Ledger + Send + Sync,
+    R: Threads + Wait + Sync + AllocGlobal,
+>(rt: &R, config: Config, blanks: Blanks, plan: Plan, tally: &mut Tally) -> Result<(), Fault>
+    requires regions { (blanks.regions.name ≡ Regions.name) × (blanks.regions.parts ≡ Regions.parts) × (config.regions ≡ Regions.parts) }
+    requires tickets { (blanks.tickets.name ≡ Tickets.name) × (blanks.tickets.parts ≡ Tickets.parts) × (config.tickets ≡ Tickets.parts) }
+    requires events { (blanks.events.name ≡ Events.name) × (blanks.events.parts ≡ Events.parts) × (config.tickets ≡ Events.parts) }
+{
+    let (runtime, mut caller) = Runtime::<Regions, Tickets, Events>::new(rt, config, blanks)?;
+    play(rt, &runtime, &mut caller, plan, tally)
+}
+
+/// Makes all rounds, and notes what each thread and the table have then.
+fn play<
+    Regions: Ledger + Send + Sync,
+    Tickets: Ledger + Send + Sync,
+    Events: Ledger + Send + Sync,
+    R: Threads + Wait + Sync + AllocGlobal,
+>(
+    rt: &R,
+    runtime: &Runtime<Regions, Tickets, Events>,
+    caller: &mut Caller<Regions, Tickets, Events>,
+    plan: Plan,
+    tally: &mut Tally,
+) -> Result<(), Fault> {
+    let mut workers = Vec::new(rt.alloc());
+    hire(caller, plan, &mut workers)?;
+    let made = make_rounds(rt, runtime, workers.as_mut_slice(), plan);
+    note_workers(caller, workers, tally);
+    note_table(rt, runtime, caller, tally);
+    made
+}
+
+/// Splits a caller off for the worker of each thread.
+fn hire<Regions: Ledger, Tickets: Ledger, Events: Ledger>(
+    caller: &mut Caller<Regions, Tickets, Events>,
+    plan: Plan,
+    workers: &mut Vec<Worker<Regions, Tickets, Events>>,
+) -> Result<(), Fault> {
+    for number in 0..plan.threads {
+        workers.push(Worker::new(caller, plan.seed, number)?)?;
+    }
+    Ok(())
+}
+
+/// Notes what the workers noted, in the order of their numbers, and takes their shares back.
+fn note_workers<Regions: Ledger, Tickets: Ledger, Events: Ledger>(
+    caller: &mut Caller<Regions, Tickets, Events>,
+    workers: Vec<Worker<Regions, Tickets, Events>>,
+    tally: &mut Tally,
+) {
+    for worker in workers {
+        tally.note(worker.tally.digest);
+        caller.merge(worker.caller);
+    }
+}
+
+fn make_rounds<
+    Regions: Ledger + Send + Sync,
+    Tickets: Ledger + Send + Sync,
+    Events: Ledger + Send + Sync,
+    R: Threads + Wait + Sync + AllocGlobal,
+>(
+    rt: &R,
+    runtime: &Runtime<Regions, Tickets, Events>,
+    workers: &mut [Worker<Regions, Tickets, Events>],
+    plan: Plan,
+) -> Result<(), Fault> {
+    for _ in 0..plan.rounds {
+        work_all(rt, runtime, workers, STEPS / plan.threads.max(1));
+        runtime.rebase(rt)?;
+    }
+    Ok(())
+}
+
+/// So many steps of each worker, each in a thread of its own.
+fn work_all<
+    Regions: Ledger + Send + Sync,
+    Tickets: Ledger + Send + Sync,
+    Events: Ledger + Send + Sync,
+    R: Threads + Wait + Sync + AllocGlobal,
+>(
+    rt: &R,
+    runtime: &Runtime<Regions, Tickets, Events>,
+    workers: &mut [Worker<Regions, Tickets, Events>],
+    steps: u64,
+) {
+    let threads = workers.len().max(1);
+    for_each_mut(
+        rt,
+        workers,
+        threads,
+        &|_, worker| work(rt, runtime, worker, steps),
+    );
+}
+
+/// Makes the steps of a worker, until a fault, which is noted.
+fn work<Regions: Ledger, Tickets: Ledger, Events: Ledger, R: Wait + AllocGlobal>(
+    rt: &R,
+    runtime: &Runtime<Regions, Tickets, Events>,
+    worker: &mut Worker<Regions, Tickets, Events>,
+    steps: u64,
+) {
+    let mut hand = Hand {
+        rt,
+        runtime,
+        worker,
+    };
+    if let Err(fault) = hand.work(steps) {
+        worker.tally.refuse(fault);
+    }
+}
+
+/// Notes how many events there were, and what is left.
+fn note_table<Regions: Ledger, Tickets: Ledger, Events: Ledger, R: Wait>(
+    rt: &R,
+    runtime: &Runtime<Regions, Tickets, Events>,
+    caller: &mut Caller<Regions, Tickets, Events>,
+    tally: &mut Tally,
+) {
+    let (events, regions, first, second) = runtime.look(
+        rt,
+        caller,
+        |table| (
+            table.events(),
+            table.regions(),
+            table.used(0),
+            table.used(1),
+        ),
+    );
+    tally.note(events);
+    let left = regions.wrapping_add(first).wrapping_add(second);
+    tally.left = tally.left.wrapping_add(left);
+}
+
+fn run_kernels<R: Threads + Wait + Sync + AllocGlobal>(
+    rt: &R,
+    seed: u64,
+    rounds: u64,
+    tally: Tally,
+) -> Result<Tally, Fault> {
+    let config = limits(LARGE, LARGE)?;
+    let mut desk = Desk::new(rt.alloc(), config, seed, tally)?;
+    play_kernels(rt, &mut desk, rounds)
+}
+
+/// Maps the large array, and lets kernels work on all of it in one to four parts, so many times.
+fn play_kernels<R: Threads + Wait + Sync + AllocGlobal>(
+    rt: &R,
+    desk: &mut Desk,
+    rounds: u64,
+) -> Result<Tally, Fault> {
+    let all = section(0, LARGE);
+    desk.fill(all)?;
+    desk.enter_data(one(EnterClause::Copyin, all));
+    let region = desk.enter(one(RegionClause::Present, all));
+    for round in 0..rounds.saturating_mul(8) {
+        work_in(rt, desk, region, all, round % 4);
+    }
+    desk.exit(region);
+    desk.exit_data(one(ExitClause::Copyout, all));
+    desk.note_host(all);
+    Ok(desk.finish())
+}
+
+/// Lends a section to a kernel that works on it in so many parts and one.
+fn work_in<R: Threads + Wait + Sync + AllocGlobal>(
+    rt: &R,
+    desk: &mut Desk,
+    region: u64,
+    section: Section,
+    parts: u64,
+) {
+    if let Some(mut lease) = desk.lend(region, section) {
+        add_evenly(rt, &mut lease, (parts % 64) as usize);
+        desk.call(Call::Gather(lease));
+    }
+}
+
+fn add_evenly<R: Threads + Wait + Sync + AllocGlobal>(rt: &R, lease: &mut Lease, parts: usize) {
+    if let Ok(cuts) = Cuts::even(rt.alloc(), lease.len(), parts.wrapping_add(1)) {
+        run_parts(rt, lease, &cuts, &Add(3), &[], &Open);
+    }
+}

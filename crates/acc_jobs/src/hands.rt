@@ -1,13 +1,13 @@
 //! A thread that makes calls on a table that it shares.
 
 use crate::desks::chance_bytes;
-use crate::items::Row;
+use crate::items::{Row, item};
 use crate::tallies::Tally;
 use acc_base::{EnterClause, ExitClause, Fault, Item, RegionClause, Section, UpdateClause};
 use acc_lend::{Add, Lease, run_one};
 use acc_random::Chance;
 use acc_runtime::{Caller, Region, Runtime};
-use std::alloc::AllocError;
+use std::alloc::{AllocError, Global};
 use std::sync::Wait;
 use std::sync::ledger::Ledger;
 
@@ -48,6 +48,16 @@ impl<Regions: Ledger, Tickets: Ledger, Events: Ledger> Worker<Regions, Tickets, 
         })
     }
 
+    /// The device on which it works.
+    fn device(&self) -> u64 {
+        self.number % 2
+    }
+
+    /// Its queue.
+    fn queue(&self) -> Option<u64> {
+        Some(self.number % 16)
+    }
+
     /// Its own arrays.
     fn arrays(&self) -> Row {
         Row {
@@ -68,18 +78,15 @@ pub struct Hand<'a, Regions: Ledger, Tickets: Ledger, Events: Ledger, R> {
     pub worker: &'a mut Worker<Regions, Tickets, Events>,
 }
 
-/// One item of a clause.
-fn item_of<C: Drop, R: AllocGlobal>(
-    rt: &R,
+/// A list of one item.
+fn list_of<C: Copy + Drop>(
+    alloc: Global,
     clause: C,
     section: Section,
 ) -> Result<Vec<Item<C>>, AllocError> {
-    let item = Item {
-        clause,
-        section,
-        pointer: None,
-    };
-    Ok(vec![in rt.alloc(); item]?)
+    let mut items = Vec::new(alloc);
+    items.push(item(clause, section))?;
+    Ok(items)
 }
 
 impl<Regions: Ledger, Tickets: Ledger, Events: Ledger, R: Wait + AllocGlobal> Hand<
@@ -98,16 +105,8 @@ impl<Regions: Ledger, Tickets: Ledger, Events: Ledger, R: Wait + AllocGlobal> Ha
         self.unmap_even()
     }
 
-    fn device(&self) -> u64 {
-        self.worker.number % 2
-    }
-
-    fn queue(&self) -> Option<u64> {
-        Some(self.worker.number % 16)
-    }
-
     fn map_even(&mut self) -> Result<(), Fault> {
-        let (rt, device) = (self.rt, self.device());
+        let (rt, device) = (self.rt, self.worker.device());
         let arrays = self.worker.arrays();
         let items = arrays.items(rt.alloc(), EnterClause::Copyin, 0, 2, 32)?;
         self.runtime
@@ -115,7 +114,7 @@ impl<Regions: Ledger, Tickets: Ledger, Events: Ledger, R: Wait + AllocGlobal> Ha
     }
 
     fn unmap_even(&mut self) -> Result<(), Fault> {
-        let (rt, device) = (self.rt, self.device());
+        let (rt, device) = (self.rt, self.worker.device());
         let arrays = self.worker.arrays();
         let items = arrays.items(rt.alloc(), ExitClause::Copyout, 0, 2, 32)?;
         self.runtime
@@ -154,23 +153,23 @@ impl<Regions: Ledger, Tickets: Ledger, Events: Ledger, R: Wait + AllocGlobal> Ha
     }
 
     fn map(&mut self, array: Section) -> Result<(), Fault> {
-        let (rt, device) = (self.rt, self.device());
-        let items = item_of(rt, EnterClause::Copyin, array)?;
+        let (rt, device) = (self.rt, self.worker.device());
+        let items = list_of(rt.alloc(), EnterClause::Copyin, array)?;
         self.runtime
             .enter_data(rt, &mut self.worker.caller, device, items, None)
     }
 
     fn unmap(&mut self, array: Section) -> Result<(), Fault> {
-        let (rt, device) = (self.rt, self.device());
-        let items = item_of(rt, ExitClause::Copyout, array)?;
+        let (rt, device) = (self.rt, self.worker.device());
+        let items = list_of(rt.alloc(), ExitClause::Copyout, array)?;
         self.runtime
             .exit_data(rt, &mut self.worker.caller, device, items, false, None)
     }
 
     /// Copies an array one way through its queue, and waits for that.
     fn update(&mut self, clause: UpdateClause, array: Section) -> Result<(), Fault> {
-        let (rt, device, queue) = (self.rt, self.device(), self.queue());
-        let items = item_of(rt, clause, array)?;
+        let (rt, device, queue) = (self.rt, self.worker.device(), self.worker.queue());
+        let items = list_of(rt.alloc(), clause, array)?;
         let caller = &mut self.worker.caller;
         self.runtime
             .update(rt, caller, device, items, false, queue)?;
@@ -181,8 +180,8 @@ impl<Regions: Ledger, Tickets: Ledger, Events: Ledger, R: Wait + AllocGlobal> Ha
 
     /// Enters a region over an array, works on it, and exits.
     fn enter(&mut self, array: Section) -> Result<(), Fault> {
-        let (rt, device) = (self.rt, self.device());
-        let items = item_of(rt, RegionClause::Present, array)?;
+        let (rt, device) = (self.rt, self.worker.device());
+        let items = list_of(rt.alloc(), RegionClause::Present, array)?;
         let region = self
             .runtime
             .enter(rt, &mut self.worker.caller, device, items)?;

@@ -70,7 +70,8 @@ impl Pool {
     /// The host writes into all arrays.
     fn fill_all(&mut self) -> Result<(), Fault> {
         for nth in 0..ARRAYS {
-            self.desk.fill(self.array(nth))?;
+            let array = self.array(nth);
+            self.desk.fill(array)?;
         }
         Ok(())
     }

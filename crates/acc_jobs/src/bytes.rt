@@ -14,7 +14,7 @@ use std::alloc::Global;
 const LARGE: u64 = 16_777_216;
 
 /// The length of a part of it that is read back.
-const PART: u64 = LARGE / 16;
+const PART: u64 = LARGE / 64;
 
 /// Arrays of 4 KiB.
 const PAGES: Row = Row {
@@ -36,11 +36,11 @@ fn run_large(alloc: Global, seed: u64, rounds: u64) -> Result<Tally, Fault> {
     play_large(&mut desk, rounds)
 }
 
-/// So many rounds on the large array. Each reads one part in sixteen back on both sides, and the last reads all.
+/// So many rounds on the large array. Each reads one part in 64 back on both sides, and the last reads all.
 fn play_large(desk: &mut Desk, rounds: u64) -> Result<Tally, Fault> {
     desk.fill(section(0, LARGE))?;
     for round in 0..rounds {
-        let at = (round % 16).wrapping_mul(PART);
+        let at = (round % 64).wrapping_mul(PART);
         large(desk, section(at, PART))?;
     }
     desk.note_host(section(0, LARGE));

@@ -18,7 +18,7 @@ const TICKETS: u64 = 1 << 36;
 const ARRAYS: Row = Row {
     first: 0,
     apart: 512,
-    len: 256,
+    len: 64,
     count: 64,
 };
 

@@ -9,7 +9,7 @@ use acc_table::{Mapped, Reply};
 const FACTOR: u64 = 0x9E37_79B9_7F4A_7C15;
 
 /// How many bytes of a lease are noted at most.
-const FRONT: usize = 4_096;
+const FRONT: usize = 1_024;
 
 /// A digest of all that was answered, and what was left behind.
 #[derive(Clone, Copy)]

@@ -27,13 +27,11 @@ static size_t growths;
 static size_t refused; /* the number of the one that is refused, or 0 */
 static size_t blocks;
 static size_t bytes;
-static size_t most;
 
 void refuse_growth(size_t number)
 {
     growths = 0;
     refused = number;
-    most = bytes;
 }
 
 bool was_growth_refused(void)
@@ -56,11 +54,6 @@ size_t bytes_held(void)
     return bytes;
 }
 
-size_t most_bytes_held(void)
-{
-    return most;
-}
-
 static tried answer(head *at)
 {
     tried answered = {.ok = at != NULL, .at = at != NULL ? (void *)(at + 1) : &nowhere};
@@ -76,7 +69,6 @@ static head *sized(head *block, size_t size)
     if (grown != NULL) {
         grown->size = size;
         bytes += size - before;
-        most = most < bytes ? bytes : most;
     }
     return grown;
 }

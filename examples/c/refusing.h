@@ -5,7 +5,7 @@
 #include <stdbool.h>
 #include <stddef.h>
 
-/* Refuses the growth of this number from now on, counted from 1, and no other; none for 0. Both counts below begin
+/* Refuses the growth of this number from now on, counted from 1, and no other; none for 0. The count below begins
    anew. */
 void refuse_growth(size_t number);
 
@@ -14,9 +14,6 @@ bool was_growth_refused(void);
 
 /* How many growths the library asked for since then. */
 size_t growths_made(void);
-
-/* How many bytes it had at most since then. */
-size_t most_bytes_held(void);
 
 /* How many blocks and bytes the library has. */
 size_t blocks_held(void);

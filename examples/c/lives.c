@@ -240,8 +240,9 @@ static size_t oldest(uint64_t step)
 }
 
 /* Places of those that are gone are at most as many as the others. Rows of ranges or of pointers are a quarter full or
-   more, taken together. Of ranges that thin out 1,024 stay, and 512 more are there for a while: so 6,144 come first. A region takes memory for its items, for what it holds, and for what each item did, also
-   at its exit; a block takes memory for its bytes. */
+   more, taken together. Of ranges that thin out 1,024 stay, and 512 more are there for a while: so 6,144 come first. A
+   region takes memory for its items, for what it holds, and for what each item did, also at its exit; a block takes
+   memory for its bytes. */
 static const life LIVES[] = {
     {"regions", NULL, enter, enter, leave, any, 2 * ALIVE, 10000, 4},
     {"regions, the oldest first", NULL, enter, enter, leave, oldest, 2 * ALIVE, 10000, 4},

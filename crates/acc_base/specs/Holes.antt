@@ -1,6 +1,6 @@
 -- The holes of a device: blocks and holes are the device, with no address in two of them.
-use Rattle.std.specs.Prelude.{ℕ, suc, ◌≡◌, ◌+◌, ◌<◌, ◌≤◌, ◌⊎◌, ◌↔◌, List, [], ◌∷◌, ◌++◌, map, Contains, Option, None, Some}
-use Rattle.acc_base.specs.Words.{Section, Block, Hole}
+use Rattle.std.specs.Prelude.{ℕ, suc, ◌≡◌, ◌+◌, ◌<◌, ◌≤◌, ◌⊎◌, ◌↔◌, List, [], ◌∷◌, ◌++◌, length, map, max, Contains, Option, None, Some}
+use Rattle.acc_base.specs.Words.{Section, Block, Free, Hole}
 use Rattle.acc_base.specs.Section.{Spans, Covers, end_of}
 use Rattle.acc_base.specs.Blocks.{size_of, used_bytes, IsVacant, Fits}
 
@@ -25,6 +25,11 @@ IsRising low (h ∷ t) high = (low ≤ h.0) × (0 < h.1) × (h.0 + h.1 ≤ high)
 abbrev pub total : List (ℕ × ℕ) → ℕ
 total [] = 0
 total (h ∷ t) = h.1 + total t
+
+-- the greatest of the sizes; 0 where there is none
+abbrev pub greatest : List (ℕ × ℕ) → ℕ
+greatest [] = 0
+greatest (h ∷ t) = max h.1 (greatest t)
 
 -- ---- one hole, by addresses
 
@@ -62,3 +67,11 @@ pub record AreHoles (memory : Section) (blocks : List Block) (holes : List (ℕ 
 -- the blocks and their holes are the device memory, with no address in two of them
 abbrev pub IsDevice : Section → List Block → Type 0
 IsDevice memory blocks = (holes : List (ℕ × ℕ)) × AreHoles memory blocks holes
+
+-- what these holes come to
+abbrev pub free_in : List (ℕ × ℕ) → Free
+free_in holes = record { largest = greatest holes; bytes = total holes; count = length holes }
+
+-- this is what the blocks leave of device memory
+abbrev pub IsLeft : Section → List Block → Free → Type 0
+IsLeft memory blocks free = (holes : List (ℕ × ℕ)) × AreHoles memory blocks holes × (free ≡ free_in holes)

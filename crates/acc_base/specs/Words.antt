@@ -10,6 +10,7 @@ pub use Rattle.acc_base.specs.declared.mappings.Counter.{Counter}
 pub use Rattle.acc_base.specs.declared.mappings.Counters.{Counters}
 pub use Rattle.acc_base.specs.declared.mappings.Ended.{Ended}
 pub use Rattle.acc_base.specs.declared.mappings.Found.{Found}
+pub use Rattle.acc_base.specs.declared.mappings.Free.{Free}
 pub use Rattle.acc_base.specs.declared.mappings.Hole.{Hole}
 pub use Rattle.acc_base.specs.declared.mappings.Range.{Range}
 pub use Rattle.acc_base.specs.declared.attachments.Aim.{Aim}

@@ -31,7 +31,7 @@ pub use faults::{Fault, ScriptFault};
 pub use items::{EnterClause, ExitClause, Item, RegionClause, Section, UpdateClause};
 pub use lists::List;
 pub use loans::Loan;
-pub use mappings::{Block, Counter, Counters, Ended, Found, Hole, Range};
+pub use mappings::{Block, Counter, Counters, Ended, Found, Free, Hole, Range};
 pub use regions::Holding;
 pub use steps::Steps;
 pub use tasks::Task;

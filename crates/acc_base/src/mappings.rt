@@ -48,6 +48,17 @@ pub struct Hole {
     pub size: u64,
 }
 
+/// What the holes of a device come to: the addresses that no block takes.
+#[derive(Clone, Copy, Debug, PartialEq, Eq)]
+pub struct Free {
+    /// The size in bytes of the largest hole; 0 where there is none.
+    pub largest: u64,
+    /// The bytes of all holes.
+    pub bytes: u64,
+    /// How many holes there are.
+    pub count: u64,
+}
+
 /// One of the two reference counters of a mapped range (OpenACC 3.3, section 2.6.7).
 #[derive(Clone, Copy, Debug, PartialEq, Eq)]
 pub enum Counter {

@@ -123,13 +123,15 @@ impl Holes {
     }
 
     /// The place that [`Holes::take`] would choose; `None` exactly where no hole is large enough. It makes at most two
-    /// steps for each binary digit of the number of holes. At most 2^32 steps were counted before. It needs no memory.
+    /// steps for each binary digit of the number of holes, and one at least where there is a hole. At most 2^32 steps
+    /// were counted before. It needs no memory.
     pub fn fit_counted(&self, need: u64, steps: &mut Steps) -> Option<u64>
         requires need { IsFromOne MEMORY_MAX need }
         requires limit { steps.old ≤ 2 ^ 32 }
         ensures place { IfSome result (IsLeastFit self.now.holes (rounded_of need)) }
         ensures none { IfNone result ((q : ℕ) → IsFit self.now.holes (rounded_of need) q → ⊥) }
         ensures not_fewer { steps.old ≤ steps.new }
+        ensures least { 0 < length self.now.holes → steps.old < steps.new }
         ensures steps { (d : ℕ) → length self.now.holes < 2 ^ d → steps.new ≤ steps.old + 2 * d }
         ensures canonical { IsCanonical self.now }
     {

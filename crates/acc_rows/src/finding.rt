@@ -18,6 +18,7 @@ pub fn find<T: Copy>(firsts: &[u128], rows: &[Vec<Entry<T>>], key: u128, steps: 
     requires limit { steps.old ≤ 2 ^ 32 }
     ensures place { IsPlaceOf key rows.now result }
     ensures not_fewer { steps.old ≤ steps.new }
+    ensures least { 0 < length (side_by_side rows.now) → steps.old < steps.new }
     ensures steps { (d : ℕ) → length (side_by_side rows.now) < 2 ^ d → steps.new ≤ steps.old + 2 * d }
 {
     let behind = count_below(firsts, key, steps);

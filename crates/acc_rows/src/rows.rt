@@ -128,14 +128,15 @@ impl<T: Copy> Rows<T> {
         self.around_counted(key, &mut Steps::new())
     }
 
-    /// The entries on both sides of a key, by at most two steps for each binary digit of the number of entries. At most
-    /// 2^32 were counted before.
+    /// The entries on both sides of a key, by at most two steps for each binary digit of the number of entries. There is
+    /// one at least where there are entries. At most 2^32 were counted before.
     #[inline]
     pub fn around_counted<'a>(&'a self, key: u128, steps: &mut Steps) -> Around<'a, T>
         requires limit { steps.old ≤ 2 ^ 32 }
         ensures before { seen result.before ≡ last_before key self.now.entries }
         ensures from { seen result.from ≡ first_from key self.now.entries }
         ensures not_fewer { steps.old ≤ steps.new }
+        ensures least { 0 < length self.now.entries → steps.old < steps.new }
         ensures steps { (d : ℕ) → length self.now.entries < 2 ^ d → steps.new ≤ steps.old + 2 * d }
     {
         let place = find(&self.firsts, &self.rows, key, steps);

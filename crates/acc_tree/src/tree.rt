@@ -118,12 +118,13 @@ impl<T: Copy> Tree<T> {
         self.get_counted(key, &mut Steps::new())
     }
 
-    /// The entry of a key, if it is there, by at most two steps for each binary digit of the number of entries. At most
-    /// 2^32 were counted before.
+    /// The entry of a key, if it is there, by at most two steps for each binary digit of the number of entries. There is
+    /// one at least where there are entries. At most 2^32 were counted before.
     pub fn get_counted(&self, key: u128, steps: &mut Steps) -> Option<Entry<T>>
         requires limit { steps.old ≤ 2 ^ 32 }
         ensures found { result ≡ at_key key self.now.entries }
         ensures not_fewer { steps.old ≤ steps.new }
+        ensures least { 0 < length self.now.entries → steps.old < steps.new }
         ensures steps { (d : ℕ) → length self.now.entries < 2 ^ d → steps.new ≤ steps.old + 2 * d }
     {
         height_law(&self.root);
@@ -138,13 +139,14 @@ impl<T: Copy> Tree<T> {
         self.around_counted(key, &mut Steps::new())
     }
 
-    /// The entries on both sides of a key, by at most two steps for each binary digit of the number of entries. At most
-    /// 2^32 were counted before.
+    /// The entries on both sides of a key, by at most two steps for each binary digit of the number of entries. There is
+    /// one at least where there are entries. At most 2^32 were counted before.
     pub fn around_counted(&self, key: u128, steps: &mut Steps) -> Around<T>
         requires limit { steps.old ≤ 2 ^ 32 }
         ensures before { result.before ≡ last_before key self.now.entries }
         ensures from { result.from ≡ first_from key self.now.entries }
         ensures not_fewer { steps.old ≤ steps.new }
+        ensures least { 0 < length self.now.entries → steps.old < steps.new }
         ensures steps { (d : ℕ) → length self.now.entries < 2 ^ d → steps.new ≤ steps.old + 2 * d }
     {
         height_law(&self.root);
@@ -178,12 +180,13 @@ impl<T: Copy> Tree<T> {
     }
 
     /// The entry of least key whose size is at least `size`, which is not 0. It makes at most two steps for each binary
-    /// digit of the number of entries. At most 2^32 were counted before.
+    /// digit of the number of entries, and one at least where there are entries. At most 2^32 were counted before.
     pub fn first_fit_counted(&self, size: u64, steps: &mut Steps) -> Option<Entry<T>>
         requires some { 0 < size }
         requires limit { steps.old ≤ 2 ^ 32 }
         ensures found { result ≡ first_large size self.now.entries }
         ensures not_fewer { steps.old ≤ steps.new }
+        ensures least { 0 < length self.now.entries → steps.old < steps.new }
         ensures steps { (d : ℕ) → length self.now.entries < 2 ^ d → steps.new ≤ steps.old + 2 * d }
     {
         height_law(&self.root);

@@ -1,5 +1,5 @@
 //! Walks down a tree.
-ghost use Rattle.std.specs.Prelude.{◌≡◌, ◌+◌, ◌^◌, ◌<◌, ◌≤◌, IsSome, IfSome};
+ghost use Rattle.std.specs.Prelude.{◌≡◌, ◌+◌, ◌^◌, ◌<◌, ◌≤◌, [], length, IsSome, IfSome, IfNone};
 ghost use Rattle.acc_tree.specs.Listing.{KeysRise, at_key, first_from, last_before, first_large, first_large_from, with_value};
 ghost use Rattle.acc_tree.specs.Growing.{with_range};
 ghost use Rattle.acc_tree.specs.Nodes.{entries_in, height_of, length_of};
@@ -9,20 +9,37 @@ use crate::entries::Entry;
 use crate::nodes::{Link, Node};
 use acc_base::Steps;
 
-/// The entry of a key. Each node on the way is a step.
-pub fn find<'a, T: Copy>(tree: &'a Link<T>, key: u128, steps: &mut Steps) -> Option<&'a Entry<T>>
-    requires rising { KeysRise (entries_in tree.now) }
-    requires limit { steps.old + height_of tree.now ≤ 2 ^ 33 }
-    ensures found { seen result ≡ at_key key (entries_in tree.now) }
-    ensures not_fewer { steps.old ≤ steps.new }
-    ensures steps { steps.new ≤ steps.old + height_of tree.now }
+/// Comes to the node at the top of a tree, if there is one, which is one step. A search comes to a node in no other way.
+#[inline]
+fn visit<'a, T: Copy>(tree: &'a Link<T>, steps: &mut Steps) -> Option<&'a Node<T>>
+    requires limit { steps.old < 2 ^ 33 }
+    ensures node { IfSome result (λ node. (entries_in tree.now ≡ node.now.entries) × (height_of tree.now ≡ node.now.height)) }
+    ensures step { IfSome result (λ node. steps.new ≡ steps.old + 1) }
+    ensures none { IfNone result (entries_in tree.now ≡ []) }
+    ensures no_step { IfNone result (steps.new ≡ steps.old) }
 {
     match tree {
         None => None,
         Some(node) => {
-            let node: &Node<T> = node;
-            let here = node.entry.key;
             steps.tick();
+            Some(node)
+        }
+    }
+}
+
+/// The entry of a key. Each node on the way is a step.
+pub fn find<'a, T: Copy>(tree: &'a Link<T>, key: u128, steps: &mut Steps) -> Option<&'a Entry<T>>
+    requires rising { KeysRise (entries_in tree.now) }
+    requires limit { steps.old + height_of tree.now < 2 ^ 33 }
+    ensures found { seen result ≡ at_key key (entries_in tree.now) }
+    ensures not_fewer { steps.old ≤ steps.new }
+    ensures least { 0 < length (entries_in tree.now) → steps.old < steps.new }
+    ensures steps { steps.new ≤ steps.old + height_of tree.now }
+{
+    match visit(tree, steps) {
+        None => None,
+        Some(node) => {
+            let here = node.entry.key;
             if key < here {
                 find(&node.left, key, steps)
             } else if here < key {
@@ -41,17 +58,16 @@ pub fn find_large<'a, T: Copy>(
     steps: &mut Steps,
 ) -> Option<&'a Entry<T>>
     requires some { 0 < size }
-    requires limit { steps.old + height_of tree.now ≤ 2 ^ 33 }
+    requires limit { steps.old + height_of tree.now < 2 ^ 33 }
     ensures found { seen result ≡ first_large size (entries_in tree.now) }
     ensures not_fewer { steps.old ≤ steps.new }
+    ensures least { 0 < length (entries_in tree.now) → steps.old < steps.new }
     ensures steps { steps.new ≤ steps.old + height_of tree.now }
 {
-    match tree {
+    match visit(tree, steps) {
         None => None,
         Some(node) => {
-            let node: &Node<T> = node;
             let here = node.entry.size;
-            steps.tick();
             if node.greatest_left >= size {
                 find_large(&node.left, size, steps)
             } else if here >= size {
@@ -101,19 +117,18 @@ pub fn find_around<'a, T: Copy>(
     steps: &mut Steps,
 ) -> (Option<&'a Entry<T>>, Option<&'a Entry<T>>)
     requires rising { KeysRise (entries_in tree.now) }
-    requires limit { steps.old + height_of tree.now ≤ 2 ^ 33 }
+    requires limit { steps.old + height_of tree.now < 2 ^ 33 }
     ensures before { seen result.0 ≡ last_before key (entries_in tree.now) }
     ensures from { seen result.1 ≡ first_from key (entries_in tree.now) }
     ensures not_fewer { steps.old ≤ steps.new }
+    ensures least { 0 < length (entries_in tree.now) → steps.old < steps.new }
     ensures steps { steps.new ≤ steps.old + height_of tree.now }
 {
     let mut before: Option<&'a Entry<T>> = None;
     let mut from: Option<&'a Entry<T>> = None;
     let mut rest = tree;
-    'down: while let Some(node) = rest {
-        let node: &'a Node<T> = node;
+    'down: while let Some(node) = visit(rest, steps) {
         let here = node.entry.key;
-        steps.tick();
         if here < key {
             before = Some(&node.entry);
             rest = &node.right;

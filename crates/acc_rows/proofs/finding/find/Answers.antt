@@ -1,5 +1,6 @@
 use Rattle.std.proofs.Common.{◌≡◌, suc, ◌-◌, length, ap, arith}
 use Rattle.acc_rows.proofs.Laying.{row_at}
+use Rattle.acc_rows.proofs.NoRows.{some_first}
 use Rattle.acc_rows.proofs.Placing.{firsts_rise, place_found, place_first, row_rises, firsts_few, row_short, firsts_bound}
 use Rattle.acc_rows.proofs.finding.find.Goals as goal
 
@@ -33,3 +34,9 @@ returns-clause-steps g c = λ d less.
     let short = row_short c.args.rows.now (c.count_below-behind.result - 1) c.index-rows-row.result at in
     let same = ap length c.deref.ensures.value in
     omega (arith, c.count_below-behind.ensures.steps d (omega (arith, less, few)), c.count_below-at.ensures.steps d (omega (arith, less, short, same)))
+
+pub returns-then-behind-eq0-clause-least : goal.returns-then-behind-eq0-clause-least
+returns-then-behind-eq0-clause-least g c = λ some. c.count_below-behind.ensures.least (some_first c.args.firsts.now c.args.rows.now c.requires.in_rows some)
+
+pub returns-clause-least : goal.returns-clause-least
+returns-clause-least g c = λ some. omega (arith, c.count_below-behind.ensures.least (some_first c.args.firsts.now c.args.rows.now c.requires.in_rows some), c.count_below-at.ensures.not_fewer)

@@ -1,4 +1,4 @@
-use Rattle.std.proofs.Common.{◌≡◌, ℕ, ◌+◌, ◌-◌, ◌*◌, ◌/◌, ◌^◌, ◌<◌, ◌≤◌, get_or, sym, ap, ◌∙◌, arith, add-one}
+use Rattle.std.proofs.Common.{◌≡◌, ℕ, ◌+◌, ◌-◌, ◌*◌, ◌/◌, ◌^◌, ◌<◌, ◌≤◌, get_or, sym, ap, ◌∙◌, inr, arith, add-one}
 use Rattle.acc_rows.proofs.Halving.{halved, passed_up, failed_down}
 use Rattle.acc_rows.proofs.search.count_below.Goals as goal
 
@@ -19,6 +19,7 @@ loop-low-preserved-then-key g c =
       passed = rw (add-one (c.loop-low.low + (c.loop-low.high - c.loop-low.low) / 2)) (passed_up g.K.Keyed.key_of c.args.key c.args.items.now (c.loop-low.low + (c.loop-low.high - c.loop-low.low) / 2) c.index-items-middle.result c.requires.rising (omega arith) (omega (arith, is)));
       failed = c.loop-low.invariant.failed;
       not_fewer = omega (arith, c.loop-low.invariant.not_fewer, c.tick.ensures);
+      least = inr (omega (arith, c.loop-low.invariant.not_fewer, c.tick.ensures));
       steps = λ d long. step c.loop-low.steps c.tick.new.self (c.args.steps.now + d) (c.loop-low.high - c.loop-low.low) (c.loop-low.high - (c.loop-low.low + (c.loop-low.high - c.loop-low.low) / 2 + 1)) (omega arith) (omega arith) c.tick.ensures (c.loop-low.invariant.steps d long);
     }
 
@@ -32,6 +33,7 @@ loop-low-preserved g c =
       passed = c.loop-low.invariant.passed;
       failed = failed_down g.K.Keyed.key_of c.args.key c.args.items.now (c.loop-low.low + (c.loop-low.high - c.loop-low.low) / 2) c.index-items-middle.result c.requires.rising (omega arith) (omega (arith, is));
       not_fewer = omega (arith, c.loop-low.invariant.not_fewer, c.tick.ensures);
+      least = inr (omega (arith, c.loop-low.invariant.not_fewer, c.tick.ensures));
       steps = λ d long. step c.loop-low.steps c.tick.new.self (c.args.steps.now + d) (c.loop-low.high - c.loop-low.low) ((c.loop-low.low + (c.loop-low.high - c.loop-low.low) / 2) - c.loop-low.low) (omega arith) (omega arith) c.tick.ensures (c.loop-low.invariant.steps d long);
     }
 

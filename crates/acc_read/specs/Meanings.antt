@@ -1,6 +1,8 @@
 -- What statements and clauses of the code say, without where they lie in memory.
-use Rattle.std.specs.Prelude.{◌≡◌, true, false, List, [], ◌∷◌, Option, Some, None, length, ◌==◌}
+use Rattle.std.specs.Prelude.{◌≡◌, true, false, List, [], ◌∷◌, Option, Some, None, length, ◌==◌, vec_len, vec_capacity}
 use Rattle.acc_read.specs.declared.kept.Kept.{Kept}
+use Rattle.acc_read.specs.declared.kept.Finished.{Finished}
+use Rattle.acc_read.specs.declared.kept.Finished.TheVariants.{Fitted, Single, Refused}
 use Rattle.acc_read.specs.declared.clauses.Clauses.{Clauses}
 use Rattle.acc_read.specs.declared.clauses.Unfinished.{Unfinished}
 use Rattle.acc_read.specs.declared.statements.Statement.{Statement}
@@ -37,6 +39,12 @@ IsAll (Some item) items all = (items ≡ []) × (item ∷ [] ≡ all)
 pub record IsKept {A : Type 0} (kept : Kept A) (items : List A) : Type 0 where
   pub all : kept.is_wanting ≡ false → IsAll kept.alone kept.items.items items
   pub some : kept.is_wanting ≡ true → (length items == 0) ≡ false
+
+-- what items come to: a list of just their length, the only one, or that memory was refused for some of them
+abbrev pub IsFinished : {A : Type 0} → Finished A → List A → Type 0
+IsFinished (Fitted copy) items = (copy.items ≡ items) × (vec_capacity copy ≡ vec_len copy)
+IsFinished (Single item) items = item ∷ [] ≡ items
+IsFinished Refused items = (length items == 0) ≡ false
 
 -- what is kept of clauses and options that were read
 pub record IsRead {C : Type 0} (unfinished : Unfinished C) (read : ClausesRead C) : Type 0 where

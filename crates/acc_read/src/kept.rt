@@ -1,7 +1,7 @@
 //! A list that is filled while a line is read.
 
 ghost use Rattle.std.specs.Prelude.{◌≡◌, ◌==◌, ◌∷◌, ◌++◌, [], false, IfOk, IsOk, List, length, vec_len, vec_capacity, MatchResult};
-ghost use Rattle.acc_read.specs.Meanings.{IsKept};
+ghost use Rattle.acc_read.specs.Meanings.{IsKept, IsFinished};
 
 use acc_base::List as Items;
 use std::alloc::{AllocError, Global};
@@ -21,6 +21,17 @@ fn fitted<T: Copy>(alloc: Global, items: &[T]) -> Result<Vec<T>, AllocError>
         copy.push_reserved(*item);
     }
     Ok(copy)
+}
+
+/// What the items of a line come to at its end.
+#[derive(Drop)]
+enum Finished<T> {
+    /// A list of just their length, into which they were copied.
+    Fitted(Vec<T>),
+    /// The only item, which takes no memory.
+    Single(T),
+    /// Memory was refused, for one of them or for the list.
+    Refused,
 }
 
 /// What is kept of the items of a line. One alone takes no memory. Once memory was refused for one of them no more are
@@ -63,22 +74,19 @@ impl<T: Copy> Kept<T> {
         }
     }
 
-    /// The item that stands alone, or all items, with no room to spare.
-    ///
-    /// # Errors
-    ///
-    /// Where memory was wanting for one of them, or is for a list of just their length.
-    fn whole(self) -> Result<Result<Vec<T>, T>, AllocError>
-        ensures all { (items : List T) → IsKept self items
-            → MatchResult result (λ whole. MatchResult whole (λ all. all.items ≡ items) (λ item. item ∷ [] ≡ items)) (λ _. (length items == 0) ≡ false) }
-        ensures fits { IfOk result (λ whole. IfOk whole (λ all. vec_capacity all ≡ vec_len all)) }
+    /// What the items come to: a list of just their length, the only item, or that memory was refused.
+    fn finished(self) -> Finished<T>
+        ensures { (items : List T) → IsKept self items → IsFinished result items }
     {
         if self.is_wanting {
-            return Err(AllocError);
+            return Finished::Refused;
         }
         match self.alone {
-            Some(item) => Ok(Err(item)),
-            None => Ok(Ok(fitted(*self.items.allocator(), &self.items)?)),
+            Some(item) => Finished::Single(item),
+            None => match fitted(*self.items.allocator(), &self.items) {
+                Ok(copy) => Finished::Fitted(copy),
+                Err(AllocError) => Finished::Refused,
+            },
         }
     }
 
@@ -91,9 +99,10 @@ impl<T: Copy> Kept<T> {
         ensures { (items : List T) → IsKept self items
             → MatchResult result (λ all. all ≡ items) (λ _. (length items == 0) ≡ false) }
     {
-        match self.whole()? {
-            Ok(items) => Ok(Items::from_vec(items)),
-            Err(item) => Ok(Items::one(item)),
+        match self.finished() {
+            Finished::Fitted(items) => Ok(Items::from_vec(items)),
+            Finished::Single(item) => Ok(Items::one(item)),
+            Finished::Refused => Err(AllocError),
         }
     }
 }

@@ -3,6 +3,8 @@
  * and bytes that are not given back.
  */
 #include "refusing.h"
+#include <assert.h>
+#include <stdalign.h>
 #include <stdint.h>
 #include <stdlib.h>
 
@@ -60,12 +62,15 @@ static tried answer(head *at)
     return answered;
 }
 
-/* Gives a block another size, or makes one where there is none. */
-static head *sized(head *block, size_t size)
+/* Gives a block another size, or makes one where there is none. It is aligned as malloc's, so the library must not ask
+   for more. */
+static head *sized(head *block, size_t size, size_t align)
 {
     size_t before = block != NULL ? block->size : 0;
-    head *grown = ++growths == refused ? NULL : realloc(block, sizeof *grown + size);
+    head *grown;
 
+    assert(align <= alignof(max_align_t));
+    grown = ++growths == refused ? NULL : realloc(block, sizeof *grown + size);
     if (grown != NULL) {
         grown->size = size;
         bytes += size - before;
@@ -75,9 +80,8 @@ static head *sized(head *block, size_t size)
 
 tried rattle_alloc(size_t size, size_t align)
 {
-    head *made = sized(NULL, size);
+    head *made = sized(NULL, size, align);
 
-    (void)align;
     blocks += made != NULL;
     return answer(made);
 }
@@ -85,8 +89,7 @@ tried rattle_alloc(size_t size, size_t align)
 tried rattle_realloc(void *at, size_t kept, size_t size, size_t align)
 {
     (void)kept;
-    (void)align;
-    return answer(sized((head *)at - 1, size));
+    return answer(sized((head *)at - 1, size, align));
 }
 
 void rattle_dealloc(void *at)

@@ -51,7 +51,7 @@ typedef struct world {
 /* What comes and goes. */
 typedef struct life {
     const char *name;
-    void (*begin)(world *world);
+    void (*begin)(world *world);               /* what is made before they come; NULL for nothing */
     void (*first)(world *world, size_t place); /* how they come in the first round */
     void (*come)(world *world, size_t place);
     void (*go)(world *world, size_t place);
@@ -245,12 +245,68 @@ static size_t oldest(uint64_t step)
    region takes memory for its items, for what it holds, and for what each item did, also at its exit; a block takes
    memory for its bytes. */
 static const life LIVES[] = {
-    {"regions", NULL, enter, enter, leave, any, 2 * ALIVE, 10000, 4},
-    {"regions, the oldest first", NULL, enter, enter, leave, oldest, 2 * ALIVE, 10000, 4},
-    {"blocks and ranges", NULL, map, map, unmap, any, 4 * ALIVE, 10000, 1},
-    {"ranges that thin out", NULL, map_few, map_batch, unmap_few, any, 6 * ALIVE, 20, BATCH},
-    {"attached pointers", begin_pointers, attach, attach, detach, any, 4 * ALIVE, 10000, 0},
-    {"leases", begin_leases, lend, lend, gather, any, 2 * ALIVE, 10000, 0},
+    {
+        .name = "regions",
+        .first = enter,
+        .come = enter,
+        .go = leave,
+        .next = any,
+        .most = 2 * ALIVE,
+        .steps = 10000,
+        .growths = 4,
+    },
+    {
+        .name = "regions, the oldest first",
+        .first = enter,
+        .come = enter,
+        .go = leave,
+        .next = oldest,
+        .most = 2 * ALIVE,
+        .steps = 10000,
+        .growths = 4,
+    },
+    {
+        .name = "blocks and ranges",
+        .first = map,
+        .come = map,
+        .go = unmap,
+        .next = any,
+        .most = 4 * ALIVE,
+        .steps = 10000,
+        .growths = 1,
+    },
+    {
+        .name = "ranges that thin out",
+        .first = map_few,
+        .come = map_batch,
+        .go = unmap_few,
+        .next = any,
+        .most = 6 * ALIVE,
+        .steps = 20,
+        .growths = BATCH,
+    },
+    {
+        .name = "attached pointers",
+        .begin = begin_pointers,
+        .first = attach,
+        .come = attach,
+        .go = detach,
+        .next = any,
+        .most = 4 * ALIVE,
+        .steps = 10000,
+        .growths = 0,
+    },
+    {
+        .name = "leases",
+        .begin = begin_leases,
+        .first = lend,
+        .come = lend,
+        .go = gather,
+        .next = any,
+        .most = 2 * ALIVE,
+        .steps = 10000,
+        .growths = 0,
+    },
 };
 
 static void step(world *world, const life *life, size_t place)

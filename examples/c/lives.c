@@ -2,7 +2,9 @@
  * What a table asks for and holds over a long run. In each life 128 of a kind are alive while some 100,000 others come
  * and go: in no order beside one that stays, or the oldest first. A first round has more of them at once, so that room
  * for them is made. From then on the library asks for memory only for the lists of events, for the bytes of blocks and
- * for folds, and it holds as much as before.
+ * for folds, and it holds as much as before. Last, directives are refused for want of memory, and keep none.
+ *
+ * Usage: lives [ROUNDS]. Without the number there are 10 rounds. What it prints is the same with each number.
  */
 #include "lamwiest.h"
 #include "refusing.h"
@@ -13,15 +15,17 @@
 enum {
     ALIVE = 128,     /* how many are alive between two steps */
     MOST = 2048,     /* how many may be alive in a first round */
-    ROUNDS = 10,     /* how many rounds come behind it */
+    ROUNDS = 10,     /* how many rounds come behind it, where the program is not told */
     FOLDS = 20,      /* how often the trace is folded in a round */
     EVENTS = 2048,   /* how many events there are from one fold to the next at most */
     ITEMS = 64,      /* how many items a directive has at most */
     HOLDINGS = 8,    /* how many items an entry to a region has */
     HOLDING = 80,    /* how many bytes what it holds for an item takes at most */
+    WAITING = 80,    /* how many bytes of room in a queue are made for a copy that waits there at most */
+    QUEUES = 16,     /* how many queues there are */
     BATCH = 512,     /* how many arrays come side by side of which few stay */
     STAY = 64,       /* the first of so many stays */
-    REFUSALS = 1000, /* how many directives are refused whose births then never come */
+    REFUSALS = 100,  /* how many directives are refused at least in a round, whose births then never come */
     FEW_BYTES = 1024 /* more than one lease needs, and less than many do */
 };
 
@@ -44,6 +48,7 @@ typedef struct world {
     lw_table table;
     lw_fault fault;
     uint64_t region;
+    uint64_t queue;
     uint64_t alive[MOST];
     uint64_t came;
 } world;
@@ -348,7 +353,7 @@ static size_t growths_of_fold(world *world)
     return growths_made();
 }
 
-static void play(const life *life)
+static void play(const life *life, uint64_t rounds)
 {
     world world;
     size_t growths;
@@ -358,14 +363,14 @@ static void play(const life *life)
     play_first(&world, life);
     growths = life->steps * life->growths + FOLDS * growths_of_fold(&world);
     held = bytes_held();
-    for (uint64_t round = 0; round < ROUNDS; round++) {
+    for (uint64_t round = 0; round < rounds; round++) {
         refuse_growth(0);
         play_round(&world, life, round);
         check(growths_made() == growths, life->name, "a round asks for memory that its events do not need");
         check(bytes_held() == held, life->name, "a round leaves more or less memory held than there was");
     }
     lw_table_end(&world.table);
-    printf("%s: %d rounds of %zu steps\n", life->name, ROUNDS, life->steps);
+    printf("%s: %zu steps a round\n", life->name, life->steps);
 }
 
 /* One lease needs no room for many: itself, its loan and its event. */
@@ -387,22 +392,79 @@ static void lend_one(void)
 
 /* ---- Births that never come ---- */
 
-/* Enters a region over the large arrays and leaves it, where no growth is refused. */
-static bool enter_large(world *world)
+/* How the large arrays are entered, and how what was entered ends. */
+typedef struct entry {
+    const char *name;
+    uint32_t clause;
+    uint32_t (*begin)(world *world, const lw_item *items);
+    void (*end)(world *world, lw_item *items);
+} entry;
+
+static void name_large(lw_item *items, uint32_t clause)
+{
+    for (size_t i = 0; i < ITEMS; i++) {
+        items[i] = (lw_item){.clause = clause, .start = OTHERS + LARGE_LEN * i, .len = LARGE_LEN};
+    }
+}
+
+static uint32_t begin_region(world *world, const lw_item *items)
+{
+    return lw_enter(&world->table, items, ITEMS, &world->region, &world->fault);
+}
+
+static void end_region(world *world, lw_item *items)
+{
+    (void)items;
+    must(lw_exit(&world->table, world->region, &world->fault), "exit");
+}
+
+static uint32_t begin_queued(world *world, const lw_item *items)
+{
+    return lw_enter_data(&world->table, items, ITEMS, world->queue, &world->fault);
+}
+
+static void end_queued(world *world, lw_item *items)
+{
+    uint64_t made;
+
+    must(lw_wait(&world->table, world->queue, &made, &world->fault), "wait");
+    check(made == ITEMS, "queue", "other copies waited than those of the entry");
+    name_large(items, LW_DELETE);
+    must(lw_exit_data(&world->table, items, ITEMS, 0, LW_NO_QUEUE_GIVEN, &world->fault), "exit data");
+}
+
+static const entry REGION = {
+    .name = "births in a region",
+    .clause = LW_CREATE,
+    .begin = begin_region,
+    .end = end_region,
+};
+
+static const entry QUEUED = {
+    .name = "births through a queue",
+    .clause = LW_COPYIN,
+    .begin = begin_queued,
+    .end = end_queued,
+};
+
+/* Enters the large arrays, where this growth is refused, and ends them where it is done all the same. */
+static bool enter_large(world *world, const entry *entry, size_t growth)
 {
     lw_item items[ITEMS];
     uint32_t status;
 
-    for (size_t i = 0; i < ITEMS; i++) {
-        items[i] = (lw_item){.clause = LW_CREATE, .start = OTHERS + LARGE_LEN * i, .len = LARGE_LEN};
-    }
-    status = lw_enter(&world->table, items, ITEMS, &world->region, &world->fault);
-    refuse_growth(0);
+    name_large(items, entry->clause);
+    refuse_growth(growth);
+    status = entry->begin(world, items);
     if (status == LW_MEMORY) {
+        check(was_growth_refused(), entry->name, "they are refused though there is memory");
+        refuse_growth(0);
         return false;
     }
-    must(status, "enter");
-    must(lw_exit(&world->table, world->region, &world->fault), "exit");
+    refuse_growth(0);
+    must(status, entry->name);
+    entry->end(world, items);
+    fold(world);
     return true;
 }
 
@@ -415,40 +477,74 @@ static void update(world *world)
     fold(world);
 }
 
-/* Each growth of the entry is refused in its turn. What was made for births before it is given up. The room for what
-   the region holds may stay for the next one. */
-static void refuse_births(void)
+/* Refuses each growth of an entry in its turn, until there is none left, and tells how many there were. What was made
+   for births is given back at once, and the next directive brings none of it back. */
+static size_t refuse_each(world *world, const entry *entry, size_t most)
+{
+    size_t refusals = 0;
+
+    while (!enter_large(world, entry, refusals + 1)) {
+        check(bytes_held() <= most, entry->name, "what was made for those that never came is held");
+        update(world);
+        check(bytes_held() <= most, entry->name, "more is held behind the next directive");
+        refusals++;
+    }
+    check(bytes_held() <= most, entry->name, "more is held behind their end");
+    return refusals;
+}
+
+/* A table on which the large arrays were once, so that it has room for as many. */
+static void make_for_large(world *world)
+{
+    make(world);
+    check(enter_large(world, &REGION, 0), "births", "refused");
+    update(world);
+}
+
+/* The room for what a region holds may stay for the next one. */
+static void refuse_in_region(uint64_t rounds)
 {
     world world;
-    size_t growth = 0;
     size_t refusals = 0;
     size_t held;
 
-    make(&world);
-    check(enter_large(&world), "births", "refused");
-    update(&world);
+    make_for_large(&world);
     held = bytes_held();
-    while (refusals < REFUSALS) {
-        refuse_growth(++growth);
-        if (enter_large(&world)) {
-            growth = 0;
-        } else {
-            refusals++;
-        }
-        update(&world);
-        check(bytes_held() <= held + ITEMS * HOLDING, "births", "what was made for those that never came is held");
+    while (refusals < rounds * REFUSALS) {
+        refusals += refuse_each(&world, &REGION, held + ITEMS * HOLDING);
     }
     lw_table_end(&world.table);
-    printf("births that never come: %d refusals\n", REFUSALS);
+    printf("%s that never come: %d refusals a round at least\n", REGION.name, REFUSALS);
 }
 
-int main(void)
+/* The first entry through each queue makes room in it, which may stay. The second one finds it there. */
+static void refuse_queued(void)
 {
+    world world;
+
+    make_for_large(&world);
+    for (world.queue = 0; world.queue < QUEUES; world.queue++) {
+        size_t held = bytes_held();
+
+        refuse_each(&world, &QUEUED, held + ITEMS * WAITING);
+        check(bytes_held() > held, QUEUED.name, "no room was made in the queue");
+        refuse_each(&world, &QUEUED, bytes_held());
+    }
+    lw_table_end(&world.table);
+    printf("%s that never come: %d queues\n", QUEUED.name, QUEUES);
+}
+
+int main(int count, char **words)
+{
+    uint64_t rounds = count > 1 ? strtoull(words[1], NULL, 10) : ROUNDS;
+
+    check(rounds > 0, "rounds", "there is none");
     for (size_t i = 0; i < sizeof LIVES / sizeof *LIVES; i++) {
-        play(&LIVES[i]);
+        play(&LIVES[i], rounds);
     }
     lend_one();
-    refuse_births();
+    refuse_in_region(rounds);
+    refuse_queued();
     check(blocks_held() == 0, "tables", "they have memory behind their end");
     return EXIT_SUCCESS;
 }

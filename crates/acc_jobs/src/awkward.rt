@@ -1,5 +1,5 @@
-//! Jobs with awkward orders: the oldest region or lease first, the last of many items refused, and scripts all of whose
-//! lines are refused, or whose last line is at fault.
+//! Calls in awkward orders. The oldest region or lease goes first, or the last of many items is refused. Scripts have
+//! only lines that are refused, or a last line that is at fault.
 
 use crate::desks::{Desk, limits};
 use crate::items::{Row, item, one, section};
@@ -24,13 +24,22 @@ const ARRAYS: Row = Row {
     count: 20_000,
 };
 
-/// How many leases are out at once.
-const LEASES: u64 = 4_000;
+/// The arrays that are lent at once.
+const LENT: Row = Row {
+    count: 4_000,
+    ..ARRAYS
+};
 
-/// How many directives have a last item that is refused.
+/// The arrays that are mapped while directives are refused.
+const MAPPED: Row = Row {
+    count: 10_000,
+    ..ARRAYS
+};
+
+/// How many directives are refused for their last item.
 const REFUSED: u64 = 400;
 
-/// Which lines a script shows: why each is refused.
+/// What is shown of a script beside what it prints: why a line is refused.
 const EXPLAIN: Views = Views {
     echo: false,
     json: false,
@@ -61,7 +70,8 @@ fn run_calls(alloc: Global, seed: u64, rounds: u64) -> Result<Tally, Fault> {
     Ok(desk.finish())
 }
 
-/// A region for each array, entered in no order. The oldest is exited first. Between, the host writes other bytes.
+/// Enters a region for each array, by a stride, and exits the oldest first. Before the exits the host writes other
+/// bytes, so that host and device differ.
 fn regions(desk: &mut Desk) -> Result<(), Fault> {
     let mut open = VecDeque::new(desk.alloc);
     let step = desk.stride(2_000);
@@ -79,9 +89,9 @@ fn regions(desk: &mut Desk) -> Result<(), Fault> {
     desk.fold()
 }
 
-/// Lends many arrays in a region. The oldest lease comes back first.
+/// Lends many arrays in a region, and gathers the oldest lease first.
 fn leases(desk: &mut Desk) -> Result<(), Fault> {
-    map(desk, LEASES)?;
+    desk.enter_row(LENT, EnterClause::Copyin)?;
     let region = desk.enter(one(RegionClause::Present, ARRAYS.at(0)));
     let mut out = VecDeque::new(desk.alloc);
     let left = lend_all(desk, region, &mut out);
@@ -91,13 +101,13 @@ fn leases(desk: &mut Desk) -> Result<(), Fault> {
     out.destroy_empty();
     left?;
     desk.exit(region);
-    end(desk, LEASES)?;
+    desk.exit_row(LENT, ExitClause::Copyout)?;
     desk.note_host(ARRAYS.all());
     desk.fold()
 }
 
 fn lend_all(desk: &mut Desk, region: u64, out: &mut VecDeque<Lease>) -> Result<(), AllocError> {
-    for nth in 0..LEASES {
+    for nth in 0..LENT.count {
         lend_one(desk, region, nth, out)?;
     }
     Ok(())
@@ -109,7 +119,7 @@ fn lend_one(
     nth: u64,
     out: &mut VecDeque<Lease>,
 ) -> Result<(), AllocError> {
-    let Some(mut lease) = desk.lend(region, ARRAYS.at(nth)) else {
+    let Some(mut lease) = desk.lend(region, LENT.at(nth)) else {
         return Ok(());
     };
     run_one(&mut lease, &Add(1), &[]);
@@ -122,55 +132,25 @@ fn lend_one(
     }
 }
 
-/// Maps the first arrays, fifty in a directive.
-fn map(desk: &mut Desk, count: u64) -> Result<(), Fault> {
-    for part in 0..count.div_ceil(50) {
-        let items = ARRAYS.list(
-            desk.alloc,
-            EnterClause::Copyin,
-            part.wrapping_mul(50),
-            1,
-            50,
-        )?;
-        desk.enter_data(items);
-    }
-    Ok(())
-}
-
-/// Ends the mappings of the first arrays, fifty in a directive.
-fn end(desk: &mut Desk, count: u64) -> Result<(), Fault> {
-    for part in 0..count.div_ceil(50) {
-        let items = ARRAYS.list(
-            desk.alloc,
-            ExitClause::Copyout,
-            part.wrapping_mul(50),
-            1,
-            50,
-        )?;
-        desk.exit_data(items);
-    }
-    Ok(())
-}
-
-/// Directives of 64 items, the last of which is refused: it is only partly present.
+/// Directives of 64 items, each refused for its last item: that is only partly present.
 fn last_refused(desk: &mut Desk) -> Result<(), Fault> {
-    map(desk, 10_000)?;
+    desk.enter_row(MAPPED, EnterClause::Copyin)?;
     for _ in 0..REFUSED {
         let items = nearly_fit(desk)?;
         desk.enter_data(List::from_vec(items));
     }
     desk.fill(ARRAYS.all())?;
-    end(desk, 10_000)?;
+    desk.exit_row(MAPPED, ExitClause::Copyout)?;
     desk.note_host(ARRAYS.all());
     desk.fold()
 }
 
-/// Items for 63 sections, mapped ones and others, and for one that begins in a mapped range and ends behind it.
+/// Items for 63 arrays, mapped or not, and for a section that begins in a mapped range and ends behind it.
 fn nearly_fit(desk: &mut Desk) -> Result<Vec<Item<EnterClause>>, AllocError> {
     let first = desk.below(19_000);
     let stride = desk.below(31).wrapping_add(1);
     let mut items = ARRAYS.items(desk.alloc, EnterClause::Copyin, first, stride, 63)?;
-    let at = desk.below(10_000).wrapping_mul(64).wrapping_add(40);
+    let at = desk.below(MAPPED.count).wrapping_mul(64).wrapping_add(40);
     items.push(item(EnterClause::Copyin, section(at, 16)))?;
     Ok(items)
 }

@@ -1,4 +1,5 @@
-//! Bytes: a large array that is mapped, updated and worked on, and full traces, whose events store all bytes.
+//! Large copies: an array of 16 MiB that is mapped, updated and worked on, and pages on a table with full traces, whose
+//! events hold all bytes.
 
 use crate::desks::{Desk, limits};
 use crate::items::{Row, one, section};
@@ -13,7 +14,7 @@ use std::alloc::Global;
 /// The length of the large array.
 const LARGE: u64 = 16_777_216;
 
-/// The length of a part of it that is read back.
+/// How many bytes of it a round reads back on each side. To read all would take longer than the rest of the round.
 const PART: u64 = LARGE / 64;
 
 /// Arrays of 4 KiB.
@@ -36,7 +37,7 @@ fn run_large(alloc: Global, seed: u64, rounds: u64) -> Result<Tally, Fault> {
     play_large(&mut desk, rounds)
 }
 
-/// So many rounds on the large array. Each reads one part in 64 back on both sides, and the last reads all.
+/// So many rounds on the large array. Each reads another of its 64 parts back, and what the last leaves is read whole.
 fn play_large(desk: &mut Desk, rounds: u64) -> Result<Tally, Fault> {
     desk.fill(section(0, LARGE))?;
     for round in 0..rounds {
@@ -47,7 +48,7 @@ fn play_large(desk: &mut Desk, rounds: u64) -> Result<Tally, Fault> {
     Ok(desk.finish())
 }
 
-/// Maps the large array, changes it on both sides, updates it both ways and copies it back.
+/// Maps the large array, changes it on the host and by kernels, updates it both ways, and ends the mapping.
 fn large(desk: &mut Desk, part: Section) -> Result<(), Fault> {
     let all = section(0, LARGE);
     desk.enter_data(one(EnterClause::Copyin, all));
@@ -62,12 +63,12 @@ fn large(desk: &mut Desk, part: Section) -> Result<(), Fault> {
     }
     desk.exit(region);
     desk.update(one(UpdateClause::ToSelf, all), None);
-    desk.exit_data(one(ExitClause::Copyout, all));
+    desk.exit_data(one(ExitClause::Copyout, all), None);
     desk.note_host(part);
     Ok(())
 }
 
-/// The host writes 4 KiB.
+/// The host writes 4 KiB of one byte by chance.
 fn write(desk: &mut Desk, at: u64) -> Result<(), Fault> {
     let byte = (desk.below(256) & 0xFF) as u8;
     let bytes = vec![in desk.alloc; byte; 4_096]?;
@@ -93,35 +94,16 @@ fn run_full(alloc: Global, seed: u64, rounds: u64, tally: Tally) -> Result<Tally
     play_full(&mut desk, rounds)
 }
 
-/// All pages are mapped in a region. They are written, updated and worked on, and the trace is folded behind each 500
-/// events.
+/// Maps all pages, makes so many rounds in a region over one of them, ends the mappings, and reads all back.
 fn play_full(desk: &mut Desk, rounds: u64) -> Result<Tally, Fault> {
-    for part in 0..4u64 {
-        let items = PAGES.list(
-            desk.alloc,
-            EnterClause::Copyin,
-            part.wrapping_mul(64),
-            1,
-            64,
-        )?;
-        desk.enter_data(items);
-    }
+    desk.enter_row(PAGES, EnterClause::Copyin)?;
     note_pages(desk);
     let region = desk.enter(one(RegionClause::Present, PAGES.at(0)));
     for _ in 0..rounds {
         full(desk, region)?;
     }
     desk.exit(region);
-    for part in 0..4u64 {
-        let items = PAGES.list(
-            desk.alloc,
-            ExitClause::Copyout,
-            part.wrapping_mul(64),
-            1,
-            64,
-        )?;
-        desk.exit_data(items);
-    }
+    desk.exit_row(PAGES, ExitClause::Copyout)?;
     desk.note_host(PAGES.all());
     Ok(desk.finish())
 }
@@ -133,7 +115,7 @@ fn note_pages(desk: &mut Desk) {
     }
 }
 
-/// A hundred rounds of five events, and a fold.
+/// A hundred times five events on a page by chance, and a fold.
 fn full(desk: &mut Desk, region: u64) -> Result<(), Fault> {
     for _ in 0..100u64 {
         let page = PAGES.at(desk.chance.number());

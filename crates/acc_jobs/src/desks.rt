@@ -1,5 +1,6 @@
-//! A table at which calls are made, and what they answered.
+//! A table on which a job makes its calls, and a digest of what they answered.
 
+use crate::items::Row;
 use crate::tallies::Tally;
 use acc_base::{
     Config, Directive, EnterClause, ExitClause, Fault, Item, List, MEMORY_MAX, RegionClause,
@@ -10,15 +11,15 @@ use acc_random::Chance;
 use acc_table::{Call, Reply, Table, abandon};
 use std::alloc::{AllocError, Global};
 
-/// A trace that has so many events is folded.
+/// How many events a trace has when [`Desk::fold_when_due`] folds it.
 const FOLD: usize = 16_384;
 
-/// A table, numbers by chance, and what was answered so far.
+/// A table, numbers by chance, and a digest of what was answered so far.
 #[derive(Drop)]
 pub struct Desk {
     /// The allocator of lists.
     pub alloc: Global,
-    /// The table. It is boxed, since what owns one takes long to check.
+    /// The table. It stands in a box, since a check of a type that holds a table itself takes long.
     pub table: Box<Table>,
     /// Numbers by chance.
     pub chance: Chance,
@@ -26,7 +27,7 @@ pub struct Desk {
     pub tally: Tally,
     /// The number of the device on which directives act.
     pub device: u64,
-    // Bytes by chance, apart from the numbers.
+    // Bytes by chance. They are drawn apart, so that their count does not change which numbers come.
     bytes: Chance,
 }
 
@@ -43,17 +44,20 @@ pub fn limits(host: u64, device: u64) -> Result<Config, Fault> {
     )
 }
 
-/// As many bytes by chance as so many have in whole words.
+/// So many bytes by chance, at most as many as host memory may have.
 pub fn chance_bytes(alloc: Global, chance: &mut Chance, len: u64) -> Result<Vec<u8>, AllocError> {
-    let mut bytes = Vec::with_capacity(alloc, len.min(MEMORY_MAX) as usize)?;
-    for _ in 0..len / 8 {
+    let len = len.min(MEMORY_MAX);
+    let words = len.div_ceil(8);
+    let mut bytes = Vec::with_capacity(alloc, words.wrapping_mul(8) as usize)?;
+    for _ in 0..words {
         bytes.extend_from_slice(&chance.number().to_le_bytes())?;
     }
+    bytes.truncate(len as usize);
     Ok(bytes)
 }
 
 impl Desk {
-    /// A new table of these limits, with numbers of a seed.
+    /// A desk with a new table of these limits. The seed decides on the numbers and bytes by chance.
     pub fn new(alloc: Global, config: Config, seed: u64, tally: Tally) -> Result<Desk, Fault> {
         let table = Box::new(alloc, Table::new(alloc, config)?)?;
         Ok(Desk {
@@ -66,12 +70,12 @@ impl Desk {
         })
     }
 
-    /// A number below a bound, by chance.
+    /// A number by chance, below a bound; 0 where the bound is 0.
     pub fn below(&mut self, bound: u64) -> u64 {
         self.chance.number() % bound.max(1)
     }
 
-    /// The host writes bytes by chance, as many whole words as a section has.
+    /// The host writes bytes by chance into all of a section.
     pub fn fill(&mut self, section: Section) -> Result<(), Fault> {
         let bytes = chance_bytes(self.alloc, &mut self.bytes, section.len)?;
         let addr = section.start;
@@ -82,7 +86,8 @@ impl Desk {
         Ok(())
     }
 
-    /// A stride by chance that shares no factor with a power of ten. So among as many arrays it passes each of them.
+    /// A stride by chance, one of `tens` numbers that end in 9. It shares no factor with a count such as 1,000 or
+    /// 20,000, so as many steps of it come to each of so many arrays once.
     pub fn stride(&mut self, tens: u64) -> u64 {
         self.below(tens).wrapping_mul(10).wrapping_add(9)
     }
@@ -119,15 +124,33 @@ impl Desk {
         }));
     }
 
-    /// An `exit data`.
-    pub fn exit_data(&mut self, items: List<Item<ExitClause>>) {
-        let (device, finalize, queue) = (self.device, false, None);
+    /// An `exit data`, at once or through a queue.
+    pub fn exit_data(&mut self, items: List<Item<ExitClause>>, queue: Option<u64>) {
+        let (device, finalize) = (self.device, false);
         self.call(Call::Do(Directive::ExitData {
             device,
             items,
             finalize,
             queue,
         }));
+    }
+
+    /// Names all sections of a row in an `enter data` for each of its parts.
+    pub fn enter_row(&mut self, row: Row, clause: EnterClause) -> Result<(), Fault> {
+        for part in 0..row.parts() {
+            let items = row.part(self.alloc, clause, part)?;
+            self.enter_data(items);
+        }
+        Ok(())
+    }
+
+    /// Names all sections of a row in an `exit data` for each of its parts.
+    pub fn exit_row(&mut self, row: Row, clause: ExitClause) -> Result<(), Fault> {
+        for part in 0..row.parts() {
+            let items = row.part(self.alloc, clause, part)?;
+            self.exit_data(items, None);
+        }
+        Ok(())
     }
 
     /// An `update`, at once or through a queue.
@@ -147,7 +170,7 @@ impl Desk {
         self.call(Call::Do(Directive::Wait { device, queue }));
     }
 
-    /// Lends a section in a region.
+    /// Lends a section in a region, and notes the lease; `None` where it is refused.
     pub fn lend(&mut self, region: u64, section: Section) -> Option<Lease> {
         match self.table.apply(Call::Lend { region, section }) {
             Ok(Reply::Lease(lease)) => {
@@ -178,7 +201,7 @@ impl Desk {
         self.tally.note_bytes(bytes);
     }
 
-    /// Notes the events, and folds the trace, where there are so many.
+    /// Does what [`Desk::fold`] does, where the trace has grown long.
     pub fn fold_when_due(&mut self) -> Result<(), Fault> {
         if self.table.trace().len() < FOLD {
             return Ok(());
@@ -186,7 +209,7 @@ impl Desk {
         self.fold()
     }
 
-    /// Notes the events, and folds the trace.
+    /// Notes the events of the trace, and folds them into what the table begins with.
     pub fn fold(&mut self) -> Result<(), Fault> {
         self.tally.note_events(self.table.trace());
         let count = self.table.rebase()?;
@@ -215,7 +238,7 @@ impl Desk {
         Some(range.start.wrapping_add(1))
     }
 
-    /// Notes what is left, and returns all that was noted.
+    /// Notes the last events and what is left on each device, and returns the digest of all that was noted.
     pub fn finish(&mut self) -> Tally {
         self.tally.note_events(self.table.trace());
         self.tally.note(self.table.events());
@@ -228,7 +251,7 @@ impl Desk {
         self.tally
     }
 
-    /// The bytes in use of the device, and its mapped ranges, summed up.
+    /// The sum of the bytes in use on the device and of its mapped ranges, which are noted.
     fn left_on(&mut self) -> u64 {
         let used = self.table.used(self.device);
         used.wrapping_add(self.note_ranges())

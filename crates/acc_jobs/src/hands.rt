@@ -1,4 +1,4 @@
-//! A thread that makes calls on a table that it shares.
+//! What each thread does that shares a table with others.
 
 use crate::desks::chance_bytes;
 use crate::items::{Row, item};
@@ -22,12 +22,12 @@ const ARRAYS: Row = Row {
     count: 64,
 };
 
-/// What a thread has for itself.
+/// What a thread has of its own.
 #[derive(Drop)]
 pub struct Worker<Regions: Ledger, Tickets: Ledger, Events: Ledger> {
-    /// Its shares.
+    /// Its shares of the calls, regions and events that the table allows.
     pub caller: Caller<Regions, Tickets, Events>,
-    /// What was answered.
+    /// A digest of what was answered.
     pub tally: Tally,
     chance: Chance,
     number: u64,
@@ -96,13 +96,19 @@ impl<Regions: Ledger, Tickets: Ledger, Events: Ledger, R: Wait + AllocGlobal> Ha
     Events,
     R,
 > {
-    /// Makes so many steps with the even arrays mapped, until a fault.
+    /// Fills all arrays, makes so many steps while the even ones are mapped, and reads all arrays back. It stops at the
+    /// first fault.
     pub fn work(&mut self, steps: u64) -> Result<(), Fault> {
+        let arrays = self.worker.arrays();
+        for number in 0..arrays.count {
+            self.write(arrays.at(number))?;
+        }
         self.map_even()?;
         for _ in 0..steps {
             self.step()?;
         }
-        self.unmap_even()
+        self.unmap_even()?;
+        self.read(arrays.all())
     }
 
     fn map_even(&mut self) -> Result<(), Fault> {
@@ -121,7 +127,8 @@ impl<Regions: Ledger, Tickets: Ledger, Events: Ledger, R: Wait + AllocGlobal> Ha
             .exit_data(rt, &mut self.worker.caller, device, items, false, None)
     }
 
-    /// All calls on one of its arrays. Between, the host writes other bytes.
+    /// Makes each kind of call on one of its arrays. Between them the host writes other bytes, so that host and device
+    /// differ.
     fn step(&mut self) -> Result<(), Fault> {
         let number = self.worker.chance.number();
         let array = self.worker.arrays().at(number);
@@ -145,9 +152,9 @@ impl<Regions: Ledger, Tickets: Ledger, Events: Ledger, R: Wait + AllocGlobal> Ha
             .host_write(rt, &mut self.worker.caller, array.start, bytes)
     }
 
-    /// Notes what the host has of an array.
-    fn read(&mut self, array: Section) -> Result<(), Fault> {
-        let bytes = self.runtime.host_read(self.rt, array)?;
+    /// Notes what the host has of a section.
+    fn read(&mut self, section: Section) -> Result<(), Fault> {
+        let bytes = self.runtime.host_read(self.rt, section)?;
         self.worker.tally.note_bytes(&bytes);
         Ok(())
     }
@@ -166,7 +173,7 @@ impl<Regions: Ledger, Tickets: Ledger, Events: Ledger, R: Wait + AllocGlobal> Ha
             .exit_data(rt, &mut self.worker.caller, device, items, false, None)
     }
 
-    /// Copies an array one way through its queue, and waits for that.
+    /// Copies an array one way through the queue of the thread, and waits for that.
     fn update(&mut self, clause: UpdateClause, array: Section) -> Result<(), Fault> {
         let (rt, device, queue) = (self.rt, self.worker.device(), self.worker.queue());
         let items = list_of(rt.alloc(), clause, array)?;
@@ -178,7 +185,8 @@ impl<Regions: Ledger, Tickets: Ledger, Events: Ledger, R: Wait + AllocGlobal> Ha
         Ok(())
     }
 
-    /// Enters a region over an array, works on it, and exits.
+    /// Enters a region over an array, works on it, and exits. The number of the region is not noted, since it depends
+    /// on which thread came first.
     fn enter(&mut self, array: Section) -> Result<(), Fault> {
         let (rt, device) = (self.rt, self.worker.device());
         let items = list_of(rt.alloc(), RegionClause::Present, array)?;
@@ -200,7 +208,7 @@ impl<Regions: Ledger, Tickets: Ledger, Events: Ledger, R: Wait + AllocGlobal> Ha
         let mut lease = self
             .runtime
             .lend(self.rt, &mut self.worker.caller, region, array)?;
-        self.worker.tally.note_bytes(lease.bytes());
+        self.worker.tally.note_lent(&lease);
         run_one(&mut lease, &Add(3), &[]);
         self.gather(lease)
     }

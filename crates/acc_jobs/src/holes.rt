@@ -1,4 +1,4 @@
-//! Ranges that come and go in a nearly full device, in no order.
+//! Arrays whose mappings begin and end by chance on a device that is nearly full.
 
 use crate::desks::{Desk, limits};
 use crate::items::{one, section};
@@ -10,20 +10,20 @@ use std::alloc::{AllocError, Global};
 /// How many arrays there are, 4,096 bytes apart.
 const ARRAYS: u64 = 8_192;
 
-/// How many ends follow a birth that was refused.
+/// How many mappings are ended once the device had no place for one more.
 const ENDS: u64 = 12;
 
-/// Arrays of lengths that stay, which of them are mapped. All together do not fit.
+/// Arrays, of which each has a length that stays, and which of them are mapped. The device has no place for all.
 #[derive(Drop)]
 struct Pool {
     desk: Desk,
     lens: Vec<u64>,
     live: Vec<bool>,
-    // How many ends are due.
+    // How many mappings are still to be ended, since the device had no place.
     due: u64,
 }
 
-/// Fills a device of 4 MiB, and then lets arrays come and go so many thousand times.
+/// Makes so many thousand changes on a device of 4 MiB: a mapping begins, or one ends.
 pub fn run(alloc: Global, seed: u64, rounds: u64) -> Result<Tally, Fault> {
     let lens = lengths(alloc, seed)?;
     let live = vec![in alloc; false; ARRAYS as usize]?;
@@ -39,7 +39,7 @@ pub fn run(alloc: Global, seed: u64, rounds: u64) -> Result<Tally, Fault> {
     pool.play(rounds)
 }
 
-/// The length of each array, from 16 to 4,096 bytes, mostly a small one.
+/// The length of each array: from 16 to 4,096 bytes, and at most 256 for three in four.
 fn lengths(alloc: Global, seed: u64) -> Result<Vec<u64>, AllocError> {
     let mut chance = Chance::new(seed);
     let mut lens = Vec::with_capacity(alloc, ARRAYS as usize)?;
@@ -76,7 +76,7 @@ impl Pool {
         Ok(())
     }
 
-    /// Reads what an array has on both sides, and ends its mapping where it is mapped.
+    /// Notes what device and host have of an array, and ends its mapping where it is mapped.
     fn read_back(&mut self, nth: u64) {
         let array = self.array(nth);
         self.desk.note_device(array);
@@ -91,7 +91,7 @@ impl Pool {
         self.desk.fold_when_due()
     }
 
-    /// An array comes, or an array goes, whichever is due.
+    /// Picks an array by chance. Where it is not mapped, it is mapped; where it is, its mapping ends, if ends are due.
     fn change(&mut self) {
         let nth = self.desk.below(ARRAYS);
         if !self.is_live(nth) {
@@ -103,7 +103,7 @@ impl Pool {
         }
     }
 
-    /// Reads what the device has of one array in eight.
+    /// Notes what the device has of an array. One array in eight is noted.
     fn note_some(&mut self, nth: u64) {
         if nth % 8 == 0 {
             let array = self.array(nth);
@@ -131,7 +131,9 @@ impl Pool {
     fn bear(&mut self, nth: u64) {
         let array = self.array(nth);
         self.desk.enter_data(one(EnterClause::Copyin, array));
-        if self.desk.table.is_present(0, array) {
+        let is_there = self.desk.table.is_present(0, array);
+        self.desk.tally.note(u64::from(is_there));
+        if is_there {
             self.set_live(nth, true);
         } else {
             self.due = ENDS;
@@ -142,7 +144,7 @@ impl Pool {
     fn end(&mut self, nth: u64) {
         if self.is_live(nth) {
             let array = self.array(nth);
-            self.desk.exit_data(one(ExitClause::Delete, array));
+            self.desk.exit_data(one(ExitClause::Delete, array), None);
             self.set_live(nth, false);
         }
     }

@@ -3,13 +3,16 @@
 use acc_base::{HOST_BASE, Item, List, Section};
 use std::alloc::{AllocError, Global};
 
-/// The section of so many bytes at a place of host memory.
+/// A section of host memory: its first byte, counted from the start of that memory, and its length.
 pub fn section(at: u64, len: u64) -> Section {
     Section {
         start: HOST_BASE.wrapping_add(at),
         len,
     }
 }
+
+/// How many items a directive for a part of a row has at most.
+const PART: u64 = 50;
 
 /// An item of a clause, without a pointer.
 pub fn item<C>(clause: C, section: Section) -> Item<C> {
@@ -25,12 +28,12 @@ pub fn one<C>(clause: C, section: Section) -> List<Item<C>> {
     List::one(item(clause, section))
 }
 
-/// Sections of one length, as they lie side by side: so far apart, from a place on.
+/// Sections of host memory that have one length and lie at equal distances.
 #[derive(Clone, Copy)]
 pub struct Row {
-    /// The place of the first.
+    /// Where the first begins, counted from the start of host memory.
     pub first: u64,
-    /// From the start of one to the start of the next.
+    /// How many bytes lie from the start of one to the start of the next.
     pub apart: u64,
     /// The length of each.
     pub len: u64,
@@ -39,7 +42,7 @@ pub struct Row {
 }
 
 impl Row {
-    /// The section of a number, counted from 0; behind the last comes the first again.
+    /// The section of a number. Numbers begin at 0, and behind the last section the first comes again.
     pub fn at(self, number: u64) -> Section {
         let nth = number % self.count.max(1);
         section(
@@ -54,7 +57,7 @@ impl Row {
         section(self.first, behind.wrapping_add(self.len))
     }
 
-    /// Items of a clause for so many sections from a number on, each so many numbers behind the one before it.
+    /// Items of a clause for `count` sections: that of number `first`, and then each whose number is `stride` higher.
     pub fn items<C: Copy + Drop>(
         self,
         alloc: Global,
@@ -71,7 +74,24 @@ impl Row {
         Ok(items)
     }
 
-    /// The same as a list.
+    /// How many parts of at most fifty sections the row has.
+    pub fn parts(self) -> u64 {
+        self.count.div_ceil(PART)
+    }
+
+    /// Items of a clause for the sections of a part. Parts are counted from 0.
+    pub fn part<C: Copy + Drop>(
+        self,
+        alloc: Global,
+        clause: C,
+        part: u64,
+    ) -> Result<List<Item<C>>, AllocError> {
+        let first = part.wrapping_mul(PART);
+        let count = self.count.saturating_sub(first).min(PART);
+        self.list(alloc, clause, first, 1, count)
+    }
+
+    /// The items that [`Row::items`] makes, as a list.
     pub fn list<C: Copy + Drop>(
         self,
         alloc: Global,

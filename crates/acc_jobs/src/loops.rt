@@ -1,4 +1,4 @@
-//! A time-step loop: small directives among arrays that are mapped already.
+//! A loop over time steps: small directives on arrays that are mapped already.
 
 use crate::desks::{Desk, limits};
 use crate::items::{Row, one};
@@ -6,10 +6,10 @@ use crate::tallies::Tally;
 use acc_base::{EnterClause, ExitClause, Fault, HOST_BASE, RegionClause, Section, UpdateClause};
 use std::alloc::Global;
 
-/// Numbers of mapped arrays.
+/// How many arrays are mapped, on one table after the other.
 const COUNTS: [u64; 4] = [1, 1_000, 10_000, 100_000];
 
-/// The scalars, behind all arrays.
+/// The scalars. They lie behind all arrays.
 const SCALARS: Row = Row {
     first: 6_400_000,
     apart: 16,
@@ -17,13 +17,13 @@ const SCALARS: Row = Row {
     count: 30,
 };
 
-/// All that lies behind the arrays: the scalars, and further arrays.
+/// All that lies behind the arrays: the scalars, and further arrays, which are mapped for one directive each time.
 const BEHIND: Section = Section {
     start: HOST_BASE + 6_400_000,
     len: 73_728,
 };
 
-/// Plays time steps among arrays of each number.
+/// Makes so many time steps for each of the counts, on a new table each time.
 pub fn run(alloc: Global, seed: u64, rounds: u64) -> Result<Tally, Fault> {
     let mut tally = Tally::new();
     for count in COUNTS {
@@ -38,7 +38,8 @@ fn play(alloc: Global, seed: u64, count: u64, rounds: u64, tally: Tally) -> Resu
     work(&mut desk, count, rounds)
 }
 
-/// Maps all arrays, and plays time steps. Behind the mapping the host writes other bytes, so that both sides differ.
+/// Maps all arrays, makes the time steps, ends the mappings, and reads all back. Once the arrays are mapped, the host
+/// writes other bytes, so that host and device differ.
 fn work(desk: &mut Desk, count: u64, rounds: u64) -> Result<Tally, Fault> {
     let arrays = Row {
         first: 0,
@@ -48,37 +49,15 @@ fn work(desk: &mut Desk, count: u64, rounds: u64) -> Result<Tally, Fault> {
     };
     desk.fill(BEHIND)?;
     desk.fill(arrays.all())?;
-    map_all(desk, arrays)?;
+    desk.enter_row(arrays, EnterClause::Copyin)?;
     desk.fill(arrays.all())?;
     for _ in 0..rounds {
         step(desk, arrays)?;
     }
-    end_all(desk, arrays)?;
+    desk.exit_row(arrays, ExitClause::Copyout)?;
     desk.note_host(BEHIND);
     desk.note_host(arrays.all());
     Ok(desk.finish())
-}
-
-/// Maps all arrays, fifty in a directive.
-fn map_all(desk: &mut Desk, arrays: Row) -> Result<(), Fault> {
-    for part in 0..arrays.count.div_ceil(50) {
-        let first = part.wrapping_mul(50);
-        let count = arrays.count.saturating_sub(first).min(50);
-        let items = arrays.list(desk.alloc, EnterClause::Copyin, first, 1, count)?;
-        desk.enter_data(items);
-    }
-    Ok(())
-}
-
-/// Ends the mappings of all arrays, fifty in a directive.
-fn end_all(desk: &mut Desk, arrays: Row) -> Result<(), Fault> {
-    for part in 0..arrays.count.div_ceil(50) {
-        let first = part.wrapping_mul(50);
-        let count = arrays.count.saturating_sub(first).min(50);
-        let items = arrays.list(desk.alloc, ExitClause::Copyout, first, 1, count)?;
-        desk.exit_data(items);
-    }
-    Ok(())
 }
 
 /// One time step.
@@ -94,7 +73,7 @@ fn step(desk: &mut Desk, arrays: Row) -> Result<(), Fault> {
     desk.fold_when_due()
 }
 
-/// A region over some arrays, in which the edge of one is updated both ways.
+/// A region over some arrays. In it the first bytes of one are updated on the host, and then on the device.
 fn region(desk: &mut Desk, arrays: Row) -> Result<(), Fault> {
     let count = desk.below(27).wrapping_add(4).min(arrays.count);
     let first = desk.below(arrays.count);
@@ -120,10 +99,10 @@ fn pair(desk: &mut Desk, arrays: Row) {
     desk.enter_data(one(EnterClause::Copyin, array));
     let is_there = desk.table.is_present(0, array);
     desk.tally.note(u64::from(is_there));
-    desk.exit_data(one(ExitClause::Delete, array));
+    desk.exit_data(one(ExitClause::Delete, array), None);
 }
 
-/// Thirty scalars that are born and ended: each in a region of its own, and all in one.
+/// Regions that map scalars and end the mappings: one for all thirty, and eight for one each.
 fn scalars(desk: &mut Desk) -> Result<(), Fault> {
     let items = SCALARS.list(desk.alloc, RegionClause::Copy, 0, 1, 30)?;
     let number = desk.enter(items);
@@ -141,14 +120,15 @@ fn scalar(desk: &mut Desk) {
     desk.exit(number);
 }
 
-/// Sixty-four items in one directive, and as many arrays that were not mapped.
+/// Directives of 64 items: an `enter data` and an `exit data` of mapped arrays, and a region over other arrays, which
+/// are mapped in it alone.
 fn many(desk: &mut Desk, arrays: Row) -> Result<(), Fault> {
     let first = desk.below(arrays.count);
     let stride = desk.stride(10);
     let items = arrays.list(desk.alloc, EnterClause::Copyin, first, stride, 64)?;
     desk.enter_data(items);
     let items = arrays.list(desk.alloc, ExitClause::Delete, first, stride, 64)?;
-    desk.exit_data(items);
+    desk.exit_data(items, None);
     let at = desk.below(1_000).wrapping_mul(64);
     let others = Row {
         first: SCALARS.first.wrapping_add(at).wrapping_add(4_096),

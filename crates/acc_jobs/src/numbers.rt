@@ -1,6 +1,9 @@
-//! Answers as numbers: what they are, and each of their fields.
+//! Answers as numbers: which kind each is, and each of its fields.
 
-use acc_base::{Aim, EnterClause, Event, ExitClause, Fault, RegionClause, Step, UpdateClause};
+use acc_base::{
+    Aim, Counters, Ended, EnterClause, Event, ExitClause, Fault, Found, RegionClause, Step,
+    UpdateClause,
+};
 
 /// A clause that has a number, from 0 to 15.
 pub trait Numbered: Copy {
@@ -49,7 +52,7 @@ fn kind_of(kind: u64, number: u64) -> u64 {
     number.wrapping_mul(16).wrapping_add(kind)
 }
 
-/// What a step did to which block, and the place of a block that was born; else 0.
+/// What a step did, to which block, and the place of a block that was born. The place is 0 for other steps.
 pub fn fields_of_step(step: Step) -> (u64, u64) {
     match step {
         Step::Nothing => (0, 0),
@@ -60,7 +63,7 @@ pub fn fields_of_step(step: Step) -> (u64, u64) {
     }
 }
 
-/// What became of a pointer in which block, the pointer, and its new target; else 0.
+/// What became of a pointer, in which block, the pointer, and its new target. What it has not is 0.
 pub fn fields_of_aim(aim: Aim) -> [u64; 3] {
     match aim {
         Aim::None => [6, 0, 0],
@@ -75,15 +78,41 @@ pub fn fields_of_aim(aim: Aim) -> [u64; 3] {
     }
 }
 
-/// A queue as a number: 0 for none.
-fn number_of(queue: &Option<u64>) -> u64 {
-    match queue {
+/// A number that may be missing, as one number: 0 where it is missing, and else one more.
+pub fn number_of(number: &Option<u64>) -> u64 {
+    match number {
         Some(number) => number.wrapping_add(1),
         None => 0,
     }
 }
 
-/// What an event is on which device, its other numbers, and how many items did something.
+/// Whether a section is mapped and to which block, and how far behind the start of its range it begins.
+pub fn fields_of_found(found: Found) -> [u64; 2] {
+    match found {
+        Found::Empty => [0, 0],
+        Found::Inside { block, offset } => [kind_of(1, block), offset],
+        Found::Partly => [2, 0],
+        Found::Absent => [3, 0],
+    }
+}
+
+/// Whether there are counters, and both.
+pub fn fields_of_counters(counters: Option<Counters>) -> [u64; 3] {
+    match counters {
+        Some(counters) => [1, counters.structured, counters.dynamic],
+        None => [0, 0, 0],
+    }
+}
+
+/// Whether there is a block whose mapping ended, its place, its size and its pins.
+pub fn fields_of_ended(ended: Option<Ended>) -> [u64; 4] {
+    match ended {
+        Some(ended) => [1, ended.place, ended.size, ended.pins],
+        None => [0, 0, 0, 0],
+    }
+}
+
+/// Which event it is, on which device, for how many items it says what they did, and its other numbers.
 pub fn fields_of_event(event: &Event) -> [u64; 6] {
     let count = event.did().len() as u64;
     let on = event.device();
@@ -119,7 +148,7 @@ pub fn fields_of_event(event: &Event) -> [u64; 6] {
     }
 }
 
-/// The same of an event that has no items.
+/// [`fields_of_event`] for an event that has no items. `on` is its device.
 fn fields_of_other(event: &Event, on: u64) -> [u64; 6] {
     match event {
         Event::Waited { queue, count, .. } => [kind_of(5, on), number_of(queue), *count, 0, 0, 0],
@@ -144,7 +173,7 @@ fn fields_of_other(event: &Event, on: u64) -> [u64; 6] {
     }
 }
 
-/// The fields of a fault that a table has, at most two; else 0.
+/// The fields of a fault of a table, which has two at most. What it has not is 0.
 pub fn fields_of_fault(fault: Fault) -> (u64, u64) {
     match fault {
         Fault::NoTickets { left } | Fault::NoAllowance { left } => (left, 0),

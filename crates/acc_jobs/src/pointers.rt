@@ -1,4 +1,4 @@
-//! Deep copies: structs with a pointer each, which is attached, updated and detached.
+//! Deep copies: structs that hold a pointer each, which is attached, updated and detached.
 
 use crate::desks::{Desk, limits};
 use crate::items::{Row, one, section};
@@ -44,8 +44,8 @@ fn structure(nth: u64) -> Section {
     section((nth % STRUCTS).wrapping_mul(16), 16)
 }
 
-/// Copies all structs, in an order that no one foresees: each is so far behind the one before it. Between, the host
-/// writes other bytes, so that both sides differ.
+/// Copies all structs to the device with their targets, and back. It goes by a stride, so that neighbours do not follow
+/// one another. Once all are attached, the host writes other bytes, so that host and device differ.
 fn copy_all(desk: &mut Desk) -> Result<(), Fault> {
     let all = section(0, STRUCTS.wrapping_mul(16));
     desk.enter_data(one(EnterClause::Copyin, all));
@@ -61,8 +61,9 @@ fn copy_all(desk: &mut Desk) -> Result<(), Fault> {
     for nth in 0..STRUCTS {
         detach(desk, nth.wrapping_mul(step))?;
     }
-    desk.exit_data(one(ExitClause::Copyout, all));
-    end_all(desk)?;
+    desk.exit_data(one(ExitClause::Copyout, all), None);
+    // No target is mapped any more, so these do nothing.
+    desk.exit_row(TARGETS, ExitClause::Delete)?;
     desk.note_host(MEMORY);
     desk.fold()
 }
@@ -102,17 +103,6 @@ fn detach(desk: &mut Desk, nth: u64) -> Result<(), Fault> {
         section: TARGETS.at(nth),
         pointer: Some(structure(nth).start),
     };
-    desk.exit_data(List::one(item));
+    desk.exit_data(List::one(item), None);
     desk.fold_when_due()
-}
-
-/// Ends the mappings of all targets that are left.
-fn end_all(desk: &mut Desk) -> Result<(), Fault> {
-    for part in 0..STRUCTS.div_ceil(64) {
-        let first = part.wrapping_mul(64);
-        let count = STRUCTS.saturating_sub(first).min(64);
-        let items = TARGETS.list(desk.alloc, ExitClause::Delete, first, 1, count)?;
-        desk.exit_data(items);
-    }
-    Ok(())
 }

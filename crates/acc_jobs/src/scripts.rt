@@ -11,7 +11,7 @@ use std::cell::Cell;
 use std::sync::Wait;
 use std::thread::Threads;
 
-/// Nothing but what a script prints.
+/// Shows only what a script prints.
 const PLAIN: Views = Views {
     echo: false,
     json: false,
@@ -21,7 +21,7 @@ const PLAIN: Views = Views {
     pictures: false,
 };
 
-/// A log of what each call did, and why lines are refused.
+/// Shows what each call did, and why lines are refused.
 const LOG: Views = Views {
     echo: false,
     json: false,
@@ -31,7 +31,7 @@ const LOG: Views = Views {
     pictures: false,
 };
 
-/// Each statement before what it prints, and reports as JSON.
+/// Shows each statement before what it prints, and reports as JSON.
 const JSON: Views = Views {
     echo: true,
     json: true,
@@ -41,19 +41,36 @@ const JSON: Views = Views {
     pictures: false,
 };
 
-/// Notes the bytes of each picture.
+/// Gets pictures, and notes when each was made and its bytes.
 #[derive(Drop)]
 struct Album {
     tally: Cell<Tally>,
 }
 
 impl PictureSink for Album {
-    fn keep(&self, _frame: Frame, picture: &[u8]) -> Result<(), Stop> {
+    fn keep(&self, frame: Frame, picture: &[u8]) -> Result<(), Stop> {
         let mut tally = self.tally.get();
+        tally.note(number_of_frame(frame));
         tally.note_bytes(picture);
         self.tally.set(tally);
         Ok(())
     }
+}
+
+/// When a picture was made, as a number: 0 at the end, and else one more than the line.
+fn number_of_frame(frame: Frame) -> u64 {
+    match frame {
+        Frame::Last => 0,
+        Frame::Line(number) => number.wrapping_add(1),
+    }
+}
+
+/// What comes of a script beside what it prints.
+#[derive(Drop)]
+struct Aside {
+    err: MemorySink,
+    album: Album,
+    reason: Page,
 }
 
 /// Plays scripts of each kind, so many times, each with another seed.
@@ -71,7 +88,7 @@ pub fn run<R: Threads + Wait + Sync + AllocGlobal>(
     Ok(tally)
 }
 
-/// A script of each kind.
+/// Plays a script of each kind: three that are plain, and then those of [`play_more`].
 fn play_all<R: Threads + Wait + Sync + AllocGlobal>(
     rt: &R,
     seed: u64,
@@ -84,6 +101,7 @@ fn play_all<R: Threads + Wait + Sync + AllocGlobal>(
     play_more(rt, alloc, seed, sink)
 }
 
+/// Plays a script of nested regions, one with a log, and one with echo and JSON.
 fn play_more<R: Threads + Wait + Sync + AllocGlobal>(
     rt: &R,
     alloc: Global,
@@ -95,31 +113,36 @@ fn play_more<R: Threads + Wait + Sync + AllocGlobal>(
     play_text(rt, &many(alloc, seed, 500, 5_000, 50)?, JSON, sink)
 }
 
-/// Plays a script, and adds what it prints, what is shown beside it, a digest of the pictures, and how it ended.
+/// Plays a script. It adds what the script prints, its log, why a line is at fault, a digest of the pictures, and how
+/// the script ended.
 pub fn play_text<R: Threads + Wait + Sync + AllocGlobal>(
     rt: &R,
     text: &str,
     views: Views,
     sink: &mut MemorySink,
 ) -> Result<(), Fault> {
-    let mut err = MemorySink::new(rt.alloc());
-    let album = Album {
-        tally: Cell::new(Tally::new()),
+    let mut aside = Aside {
+        err: MemorySink::new(rt.alloc()),
+        album: Album {
+            tally: Cell::new(Tally::new()),
+        },
+        reason: Page::new(rt.alloc()),
     };
-    let ending = follow_text(rt, text, views, &album, sink, &mut err)?;
-    acc_script::write_all(sink, err.as_slice());
-    acc_script::write_all(sink, &album.tally.get().digest.to_le_bytes());
+    let ending = follow_text(rt, text, views, sink, &mut aside)?;
+    acc_script::write_all(sink, aside.err.as_slice());
+    acc_script::write_all(sink, aside.reason.as_slice());
+    acc_script::write_all(sink, &aside.album.tally.get().digest.to_le_bytes());
     acc_script::write_all(sink, ending.as_bytes());
     Ok(())
 }
 
+/// Runs a script, and returns how it ended.
 fn follow_text<R: Threads + Wait + Sync + AllocGlobal>(
     rt: &R,
     text: &str,
     views: Views,
-    album: &Album,
     out: &mut MemorySink,
-    err: &mut MemorySink,
+    aside: &mut Aside,
 ) -> Result<&'static str, Fault> {
     let setting = Setting {
         config: limits(2_097_152, 2_097_152)?,
@@ -127,11 +150,10 @@ fn follow_text<R: Threads + Wait + Sync + AllocGlobal>(
         views,
     };
     let mut reader = MemorySource::new(text.as_bytes());
-    let mut reason = Page::new(rt.alloc());
     let beside = Beside {
-        err,
-        pictures: album,
-        reason: &mut reason,
+        err: &mut aside.err,
+        pictures: &aside.album,
+        reason: &mut aside.reason,
     };
     match follow(rt, setting, &mut reader, out, beside) {
         Ok(Status::Clean) => Ok("clean\n"),

@@ -1,32 +1,32 @@
-//! What calls answered, summed up.
+//! A digest of what calls answered.
 
 use crate::numbers::{Numbered, fields_of_aim, fields_of_event, fields_of_fault, fields_of_step};
 use acc_base::{Aim, Did, Event, Fault, Item};
 use acc_lend::Lease;
 use acc_table::{Mapped, Reply};
 
-/// What each sum of words is multiplied by.
+/// What a sum is multiplied by for each number that it takes up. It is odd, so no number is lost.
 const FACTOR: u64 = 0x9E37_79B9_7F4A_7C15;
 
-/// How many bytes of a lease are noted at most.
+/// How many bytes of a lease are noted at most. What is behind them is noted when the array is read back.
 const FRONT: usize = 1_024;
 
 /// A digest of all that was answered, and what was left behind.
 #[derive(Clone, Copy)]
 pub struct Tally {
-    /// A digest of all numbers that were noted, in their order.
+    /// A digest of all numbers that were noted. It depends on their order.
     pub digest: u64,
-    /// Device bytes in use, open regions and mapped ranges that were left at the end, summed up.
+    /// The sum of what is left at the end: bytes of device memory in use, open regions and mapped ranges.
     pub left: u64,
 }
 
-/// A sum of words, with one more.
+/// A sum that has taken up one more word.
 fn summed(sum: u64, word: [u8; 8]) -> u64 {
     (sum.rotate_left(5) ^ u64::from_le_bytes(word)).wrapping_mul(FACTOR)
 }
 
 impl Tally {
-    /// Nothing was noted.
+    /// A digest of nothing.
     pub fn new() -> Tally {
         Tally {
             digest: 0xCBF2_9CE4_8422_2325,
@@ -47,7 +47,7 @@ impl Tally {
         }
     }
 
-    /// Notes how many bytes there are, and all of them.
+    /// Notes how many bytes there are, and each of them, by words of eight as far as these go.
     pub fn note_bytes(&mut self, bytes: &[u8]) {
         self.note(bytes.len() as u64);
         let (words, rest) = bytes.as_chunks::<8>();
@@ -61,7 +61,7 @@ impl Tally {
         }
     }
 
-    /// Notes words by four sums, since one alone would wait for itself.
+    /// Notes words by four sums. A sum must wait for its last multiplication, so four go on while one waits.
     fn note_fours(&mut self, fours: &[[[u8; 8]; 4]]) {
         let (mut one, mut two, mut three, mut four) = (1, 2, 3, 4);
         for [first, second, third, fourth] in fours {
@@ -73,7 +73,8 @@ impl Tally {
         self.note_all(&[one, two, three, four]);
     }
 
-    /// Notes an accepted call, and returns the number that it replied. A lease is abandoned.
+    /// Notes the reply of an accepted call, and returns the number that it holds: 0 for `Done`, 1 for `Idle`. It
+    /// abandons a lease.
     pub fn accept(&mut self, reply: Reply) -> u64 {
         let (kind, number) = match reply {
             Reply::Done => (0, 0),
@@ -93,10 +94,16 @@ impl Tally {
         serial
     }
 
-    /// Notes a lease, with a front of the bytes that it lends.
+    /// Notes a lease, and the first of the bytes that it lends.
     pub fn note_lease(&mut self, lease: &Lease) {
-        let (at, len) = (lease.offset() as u64, lease.len() as u64);
-        self.note_all(&[lease.device(), lease.serial(), lease.block(), at, len]);
+        self.note_all(&[lease.serial(), lease.block()]);
+        self.note_lent(lease);
+    }
+
+    /// Notes a lease as [`Tally::note_lease`] does, but neither its serial nor its block. Where threads share a table,
+    /// these two numbers depend on which thread came first.
+    pub fn note_lent(&mut self, lease: &Lease) {
+        self.note_all(&[lease.device(), lease.offset() as u64, lease.len() as u64]);
         let bytes = lease.bytes();
         self.note_bytes(bytes.get(..FRONT).unwrap_or(bytes));
     }

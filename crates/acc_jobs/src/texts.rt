@@ -1,16 +1,16 @@
-//! Scripts, made from a seed.
+//! Scripts that are made from a seed.
 
 use acc_random::Chance;
 use std::alloc::{AllocError, Global};
 
-/// A script that is written line by line.
+/// A script to which lines are added, and the numbers by chance for them.
 #[derive(Drop)]
 pub struct Text {
     text: String,
     chance: Chance,
 }
 
-/// How many arrays of a script are mapped.
+/// How many arrays a script of [`all_refused`] or [`wrong_at_end`] maps.
 pub const ARRAYS: u64 = 2_000;
 
 /// One array in so many is filled and shown.
@@ -84,7 +84,7 @@ impl Text {
         )
     }
 
-    /// A directive of one item, or two that go together, on one of so many mapped arrays.
+    /// One or two lines that name one or two of the first `count` arrays, or a step of a queue.
     fn directive(&mut self, count: u64) -> Result<(), AllocError> {
         let nth = self.below(count);
         let other = self.below(count);
@@ -106,7 +106,7 @@ impl Text {
         }
     }
 
-    /// A write of 32 or 64 bytes, and sometimes what became of it.
+    /// A write of 32 or 64 bytes. One array in eight is then shown on both sides.
     fn write_bytes(&mut self, count: u64) -> Result<(), AllocError> {
         let nth = self.below(count);
         write!(self.text, "write a{nth}[0] ")?;
@@ -125,23 +125,28 @@ impl Text {
         Ok(())
     }
 
+    /// Eight bytes by chance, as hexadecimal digits.
     fn put_eight(&mut self) -> Result<(), AllocError> {
         let number = self.chance.number();
         write!(self.text, "{number:016x}")
     }
 
-    /// A deep copy of an array of pointers: some are attached, and detached.
+    /// An array gets a pointer to another, which is attached, copied back and detached.
     fn pointer(&mut self, count: u64) -> Result<(), AllocError> {
         let nth = self.below(count);
         let other = self.below(count);
         let place = self.below(8).wrapping_mul(8);
         write!(
             self.text,
-            "point a{nth}[{place}] to a{other}[0]\nenter data attach(a{nth}[{place}])\nupdate self(a{nth})\nexit data detach(a{nth}[{place}])\n"
+            "point a{nth}[{place}] to a{other}[0]\nenter data attach(a{nth}[{place}])\n"
+        )?;
+        write!(
+            self.text,
+            "update self(a{nth})\nexit data detach(a{nth}[{place}])\n"
         )
     }
 
-    /// So many statements of all kinds, and a report behind each part of them.
+    /// So many statements of all kinds. A report comes once in `each` statements; none where that is 0.
     fn statements(&mut self, arrays: u64, lines: u64, each: u64) -> Result<(), AllocError> {
         for line in 0..lines {
             self.statement(arrays)?;
@@ -162,7 +167,8 @@ impl Text {
     }
 }
 
-/// A script over so many arrays, with so many statements, and a report behind each part of so many. 0 is for none.
+/// A script that maps so many arrays, has so many statements, and ends the mappings. A report comes once in `each`
+/// statements; none where that is 0.
 pub fn many(
     alloc: Global,
     seed: u64,
@@ -178,7 +184,7 @@ pub fn many(
     Ok(text.text)
 }
 
-/// A script of data regions that are nested in one another, with updates and kernels in each.
+/// A script of data regions that are nested so deep, so many times, with an update and a kernel in each region.
 pub fn nested(alloc: Global, seed: u64, depth: u64, times: u64) -> Result<String, AllocError> {
     let mut text = Text::new(alloc, seed);
     text.arrays(64)?;
@@ -204,7 +210,7 @@ fn nest(text: &mut Text, depth: u64) -> Result<(), AllocError> {
     Ok(())
 }
 
-/// A script that maps arrays, and all of whose further lines are refused.
+/// A script that maps arrays. All lines are refused that come between this and the ends of the mappings.
 pub fn all_refused(alloc: Global, seed: u64) -> Result<String, AllocError> {
     let mut text = Text::new(alloc, seed);
     text.arrays(ARRAYS.wrapping_mul(2))?;

@@ -1,5 +1,5 @@
 //! Threads that share a table, each with arrays and a queue of its own, and kernels that work in one to four threads.
-//! What is noted does not depend on which thread comes first.
+//! The digest does not depend on which thread comes first, so serials and numbers of regions and blocks are left out.
 
 ghost use Rattle.std.specs.Prelude.{◌≡◌};
 
@@ -16,7 +16,7 @@ use std::sync::Wait;
 use std::sync::ledger::Ledger;
 use std::thread::{Threads, for_each_mut};
 
-/// How many steps all threads of a table make in a round.
+/// How many steps the threads of a table make in a round, all together.
 const STEPS: u64 = 2_000;
 
 /// The length of the array that kernels work on.
@@ -48,7 +48,7 @@ pub fn run<R: Threads + Wait + Sync + AllocGlobal>(
     run_kernels(rt, seed, rounds, tally)
 }
 
-/// A new table of two devices for threads.
+/// Makes the rounds of a plan on a new table of two devices.
 fn share<R: Threads + Wait + Sync + AllocGlobal>(
     rt: &R,
     plan: Plan,
@@ -88,7 +88,7 @@ fn play<
 ) -> Result<(), Fault> {
     let mut workers = Vec::new(rt.alloc());
     hire(caller, plan, &mut workers)?;
-    let made = make_rounds(rt, runtime, workers.as_mut_slice(), plan);
+    let made = make_rounds(rt, runtime, workers.as_mut_slice(), plan, tally);
     note_workers(caller, workers, tally);
     note_table(rt, runtime, caller, tally);
     made
@@ -118,6 +118,7 @@ fn note_workers<Regions: Ledger, Tickets: Ledger, Events: Ledger>(
     }
 }
 
+/// Makes all rounds, and notes behind each how many events the fold of the trace took.
 fn make_rounds<
     Regions: Ledger + Send + Sync,
     Tickets: Ledger + Send + Sync,
@@ -128,10 +129,12 @@ fn make_rounds<
     runtime: &Runtime<Regions, Tickets, Events>,
     workers: &mut [Worker<Regions, Tickets, Events>],
     plan: Plan,
+    tally: &mut Tally,
 ) -> Result<(), Fault> {
     for _ in 0..plan.rounds {
         work_all(rt, runtime, workers, STEPS / plan.threads.max(1));
-        runtime.rebase(rt)?;
+        let count = runtime.rebase(rt)?;
+        tally.note(count);
     }
     Ok(())
 }
@@ -221,27 +224,35 @@ fn play_kernels<R: Threads + Wait + Sync + AllocGlobal>(
         work_in(rt, desk, region, all, round % 4);
     }
     desk.exit(region);
-    desk.exit_data(one(ExitClause::Copyout, all));
+    desk.exit_data(one(ExitClause::Copyout, all), None);
     desk.note_host(all);
     Ok(desk.finish())
 }
 
-/// Lends a section to a kernel that works on it in so many parts and one.
+/// Lends a section to a kernel, which works on it in one part more than `others`.
 fn work_in<R: Threads + Wait + Sync + AllocGlobal>(
     rt: &R,
     desk: &mut Desk,
     region: u64,
     section: Section,
-    parts: u64,
+    others: u64,
 ) {
     if let Some(mut lease) = desk.lend(region, section) {
-        add_evenly(rt, &mut lease, (parts % 64) as usize);
+        let parts = (others % 64) as usize;
+        if let Err(fault) = add_evenly(rt, &mut lease, parts.wrapping_add(1)) {
+            desk.tally.refuse(fault);
+        }
         desk.call(Call::Gather(lease));
     }
 }
 
-fn add_evenly<R: Threads + Wait + Sync + AllocGlobal>(rt: &R, lease: &mut Lease, parts: usize) {
-    if let Ok(cuts) = Cuts::even(rt.alloc(), lease.len(), parts.wrapping_add(1)) {
-        run_parts(rt, lease, &cuts, &Add(3), &[], &Open);
-    }
+/// Runs a kernel on a lease, in so many parts of about the same length.
+fn add_evenly<R: Threads + Wait + Sync + AllocGlobal>(
+    rt: &R,
+    lease: &mut Lease,
+    parts: usize,
+) -> Result<(), Fault> {
+    let cuts = Cuts::even(rt.alloc(), lease.len(), parts)?;
+    run_parts(rt, lease, &cuts, &Add(3), &[], &Open);
+    Ok(())
 }

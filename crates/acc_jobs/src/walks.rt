@@ -1,11 +1,12 @@
-//! Questions and reports over 20,000 ranges on each of several devices, copies that wait in queues, and pictures.
+//! Questions and reports about 20,000 mapped ranges on each of two devices, copies that wait in queues, and pictures.
 
 use crate::desks::{Desk, limits};
 use crate::items::{Row, one};
+use crate::numbers::{fields_of_counters, fields_of_ended, fields_of_found, number_of};
 use crate::scripts::play_text;
 use crate::tallies::Tally;
 use crate::texts::many;
-use acc_base::{Directive, EnterClause, ExitClause, Fault, Found, UpdateClause};
+use acc_base::{Directive, EnterClause, ExitClause, Fault, Section, UpdateClause};
 use acc_follow::Views;
 use acc_script::{MemorySink, report};
 use acc_table::Call;
@@ -16,7 +17,7 @@ use std::thread::Threads;
 /// How many devices there are.
 const DEVICES: u64 = 2;
 
-/// How many queues of each are used.
+/// How many queues of each device are used.
 const QUEUES: u64 = 16;
 
 /// Arrays of 48 bytes, which each device maps.
@@ -27,7 +28,7 @@ const ARRAYS: Row = Row {
     count: 20_000,
 };
 
-/// A picture behind each directive and each kernel, and one at the end.
+/// A script is drawn behind each directive and each kernel, and at its end.
 const PICTURES: Views = Views {
     echo: false,
     json: false,
@@ -37,7 +38,7 @@ const PICTURES: Views = Views {
     pictures: true,
 };
 
-/// Maps all arrays on each device, and walks over them so many times. Then scripts are drawn as often.
+/// Maps all arrays on each device, and makes so many rounds of questions. Then it plays as many scripts with pictures.
 pub fn run<R: Threads + Wait + Sync + AllocGlobal>(
     rt: &R,
     seed: u64,
@@ -66,26 +67,17 @@ fn play(desk: &mut Desk, rounds: u64) -> Result<Tally, Fault> {
     Ok(desk.finish())
 }
 
-/// Maps all arrays on a device, fifty in a directive. The host has written other bytes for each device.
+/// Maps all arrays on a device. Before that, the host writes other bytes for each device.
 fn map(desk: &mut Desk, device: u64) -> Result<(), Fault> {
     desk.device = device;
     desk.fill(ARRAYS.all())?;
-    for part in 0..ARRAYS.count / 50 {
-        let first = part.wrapping_mul(50);
-        let items = ARRAYS.list(desk.alloc, EnterClause::Copyin, first, 1, 50)?;
-        desk.enter_data(items);
-    }
-    Ok(())
+    desk.enter_row(ARRAYS, EnterClause::Copyin)
 }
 
-/// Ends all mappings of a device, and reads back what the host has then.
+/// Ends all mappings of a device, and notes what the host has then.
 fn end(desk: &mut Desk, device: u64) -> Result<(), Fault> {
     desk.device = device;
-    for part in 0..ARRAYS.count / 50 {
-        let first = part.wrapping_mul(50);
-        let items = ARRAYS.list(desk.alloc, ExitClause::Copyout, first, 1, 50)?;
-        desk.exit_data(items);
-    }
+    desk.exit_row(ARRAYS, ExitClause::Copyout)?;
     desk.note_host(ARRAYS.all());
     Ok(())
 }
@@ -100,7 +92,7 @@ fn walk_all(desk: &mut Desk) -> Result<(), Fault> {
     desk.fold()
 }
 
-/// Fills queues, asks for all ranges with the copies still waiting, and makes the copies.
+/// Puts copies into queues, asks about all arrays while the copies wait, and makes the copies.
 fn walk(desk: &mut Desk) -> Result<(), Fault> {
     for queue in 0..QUEUES {
         put_off(desk, queue);
@@ -117,22 +109,22 @@ fn walk(desk: &mut Desk) -> Result<(), Fault> {
     Ok(())
 }
 
-/// Where an array lies, its counters, and its device address.
+/// Notes where sixteen bytes of an array lie on the device, their address there, and the counters of their range.
 fn ask(desk: &mut Desk, nth: u64) {
-    let array = ARRAYS.at(nth);
-    let block = match desk.table.find(desk.device, array) {
-        Found::Inside { block, .. } => block,
-        _ => 0,
+    let section = Section {
+        start: ARRAYS.at(nth).start.wrapping_add(nth % 32),
+        len: 16,
     };
-    let address = desk.table.device_address(desk.device, array.start);
-    desk.tally.note_all(&[block, address.unwrap_or(0)]);
-    if let Some(counters) = desk.table.counters(desk.device, array) {
-        desk.tally
-            .note_all(&[counters.structured, counters.dynamic]);
-    }
+    let device = desk.device;
+    let found = desk.table.find(device, section);
+    let address = desk.table.device_address(device, section.start);
+    let counters = desk.table.counters(device, section);
+    desk.tally.note_all(&fields_of_found(found));
+    desk.tally.note(number_of(&address));
+    desk.tally.note_all(&fields_of_counters(counters));
 }
 
-/// Puts copies both ways into a queue, and those of a mapping that ends.
+/// Puts copies both ways into a queue, and the end of a mapping with its copy.
 fn put_off(desk: &mut Desk, queue: u64) {
     for _ in 0..16u64 {
         let (one_way, other_way) = (desk.below(ARRAYS.count), desk.below(ARRAYS.count));
@@ -141,22 +133,16 @@ fn put_off(desk: &mut Desk, queue: u64) {
         let to_device = one(UpdateClause::ToDevice, ARRAYS.at(other_way));
         desk.update(to_device, Some(queue));
     }
-    let items = one(ExitClause::Copyout, ARRAYS.at(queue));
-    let (device, finalize, queue) = (desk.device, false, Some(queue));
-    desk.call(Call::Do(Directive::ExitData {
-        device,
-        items,
-        finalize,
-        queue,
-    }));
+    desk.exit_data(one(ExitClause::Copyout, ARRAYS.at(queue)), Some(queue));
 }
 
-/// Makes the copies of a queue, the first by a step, and maps the array again whose mapping ended.
+/// Makes the copies of a queue, the first of them alone, and maps the array again whose mapping ended.
 fn make_up(desk: &mut Desk, queue: u64) -> Result<(), Fault> {
     let device = desk.device;
-    let ended = desk.table.ended(device, 0).map(|block| block.place);
+    let ended = desk.table.ended(device, 0);
     let len = desk.table.queue_len(device, queue);
-    desk.tally.note_all(&[ended.unwrap_or(0), len]);
+    desk.tally.note_all(&fields_of_ended(ended));
+    desk.tally.note(len);
     desk.call(Call::Do(Directive::Step { device, queue }));
     desk.wait(queue);
     desk.fill(ARRAYS.at(queue))?;
@@ -172,7 +158,7 @@ fn put_report(desk: &mut Desk) -> Result<(), Fault> {
     Ok(())
 }
 
-/// Draws scripts: a picture of 300 arrays behind each of 100 statements.
+/// Plays scripts with 300 arrays and 100 statements, of which pictures are drawn.
 fn draw<R: Threads + Wait + Sync + AllocGlobal>(
     rt: &R,
     seed: u64,

@@ -1,11 +1,12 @@
 -- How values are kept: places that are gone stand among them and say nothing.
 use Rattle.std.proofs.Math.Seq.{take-append_seam}
-use Rattle.std.proofs.Common.{ℕ, zero, suc, ◌≡◌, ◌+◌, ◌-◌, ◌<◌, ◌≤◌, refl, sym, ap, ◌∙◌, Bool, true, false, cond, List, [], ◌∷◌, ◌++◌, length, get_or, set, take, drop, insert, subst, Option, Some, None, IsSome, arith, rules, inl, inr}
-use Rattle.std.specs.Prelude.{◌==◌, nat_lt, filter, not, is_some, slice_get, option_map, option_to_list}
+use Rattle.std.proofs.Common.{ℕ, zero, suc, ◌≡◌, ◌+◌, ◌-◌, ◌<◌, ◌≤◌, refl, sym, ap, ◌∙◌, Bool, true, false, cond, List, [], ◌∷◌, ◌++◌, length, get_or, set, take, drop, insert, subst, Option, Some, None, IsSome, Bor, arith, rules, inl, inr}
+use Rattle.std.specs.Prelude.{◌==◌, nat_lt, filter, not, is_some, slice_get, option_map, option_to_list, MatchOption}
+use Rattle.std.specs.Option.{option_copied}
 use Rattle.std.specs.List.{AllByRecursion}
 use Rattle.std.proofs.lemmas.Bool.{cases_lt, cases_eq}
 use Rattle.std.proofs.lemmas.Bool.Decides.{nat_tests}
-use Rattle.std.proofs.lemmas.List.{get_or_default, take_more}
+use Rattle.std.proofs.lemmas.List.{append-nil, get_or_default, take_more}
 use Rattle.std.proofs.lemmas.Option.{same_Some}
 use Rattle.acc_base.proofs.Keyed as keyed
 use Rattle.acc_base.proofs.Keyed.{all_from}
@@ -35,10 +36,6 @@ module _ {T : Type 0} where
       go : (o : Option T) → live_before x.number o (live_entries xs ++ live_entries ys) ≡ live_before x.number o (live_entries xs) ++ live_entries ys
       go None = refl
       go (Some v) = refl
-
-  pub nothing_behind : (es : List (ℕ × T)) → es ++ [] ≡ es
-  nothing_behind [] = refl
-  nothing_behind (e ∷ es) = ap (λ fs. e ∷ fs) (nothing_behind es)
 
   -- what the numbers of all places have, those of the values have
   pub numbers_here : (P : ℕ → Type 0) (xs : List (Entry T)) → AllByRecursion (λ (e : Entry T). P e.number) xs → AllByRecursion (λ (d : ℕ × T). P d.0) (live_entries xs)
@@ -105,25 +102,6 @@ module _ {T : Type 0} where
       let place : length (y ∷ z ∷ ys) - 1 ≡ suc (length (z ∷ ys) - 1) = omega arith in
       let rest = last_at (z ∷ ys) x (ap (slice_get (y ∷ z ∷ ys)) (sym place) ∙ e) in
       (ap (λ (i : ℕ). get_or (y ∷ z ∷ ys) i blank_entry) place ∙ rest.0, omega arith)
-
-  -- a list without a first entry has none
-  pub none_first : (xs : List (Entry T)) (n : ℕ) → slice_get xs 0 ≡ None → AllByRecursion (λ (e : Entry T). e.number ≡ n → ⊥) xs
-  none_first [] n e = tt
-  none_first (y ∷ ys) n e = cc
-
-  pub none_last : (xs : List (Entry T)) (n : ℕ) → slice_get xs (length xs - 1) ≡ None → AllByRecursion (λ (e : Entry T). e.number ≡ n → ⊥) xs
-  none_last [] n e = tt
-  none_last (y ∷ []) n e = cc
-  none_last (y ∷ z ∷ ys) n e =
-      let place : length (y ∷ z ∷ ys) - 1 ≡ suc (length (z ∷ ys) - 1) = omega arith in
-      absurd (some_last (z ∷ ys) (omega arith) (ap (slice_get (y ∷ z ∷ ys)) (sym place) ∙ e))
-    where
-      some_last : (zs : List (Entry T)) → 0 < length zs → slice_get zs (length zs - 1) ≡ None → ⊥
-      some_last [] lt e = omega arith
-      some_last (w ∷ []) lt e = cc
-      some_last (w ∷ v ∷ zs) lt e =
-          let place : length (w ∷ v ∷ zs) - 1 ≡ suc (length (v ∷ zs) - 1) = omega arith in
-          some_last (v ∷ zs) (omega arith) (ap (slice_get (w ∷ v ∷ zs)) (sym place) ∙ e)
 
   -- no number below the first stands in the list, and none above the last
   pub none_below : (xs : List (Entry T)) (x : Entry T) (n : ℕ) → AreEntriesRising xs → slice_get xs 0 ≡ Some x → n < x.number → AllByRecursion (λ (e : Entry T). e.number ≡ n → ⊥) xs
@@ -318,10 +296,10 @@ module _ {T : Type 0} where
   -- what is left once a last place that is gone is taken off
   pub last_taken : (xs ys : List (Entry T)) (o : Option (Entry T)) → xs ≡ ys ++ option_to_list o → ends_gone xs ≡ true → AreEntriesRising xs → AreEntriesRising ys × (live_entries ys ≡ live_entries xs)
   last_taken xs ys None is gone rise =
-      (rising-pop ys [] (subst (λ (es : List (Entry T)). AreEntriesRising es) is rise), sym (ap live_entries is ∙ entries-append ys [] ∙ nothing_behind (live_entries ys)))
+      (rising-pop ys [] (subst (λ (es : List (Entry T)). AreEntriesRising es) is rise), sym (ap live_entries is ∙ entries-append ys [] ∙ append-nil (live_entries ys)))
   last_taken xs ys (Some x) is gone rise =
       let last : x.value ≡ None = is_gone x.value (sym (ends-push ys x) ∙ ap ends_gone (sym is) ∙ gone) in
-      (rising-pop ys (x ∷ []) (subst (λ (es : List (Entry T)). AreEntriesRising es) is rise), sym (ap live_entries is ∙ entries-append ys (x ∷ []) ∙ rw last (nothing_behind (live_entries ys))))
+      (rising-pop ys (x ∷ []) (subst (λ (es : List (Entry T)). AreEntriesRising es) is rise), sym (ap live_entries is ∙ entries-append ys (x ∷ []) ∙ rw last (append-nil (live_entries ys))))
 
   -- the greatest number is that of a last place that is not gone
   pub last_is : (xs : List (Entry T)) (x : Entry T) → ends_gone xs ≡ false → slice_get xs (length xs - 1) ≡ Some x → last_number (live_entries xs) ≡ Some x.number
@@ -339,20 +317,6 @@ module _ {T : Type 0} where
       go None es is = is
       go (Some v) [] is = cc
       go (Some v) (f ∷ fs) is = is
-
-  -- there is none where there is no place
-  pub last_none : (xs : List (Entry T)) → slice_get xs (length xs - 1) ≡ None → last_number (live_entries xs) ≡ None
-  last_none xs e = go xs (none_last xs 0 e) e
-    where
-      go : (ys : List (Entry T)) → AllByRecursion (λ (y : Entry T). y.number ≡ 0 → ⊥) ys → slice_get ys (length ys - 1) ≡ None → last_number (live_entries ys) ≡ None
-      go [] h e = refl
-      go (y ∷ ys) h e = absurd (some_at ys y e)
-        where
-          some_at : (zs : List (Entry T)) (z : Entry T) → slice_get (z ∷ zs) (length (z ∷ zs) - 1) ≡ None → ⊥
-          some_at [] z e = cc
-          some_at (w ∷ zs) z e =
-              let place : length (z ∷ w ∷ zs) - 1 ≡ suc (length (w ∷ zs) - 1) = omega arith in
-              some_at zs w (ap (slice_get (z ∷ w ∷ zs)) (sym place) ∙ e)
 
   -- ---- a value more
 
@@ -501,6 +465,13 @@ module _ {T : Type 0} where
   pub value-without : (n m : ℕ) (es : List (ℕ × T)) → value_at m (without_number n es) ≡ cond (n == m) None (value_at m es)
   value-without n m es = ap (option_map (λ (e : ℕ × T). e.1)) (keyed.at-without value_key es n m) ∙ none_mapped (λ (e : ℕ × T). e.1) (n == m) (at value_key m es)
 
+  -- ---- what is answered
+
+  -- a reference to it, if there is one
+  pub told : (o : Option T) (r : Option (Bor T)) → o ≡ option_copied r → MatchOption r (o ≡ None) (λ v. o ≡ Some v.now)
+  told o None is = is
+  told o (Some v) is = is
+
   -- ---- a walk along the places
 
   -- one that is not gone is a value more
@@ -515,7 +486,7 @@ module _ {T : Type 0} where
   live_same xs i d lt gone =
       ap live_entries (take_more xs i d lt)
       ∙ entries-append (take i xs) (get_or xs i d ∷ [])
-      ∙ rw gone (nothing_behind (live_entries (take i xs)))
+      ∙ rw gone (append-nil (live_entries (take i xs)))
 
   -- before a value there are fewer than in all
   pub live_room : (xs : List (Entry T)) (i : ℕ) (d : Entry T) (v : T) → i < length xs → (get_or xs i d).value ≡ Some v → length (live_entries (take i xs)) < length (live_entries xs)

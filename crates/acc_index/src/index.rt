@@ -262,10 +262,7 @@ fn value_in<T>(items: &[Entry<T>], number: u64, place: Option<usize>) -> Option<
     ensures { MatchOption result (value_at number (live_entries items.now) ≡ None) (λ v. value_at number (live_entries items.now) ≡ Some v.now) }
 {
     let at = place?;
-    match &items[at].value {
-        Some(value) => Some(value),
-        None => None,
-    }
+    items[at].value.as_ref()
 }
 
 /// The number of the last place, which is not gone, if there is one.
@@ -331,7 +328,8 @@ fn clear_away<T: Drop>(items: &mut Vec<Entry<T>>)
     items.retain(|entry| entry.value.is_some());
 }
 
-/// Takes out all places that are gone if they are a quarter of all or more. So many are not.
+/// Takes out all places that are gone, where they are at least a quarter of all, rounded down. The caller tells how many
+/// are not gone.
 fn clear_many<T: Drop>(items: &mut Vec<Entry<T>>, count: usize)
     requires rising { AreEntriesRising items.old.items }
     requires last { ends_gone items.old.items ≡ false }

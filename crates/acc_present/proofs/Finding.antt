@@ -8,7 +8,7 @@ use Rattle.std.proofs.lemmas.Option.{same_Some}
 use Rattle.acc_base.specs.declared.items.Section.{Section}
 use Rattle.acc_base.specs.declared.mappings.Range.{Range}
 use Rattle.acc_base.specs.declared.mappings.Found.{Found}
-use Rattle.acc_base.specs.declared.mappings.Found.TheVariants.{Inside, Partly, Absent}
+use Rattle.acc_base.specs.declared.mappings.Found.TheVariants.{Partly, Absent}
 use Rattle.acc_base.specs.Section.{is_empty, is_within, is_apart, end_of}
 use Rattle.acc_base.specs.Ranges.{where_is, where_is_apart, without_ranges, range_around, range_from, range_of, found_in}
 use Rattle.acc_base.specs.Accounts.{EachPair, IsBelow}
@@ -37,10 +37,6 @@ absent_from s rs some apart =
 
 -- ---- the first of the ranges
 
--- one that is listed says nothing
-pub skip_listed : (s : Section) (blocks : List ℕ) (r : Range) (rs : List Range) → is_listed blocks r.block ≡ true → where_is_apart s blocks (r ∷ rs) ≡ where_is_apart s blocks rs
-skip_listed s blocks r rs listed = rw listed refl
-
 -- nor one that ends before the section
 pub skip_below : (s : Section) (blocks : List ℕ) (r : Range) (rs : List Range) → 0 < s.len → 0 < r.section.len → end_of r.section ≤ s.start → where_is_apart s blocks (r ∷ rs) ≡ where_is_apart s blocks rs
 skip_below s blocks r rs some len below = go (is_listed blocks r.block)
@@ -61,12 +57,6 @@ absent_before s blocks r rs some m before =
     let later : AllByRecursion (λ (t : Range). (0 < t.section.len) × (is_apart s t.section ≡ true)) rs = AllByRecursion-both (λ (t : Range). 0 < t.section.len) (λ (t : Range). IsBelow r.section t.section) (λ (t : Range). (0 < t.section.len) × (is_apart s t.section ≡ true)) rs (λ t len below. let l : 0 < t.section.len = len in (l, grind (arith, nat_tests))) m.some.1 m.rising.0 in
     let first : is_apart s r.section ≡ true = grind (arith, nat_tests) in
     absent_from s (without_ranges blocks (r ∷ rs)) some (AllByRecursion-filter (λ (t : Range). (0 < t.section.len) × (is_apart s t.section ≡ true)) (λ t. not (is_listed blocks t.block)) (r ∷ rs) ((m.some.0, first), later))
-
--- one that is not listed and has each address
-pub inside_first : (s : Section) (blocks : List ℕ) (r : Range) (rs : List Range) → 0 < s.len → is_listed blocks r.block ≡ false → is_within s r.section ≡ true → where_is_apart s blocks (r ∷ rs) ≡ Inside r.block (s.start - r.section.start)
-inside_first s blocks r rs some free within =
-    let t : is_empty s ≡ false = grind (arith, nat_tests) in
-    rw (free) (rw (t, within) refl)
 
 -- one that is not listed and has some of the addresses
 pub partly_first : (s : Section) (blocks : List ℕ) (r : Range) (rs : List Range) → 0 < s.len → AreMapped (r ∷ rs) → is_listed blocks r.block ≡ false → is_within s r.section ≡ false → s.start < end_of r.section → r.section.start < end_of s → where_is_apart s blocks (r ∷ rs) ≡ Partly

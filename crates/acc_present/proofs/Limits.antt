@@ -5,8 +5,7 @@ use Rattle.std.specs.List.{AllByRecursion}
 use Rattle.acc_base.specs.declared.mappings.Range.{Range}
 use Rattle.acc_base.specs.declared.mappings.Counter.{Counter}
 use Rattle.acc_base.specs.declared.mappings.Counter.TheVariants.{Structured, Dynamic}
-use Rattle.acc_base.specs.Ranges.{changed_at, risen, fallen, cleared, counter_in, counter_of, range_of, bare_range}
-use Rattle.acc_base.specs.declared.items.Section.{Section}
+use Rattle.acc_base.specs.Ranges.{changed_at, risen, fallen, cleared, counter_in, counter_of, range_of}
 use Rattle.std.proofs.lemmas.Option.{same_Some}
 use Rattle.acc_base.specs.Accounts.{EachPair}
 use Rattle.acc_base.proofs.Results.{equal}
@@ -71,6 +70,3 @@ counter_limit m counter block (r ∷ rs) h = go (counter_limit m counter block r
 -- so it has reached it where it is not below
 pub counter_full : (m : ℕ) (counter : Counter) (block : ℕ) (rs : List Range) → AllByRecursion (IsWithinLimit m) rs → m ≤ counter_of counter block rs → counter_of counter block rs ≡ m
 counter_full m counter block rs h full = let most = counter_limit m counter block rs h in omega arith
-
-pub limit_bare : (m : ℕ) (s : Section) (block : ℕ) → IsWithinLimit m (bare_range s block)
-limit_bare m s block = record { structured = omega arith; dynamic = omega arith }

@@ -1,10 +1,11 @@
 -- The entries of the mapped ranges and of their starts, as mappings begin and end.
-use Rattle.std.proofs.Common.{ℕ, ◌≡◌, ◌^◌, ◌<◌, ◌≤◌, refl, sym, ap, subst, ◌∙◌, Bool, true, false, cond, List, [], ◌∷◌, Option, Some, None, IsSome, arith}
+use Rattle.std.proofs.Common.{ℕ, ◌≡◌, ◌^◌, ◌<◌, ◌≤◌, refl, sym, ap, subst, ◌∙◌, Bool, true, false, cond, List, [], ◌∷◌, length, Option, Some, None, IsSome, arith, rules}
 use Rattle.std.specs.Prelude.{◌==◌, not, find, option_map, nat_lt, nat_le, IfSome, Contains}
 use Rattle.std.specs.Option.{option_or}
 use Rattle.std.specs.List.{AllByRecursion}
 use Rattle.std.proofs.lemmas.Bool.Decides.{nat_tests}
 use Rattle.std.proofs.lemmas.Option.{same_Some}
+use Rattle.std.proofs.lemmas.List.Filters.{length-filter_both}
 use Rattle.acc_base.specs.declared.items.Section.{Section}
 use Rattle.acc_base.specs.declared.mappings.Range.{Range}
 use Rattle.acc_base.specs.declared.mappings.Found.TheVariants.{Absent}
@@ -13,12 +14,13 @@ use Rattle.acc_base.specs.Ranges.{where_is, range_of, range_from, with_range, wi
 use Rattle.acc_base.specs.Accounts.{EachPair, IsBelow}
 use Rattle.acc_base.proofs.RangeChanges.{all_with, apart_with, rising_with, KeepsPlace, section-change, block-change}
 use Rattle.acc_base.proofs.Where.{absent_says}
-use Rattle.acc_base.proofs.Results.{equal, differ}
+use Rattle.acc_base.proofs.Results.{equal, equal_self, differ}
 use Rattle.acc_base.proofs.InPlace.{IsPut, all-put, find-put_other, find-put_new}
 use Rattle.acc_base.proofs.Lookups.{at, at-own}
-use Rattle.acc_base.proofs.Options.{some_mapped, none_mapped, still_some, from_none}
+use Rattle.acc_base.proofs.Options.{some_mapped, none_mapped, from_none}
 use Rattle.acc_base.proofs.Elements.{AllByRecursion-weaker, AllByRecursion-both, AllByRecursion-filter, AllByRecursion-map, EachPair-filter, EachPair-map, find-map, find-none, find_none, find_passes, found_has, list_all-from}
 use Rattle.acc_base.proofs.Keyed as keyed
+use Rattle.acc_index.specs.Indexed.{IsIndexRising, value_at}
 use Rattle.acc_ordered.specs.declared.entries.Entry.{Entry}
 use Rattle.acc_ordered.specs.Listing.{at_key, first_from, last_before, with_entry, without_key, value_written, with_value, values_in}
 use Rattle.acc_present.specs.Present.{AreMapped}
@@ -180,16 +182,9 @@ started block start es starts kept given = go (range_of block (ranges_in es)) re
     go None is = let none : starts block ≡ None = kept.agrees block ∙ ap (option_map start_key) is in cc
     go (Some r) is = (r, is, same_Some (start_key r) start (sym (kept.agrees block ∙ ap (option_map start_key) is) ∙ given))
 
--- no range has a block for which no start is kept
-pub no_start : (block : ℕ) (es : List (Entry Range)) (starts : ℕ → Option ℕ) → IsIndexed es starts → starts block ≡ None → range_of block (ranges_in es) ≡ None
-no_start block es starts kept none = from_none start_key (range_of block (ranges_in es)) (sym (kept.agrees block) ∙ none)
-
 -- and no start is kept for a block that no range has
 pub start_new : (block : ℕ) (es : List (Entry Range)) (starts : ℕ → Option ℕ) → IsIndexed es starts → range_of block (ranges_in es) ≡ None → starts block ≡ None
 start_new block es starts kept none = kept.agrees block ∙ ap (option_map start_key) none
-
-pub start_old : (block : ℕ) (es : List (Entry Range)) (starts : ℕ → Option ℕ) → IsIndexed es starts → IsSome (range_of block (ranges_in es)) → IsSome (starts block)
-start_old block es starts kept there = rw (kept.agrees block) (still_some start_key (range_of block (ranges_in es)) there)
 
 -- ---- a range more
 
@@ -321,6 +316,37 @@ unmapped_now block es starts told r kept there says =
             ∙ ap (start_at other) (sym ranges);
       };
     })
+
+-- ---- how many starts are kept
+
+-- of the values behind one, that of its number is not
+later : (e : ℕ × ℕ) (es : List (ℕ × ℕ)) (b : ℕ) → IsIndexRising (e ∷ es) → value_at b es ≡ cond (e.0 == b) None (value_at b (e ∷ es))
+later e es b rise = go (e.0 == b) refl
+  where
+    go : (t : Bool) → (e.0 == b) ≡ t → value_at b es ≡ cond t None (option_map (λ (d : ℕ × ℕ). d.1) (cond t (Some e) (find (λ (d : ℕ × ℕ). d.0 == b) es)))
+    go true t = ap (option_map (λ (d : ℕ × ℕ). d.1)) (find-none (λ (d : ℕ × ℕ). d.0 == b) es (AllByRecursion-weaker (λ (d : ℕ × ℕ). e.0 < d.0) (λ (d : ℕ × ℕ). (d.0 == b) ≡ false) es (λ d less. grind (arith, nat_tests)) rise.0))
+    go false t = refl
+
+-- with a range less there are fewer
+fewer : (block : ℕ) (rs : List Range) → IsSome (start_at block rs) → length (without_range block rs) < length rs
+fewer block [] there = absurd cc
+fewer block (r ∷ rs) there = go (r.block == block) (fewer block rs) there
+  where
+    go : (t : Bool) → (IsSome (start_at block rs) → length (without_range block rs) < length rs) → IsSome (option_map start_key (cond t (Some r) (range_of block rs))) → length (cond (not t) (r ∷ without_range block rs) (without_range block rs)) < length (r ∷ rs)
+    go true rest some = let both = length-filter_both (λ (x : Range). x.block == block) (λ (x : Range). not (x.block == block)) (λ x. refl) rs in omega arith
+    go false rest some = let less = rest some in omega arith
+
+-- no more starts are kept than there are ranges
+pub starts_few : (starts : List (ℕ × ℕ)) (rs : List Range) → IsIndexRising starts → ((block : ℕ) → value_at block starts ≡ start_at block rs) → length starts ≤ length rs
+starts_few [] rs rise agrees = omega arith
+starts_few (e ∷ es) rs rise agrees =
+    let rest = starts_few es (without_range e.0 rs) rise.1 (λ b.
+    later e es b rise
+    ∙ ap (cond (e.0 == b) None) (agrees b)
+    ∙ sym (none_mapped start_key (e.0 == b) (range_of b rs))
+    ∙ ap (option_map start_key) (sym (keyed.at-without block_key rs e.0 b))) in
+    let less = fewer e.0 rs (subst IsSome (agrees e.0) (rw (equal_self e.0) (search rules))) in
+    omega arith
 
 -- ---- a range changed
 

@@ -1,6 +1,6 @@
 -- What contracts see of the present table: the mapped ranges, the open data regions, and the room for more (OpenACC
 -- 3.3, sections 2.6.5 and 2.6.7).
-use Rattle.std.specs.Prelude.{ℕ, ◌≡◌, ◌+◌, ◌^◌, ◌<◌, ◌≤◌, ◌⊎◌, ⊤, List, [], Option, Some, None, IsSome}
+use Rattle.std.specs.Prelude.{ℕ, ◌≡◌, ◌+◌, ◌*◌, ◌^◌, ◌<◌, ◌≤◌, ◌⊎◌, ⊤, List, [], length, Option, Some, None, IsSome}
 use Rattle.std.specs.List.{AllByRecursion}
 use Rattle.acc_base.specs.declared.mappings.Range.{Range}
 use Rattle.acc_base.specs.declared.mappings.Found.{Found}
@@ -22,10 +22,17 @@ pub record Room : Type 0 where
   pub regions : ℕ
   pub holdings : ℕ
 
--- a present table and its room
+-- how many places are kept of ranges that are gone, and of regions that are
+pub record Gone : Type 0 where
+  pub ranges : ℕ
+  pub regions : ℕ
+
+-- a present table, its room, how many more ranges there are nodes for, and the places of what is gone
 pub record PresentState : Type 0 where
   pub table : PresentTable
   pub room : Room
+  pub nodes : ℕ
+  pub gone : Gone
 
 -- nothing is mapped, and no region is open
 abbrev pub new_table : ℕ → PresentTable
@@ -82,6 +89,20 @@ pub record IsRegionRoomTaken (old new : Room) : Type 0 where
 -- there is less room than for so many more ranges, so many more regions, and so many holdings
 abbrev pub IsRoomMissing : ℕ → ℕ → ℕ → Room → Type 0
 IsRoomMissing ranges regions holdings room = (room.ranges < ranges) ⊎ (room.regions < regions) ⊎ (room.holdings < holdings)
+
+-- beside so many in use, so many more need memory: there is less room, and of all places fewer than a quarter are gone, or
+-- too few
+pub record IsPlaceMissing (count room gone used : ℕ) : Type 0 where
+  pub missing : room < count
+  pub few : (3 * gone < used) ⊎ (room + gone < count)
+
+-- so many more ranges, so many more regions, and so many holdings need memory
+abbrev pub IsMemoryNeeded : ℕ → ℕ → ℕ → PresentState → Type 0
+IsMemoryNeeded ranges regions holdings p =
+    (p.nodes < ranges)
+    ⊎ IsPlaceMissing ranges p.room.ranges p.gone.ranges (length p.table.ranges)
+    ⊎ IsPlaceMissing regions p.room.regions p.gone.regions (length p.table.regions)
+    ⊎ (p.room.holdings < holdings)
 
 -- ---- what holds of every present table
 

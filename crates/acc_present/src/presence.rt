@@ -1,6 +1,6 @@
 //! The present table as one value.
 
-ghost use Rattle.std.specs.Prelude.{◌≡◌, false, ℕ, ◌+◌, ◌*◌, ◌^◌, ◌<◌, ◌≤◌, ◌↔◌, length, map, option_map, MatchResult, None, Some, Err, IfOk, IfErr, OnOk, OnErr, IfSome, MatchOption, vec_capacity};
+ghost use Rattle.std.specs.Prelude.{◌≡◌, false, ℕ, ◌+◌, ◌*◌, ◌^◌, ◌<◌, ◌≤◌, ◌⊎◌, ◌↔◌, length, map, option_map, MatchResult, None, Some, Err, IfOk, IfErr, OnOk, OnErr, IfSome, MatchOption, vec_capacity};
 ghost use Rattle.std.specs.Bool.{OnTrue};
 ghost use Rattle.acc_base.specs.declared.mappings.Range.{Range};
 ghost use Rattle.acc_base.specs.declared.mappings.Counter.TheVariants.{Structured, Dynamic};
@@ -8,7 +8,7 @@ ghost use Rattle.acc_base.specs.declared.mappings.Found.TheVariants.{Absent};
 ghost use Rattle.acc_base.specs.Ranges.{where_is, where_is_apart, range_of, range_from, structured_of, dynamic_of, counter_of, with_range, without_range, changed_at, bare_range, risen, fallen, cleared};
 ghost use Rattle.acc_base.specs.Register.{region_at, newest_region, holdings_at, with_region, without_region};
 ghost use Rattle.acc_ordered.specs.Listing.{seen};
-ghost use Rattle.acc_present.specs.Present.{IsWithinLimit, new_table, with_ranges, with_regions, HasRange, HasRegion, IsToldBy, IsRoomKept, IsRangeRoomTaken, IsRegionRoomTaken, IsRoomMissing, IsLawful, region_of};
+ghost use Rattle.acc_present.specs.Present.{IsWithinLimit, new_table, with_ranges, with_regions, HasRange, HasRegion, IsToldBy, IsRoomKept, IsRangeRoomTaken, IsRegionRoomTaken, IsRoomMissing, IsMemoryNeeded, IsLawful, region_of};
 ghost use Rattle.acc_present.specs.Kept.{IsNext, IsChangeable, changed_by};
 
 use crate::ranges::{Change, Recount, changed, told_by, value_of};
@@ -48,6 +48,8 @@ impl Model for Present {
     ghost view = { λ p. record {
       table = record { counter_max = p.counter_max; ranges = ranges_in p.ranges.entries; regions = p.register.regions };
       room = record { ranges = min p.ranges.room p.starts.room; regions = p.register.room; holdings = p.register.holdings };
+      nodes = p.ranges.room;
+      gone = record { ranges = p.starts.gone; regions = p.register.gone };
     } };
 
     ghost invariant = { λ p. (p.counter_max < 2 ^ 32) × AllByRecursion (IsWithinLimit p.counter_max) (ranges_in p.ranges.entries) × IsIndexed p.ranges.entries (start_in p.starts) };
@@ -344,7 +346,7 @@ impl Present {
         ensures table { self.new.table ≡ with_ranges self.old.table (without_range block self.old.table.ranges) }
         ensures room { IsRoomKept self.old.room self.new.room }
     {
-        // The oldest block is looked at first.
+        // Nothing told its place. A look at the first one costs no search.
         let start = self.starts.take_out_near(block, 0);
         self.ranges.remove(start);
     }
@@ -527,13 +529,14 @@ impl Present {
     ///
     /// # Errors
     ///
-    /// [`Fault::Memory`] alone, only where there was no room for one more region. The table is then as before, and no
-    /// room has shrunk.
+    /// [`Fault::Memory`] alone, only where there was no room for one more region, and fewer places than a quarter were of
+    /// regions that are gone. The table is then as before, and no room has shrunk.
     pub fn enter(&mut self, number: u64, holdings: Vec<Holding>) -> Result<(), Fault>
         requires { region_at number self.old.table.regions ≡ None }
         ensures ok { OnOk result (self.new.table ≡ with_regions self.old.table (with_region (record { number = number; holdings = holdings.items }) self.old.table.regions)) }
         ensures only { IfErr result (λ fault. fault ≡ Fault.Memory) }
         ensures needed { OnErr result (self.old.room.regions ≡ 0) }
+        ensures cleared { OnErr result ((3 * self.old.gone.regions < length self.old.table.regions) ⊎ (self.old.gone.regions ≡ 0)) }
         ensures unchanged { OnErr result (self.new.table ≡ self.old.table) }
         ensures taken { OnOk result (IsRegionRoomTaken self.old.room self.new.room) }
         ensures kept { OnErr result (IsRoomKept self.old.room self.new.room) }
@@ -623,7 +626,9 @@ impl Present {
     ///
     /// # Errors
     ///
-    /// [`Fault::Memory`] alone, only where some of that room was missing. No room has shrunk then.
+    /// [`Fault::Memory`] alone, only where some of that room was missing. No room has shrunk then. Places of ranges and of
+    /// regions that are gone are taken for others first, where they are a quarter of all or more. So it is refused only
+    /// where nodes for ranges or room for holdings were missing, or where such places were fewer or not enough.
     pub fn reserve(&mut self, ranges: u64, regions: u64, holdings: u64) -> Result<(), Fault>
         ensures table { self.new.table ≡ self.old.table }
         ensures ranges { OnOk result (ranges ≤ self.new.room.ranges) }
@@ -631,8 +636,10 @@ impl Present {
         ensures holdings { OnOk result (holdings ≤ self.new.room.holdings) }
         ensures only { IfErr result (λ fault. fault ≡ Fault.Memory) }
         ensures needed { OnErr result (IsRoomMissing ranges regions holdings self.old.room) }
+        ensures cleared { OnErr result (IsMemoryNeeded ranges regions holdings self.old) }
         ensures room { IsRoomKept self.old.room self.new.room }
     {
+        self.starts.laws();
         self.ranges.reserve(ranges)?;
         self.starts.reserve(ranges as usize)?;
         self.register.reserve(regions as usize, holdings as usize)?;

@@ -2,7 +2,7 @@
 
 ghost use Rattle.std.specs.Prelude.{◌≡◌, ◌+◌, ◌*◌, ◌<◌, ◌≤◌, ◌⊎◌, [], length, map, None, Some, IsSome, IfOk, IfErr, OnOk, OnErr, MatchOption, vec_capacity};
 ghost use Rattle.acc_base.specs.Register.{region_at, newest_region, holdings_at, with_region, without_region};
-ghost use Rattle.acc_present.specs.Present.{AreNumbered, region_of};
+ghost use Rattle.acc_present.specs.Present.{AreNumbered, IsPlaceMissing, region_of};
 
 use crate::copying::copy_regions_of;
 use acc_base::{Fault, Holding};
@@ -22,8 +22,8 @@ pub struct OpenRegion {
 
 /// The open regions.
 ///
-/// What they hold stands in an [`Index`], by their numbers. So the newest and the oldest region are found at once, and a
-/// region that is left moves no other one.
+/// What they hold stands in an [`Index`], by their numbers. So the newest region is found at once, and an older one mostly
+/// is. A region that is left moves no other one.
 #[derive(Drop)]
 pub struct Register {
     alloc: Global,
@@ -94,15 +94,16 @@ impl Register {
         copy_regions_of(&self.regions, alloc)
     }
 
-    /// Makes room for so many more regions, the next of which has so many holdings. It is refused only where some of
-    /// that room was missing. Places of regions that are gone are taken for others, where they are a quarter of all or
-    /// more.
+    /// Makes room for so many more regions, the next of which has so many holdings. Places of regions that are gone are
+    /// taken for others first, where they are a quarter of all or more. It is refused only where room for holdings was
+    /// missing, or that for regions was and such places were fewer or not enough.
     pub fn reserve(&mut self, regions: usize, holdings: usize) -> Result<(), Fault>
         ensures regions { self.new.regions ≡ self.old.regions }
         ensures ok { OnOk result (regions ≤ self.new.room) }
         ensures ok_holdings { OnOk result (holdings ≤ self.new.holdings) }
         ensures only { IfErr result (λ fault. fault ≡ Fault.Memory) }
         ensures needed { OnErr result ((self.old.room < regions) ⊎ (self.old.holdings < holdings)) }
+        ensures cleared { OnErr result (IsPlaceMissing regions self.old.room self.old.gone (length self.old.regions) ⊎ (self.old.holdings < holdings)) }
         ensures room { self.old.room ≤ self.new.room }
         ensures room_holdings { self.old.holdings ≤ self.new.holdings }
     {
@@ -148,7 +149,7 @@ impl Register {
         ensures room { self.old.room ≤ self.new.room }
         ensures room_holdings { self.old.holdings ≤ self.new.holdings }
     {
-        // The oldest region is looked at first.
+        // Nothing told its place. A look at the first one costs no search.
         self.regions.take_out_near(number, 0);
     }
 }

@@ -1,12 +1,12 @@
 //! A balanced tree of entries, each found by its key in a walk from the top.
 ghost use Rattle.std.specs.Prelude.{◌≡◌, ℕ, ◌+◌, ◌*◌, ◌^◌, ◌<◌, ◌≤◌, [], length, Some, None, IsSome, IfSome, IfErr, OnOk, OnErr, MatchBool};
-ghost use Rattle.acc_tree.specs.Listing.{KeysRise, AreRanges, at_key, first_from, last_before, first_large, first_large_from, with_entry, without_key, with_value, without_front};
+ghost use Rattle.acc_tree.specs.Listing.{KeysRise, AreRanges, at_key, first_from, last_before, first_large, first_large_from, greatest_size, with_entry, without_key, with_value, without_front};
 ghost use Rattle.acc_tree.specs.Growing.{with_range, IsClear};
 ghost use Rattle.acc_tree.specs.Nodes.{length_of, IsChain};
 
 use crate::entries::{Around, Entry};
 use crate::nodes::{Link, entry_of, height_law, new_node, pop, push};
-use crate::{changes, walks};
+use crate::{changes, nodes, walks};
 use acc_base::{Fault, Steps};
 use std::alloc::Global;
 use std::marker::Model;
@@ -82,6 +82,13 @@ impl<T: Copy> Tree<T> {
         ensures { result ≡ length self.now.entries }
     {
         self.len
+    }
+
+    /// The greatest size of all entries; 0 where there is none. The top of the tree knows it, so no walk is made.
+    pub fn greatest(&self) -> u64
+        ensures { result ≡ greatest_size self.now.entries }
+    {
+        nodes::greatest(&self.root)
     }
 
     /// Makes room for `count` more entries.

@@ -1,12 +1,13 @@
 -- A tree of holes as a list of places and sizes: its searches, and the front that is taken of its first that fits.
-use Rattle.std.proofs.Common.{◌≡◌, ℕ, zero, suc, ◌+◌, ◌-◌, ◌^◌, ◌<◌, ◌≤◌, ◌%◌, List, [], ◌∷◌, ◌++◌, inl, inr, arith, rules, sym, ap, subst, ◌∙◌, cond, Bool, true, false, Some, None, IsSome}
-use Rattle.std.specs.Prelude.{All, find, nat_le}
+use Rattle.std.proofs.Common.{◌≡◌, ℕ, zero, suc, ◌+◌, ◌-◌, ◌^◌, ◌<◌, ◌≤◌, ◌%◌, List, [], ◌∷◌, ◌++◌, inl, inr, arith, rules, refl, sym, ap, subst, ◌∙◌, cond, Bool, true, false, Some, None, IsSome}
+use Rattle.std.specs.Prelude.{All, find, nat_le, length, max}
 use Rattle.std.specs.List.{AllByRecursion}
 use Rattle.std.proofs.lemmas.Bool.{cases_lt}
 use Rattle.std.proofs.lemmas.Bool.Decides.{nat_tests}
-use Rattle.std.proofs.lemmas.List.{map-append}
+use Rattle.std.proofs.lemmas.List.{map-append, length-map}
 use Rattle.std.proofs.lemmas.List.Elements.{All-append, All-cons}
-use Rattle.acc_base.specs.Holes.{IsIn, IsRising}
+use Rattle.acc_base.specs.declared.mappings.Free.{Free}
+use Rattle.acc_base.specs.Holes.{IsIn, IsRising, total, greatest, free_in}
 use Rattle.acc_base.proofs.Elements.{AllByRecursion-weaker}
 use Rattle.acc_tree.specs.declared.entries.Entry.{Entry}
 use Rattle.acc_tree.specs.Listing.{KeysRise, AreRanges, first_large, greatest_size, without_front}
@@ -21,6 +22,19 @@ use Rattle.acc_placement.proofs.Alignment.{All-left, All-middle, All-behind}
 module _ {T : Type 0} where
   pub holes-append : (l : List (Entry T)) (x : Entry T) (r : List (Entry T)) → holes_in (l ++ x ∷ r) ≡ holes_in l ++ (x.key, x.size) ∷ holes_in r
   holes-append l x r = map-append hole_of l (x ∷ r)
+
+  -- ---- what the holes come to
+
+  -- the greatest size of the entries is that of the holes
+  greatest_same : (es : List (Entry T)) → greatest (holes_in es) ≡ greatest_size es
+  greatest_same [] = refl
+  greatest_same (e ∷ es) = ap (max e.size) (greatest_same es)
+
+  -- the holes come to what a tree knows of them
+  pub free_same : (es : List (Entry T)) (f : Free) → f.largest ≡ greatest_size es → f.bytes ≡ total (holes_in es) → f.count ≡ length es → f ≡ free_in (holes_in es)
+  free_same es f largest bytes count =
+      let free : ℕ → ℕ → ℕ → Free = λ l b n. record { largest = l; bytes = b; count = n } in
+      ap (λ (l : ℕ). free l f.bytes f.count) (largest ∙ sym (greatest_same es)) ∙ ap (λ (b : ℕ). free (greatest (holes_in es)) b f.count) bytes ∙ ap (λ (n : ℕ). free (greatest (holes_in es)) (total (holes_in es)) n) (count ∙ sym (length-map es hole_of))
 
   -- ---- what rising says of the entries
 

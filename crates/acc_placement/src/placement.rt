@@ -3,7 +3,7 @@
 ghost use Rattle.std.specs.Prelude.{◌≡◌, ◌&&◌, ℕ, List, ◌+◌, ◌*◌, ◌%◌, ◌^◌, ◌<◌, ◌≤◌, ◌⊎◌, ◌↔◌, [], ◌∷◌, ◌++◌, All, length, nat_le, find, IfOk, IfErr, IfSome, IfNone, Err, OnErr, OnOk};
 ghost use Rattle.acc_base.specs.Limits.{IsSize, IsFromOne};
 ghost use Rattle.acc_base.specs.Blocks.{rounded as rounded_of};
-ghost use Rattle.acc_base.specs.Holes.{total};
+ghost use Rattle.acc_base.specs.Holes.{total, free_in};
 ghost use Rattle.acc_placement.specs.Ranges.{all_rounded, IsFit, IsLeastFit, IsFitBeside, IsLeastFitBeside, IsTakeBelow};
 ghost use Rattle.acc_placement.specs.Space.{IsCanonical, IsFresh, IsSameSpace, IsPartition, IsTaken, IsTakenFrom, IsGivenBack};
 
@@ -11,7 +11,7 @@ use crate::beside::past;
 use crate::changes::{cut, fill};
 use crate::hole_iter::HoleIter;
 use crate::rounding::rounded;
-use acc_base::{Fault, MEMORY_MAX, Steps};
+use acc_base::{Fault, Free, MEMORY_MAX, Steps};
 use acc_tree::{Entry, Tree};
 use std::alloc::Global;
 use std::marker::Model;
@@ -243,6 +243,18 @@ impl Holes {
         ensures sum { (ts : List (ℕ × ℕ)) → IsPartition self.now ts → result ≡ total ts }
     {
         self.used
+    }
+
+    /// What the holes come to: the size of the largest, their bytes, and how many they are. All three are known, so no
+    /// walk is made.
+    pub fn free(&self) -> Free
+        ensures { result ≡ free_in self.now.holes }
+    {
+        Free {
+            largest: self.holes.greatest(),
+            bytes: self.size - self.used,
+            count: self.holes.len(),
+        }
     }
 
     /// The holes by rising place, each with its place and its size in bytes.

@@ -8,7 +8,7 @@ use Rattle.acc_base.specs.declared.loans.Loan.{Loan}
 use Rattle.acc_base.specs.declared.items.Section.{Section}
 use Rattle.acc_base.specs.declared.mappings.Block.{Block}
 use Rattle.acc_base.specs.Limits.{IsFromOne}
-use Rattle.acc_base.specs.Holes.{taken_range, IsDevice, IsNextHole}
+use Rattle.acc_base.specs.Holes.{taken_range, AreHoles, IsDevice, IsNextHole}
 use Rattle.acc_base.specs.Blocks.{block_at, used_bytes}
 use Rattle.acc_base.specs.Bytes.{bytes_of}
 use Rattle.acc_base.specs.Loans.{loan_of, is_lent, len_of}
@@ -60,19 +60,21 @@ apart_of h s xs births room k c = record {
   born = AllByRecursion-map (λ (b : Block). b.number ≤ births) (λ (e : ℕ × ℕ). block_from e.0 (slot_of s e)) xs c.below;
 }
 
+-- the listed holes are those that they leave
+pub holes_left : (h : Space) (s : List (Option Stored)) (xs : List (ℕ × ℕ)) → AreSlotsKept h s xs → AreHoles (memory_of h) (blocks_in s xs) h.holes
+holes_left h s xs k =
+    let ts : List (ℕ × ℕ) = map taken_range (blocks_in s xs) in
+    record {
+      listed = holes_listed h (blocks_in s xs) (shared h s xs k);
+      rising = k.canonical.rising;
+      disjoint = all_disjoint h ts k.canonical k.partition;
+      whole = all_whole h ts k.canonical k.partition;
+      bytes = omega (arith, total-used (blocks_in s xs), k.partition.sizes);
+    }
+
 -- with the holes they are the device
 pub divided : (h : Space) (s : List (Option Stored)) (xs : List (ℕ × ℕ)) → AreSlotsKept h s xs → IsDevice (memory_of h) (blocks_in s xs)
-divided h s xs k =
-    let ts : List (ℕ × ℕ) = map taken_range (blocks_in s xs) in (
-      h.holes,
-      record {
-        listed = holes_listed h (blocks_in s xs) (shared h s xs k);
-        rising = k.canonical.rising;
-        disjoint = all_disjoint h ts k.canonical k.partition;
-        whole = all_whole h ts k.canonical k.partition;
-        bytes = omega (arith, total-used (blocks_in s xs), k.partition.sizes);
-      },
-    )
+divided h s xs k = (h.holes, holes_left h s xs k)
 
 -- the first listed hole from an address on is the next one
 pub next_found : (h : Space) (s : List (Option Stored)) (xs : List (ℕ × ℕ)) (from : ℕ) (o : Option (ℕ × ℕ)) → AreSlotsKept h s xs → o ≡ find (λ x. nat_le from x.0) h.holes → IsNextHole from (memory_of h) (blocks_in s xs) (option_map hole_of o)

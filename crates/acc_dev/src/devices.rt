@@ -6,7 +6,7 @@ ghost use Rattle.std.specs.Bool.{OnTrue, OnFalse};
 ghost use Rattle.acc_base.specs.Limits.{IsSize, IsFromOne};
 ghost use Rattle.acc_base.specs.Section.{end_of};
 ghost use Rattle.acc_base.specs.Blocks.{rounded as rounded_of, place_for, block_at, size_of, used_bytes, IsPlaceFor};
-ghost use Rattle.acc_base.specs.Holes.{IsDevice, IsNextHole};
+ghost use Rattle.acc_base.specs.Holes.{IsDevice, IsLeft, IsNextHole};
 ghost use Rattle.acc_base.specs.Bytes.{bytes_of, fill_byte};
 ghost use Rattle.acc_base.specs.Accounts.{IsMemoryOf};
 ghost use Rattle.acc_base.specs.Loans.{loan_of, is_lent};
@@ -20,7 +20,7 @@ use crate::entries::{
     Stored, make_room, put, remove_block, set_mark, slot, slot_near, slot_of_block, write_at,
 };
 use crate::filling::{fill, filled, make_vectors};
-use acc_base::{DEVICE_BASE, Ended, Fault, Hole, MEMORY_MAX};
+use acc_base::{DEVICE_BASE, Ended, Fault, Free, Hole, MEMORY_MAX};
 use acc_index::Index;
 use acc_placement::{Holes, rounded};
 use slab::Slab;
@@ -414,6 +414,14 @@ impl Device {
     {
         let (place, size) = self.holes.next_hole(from)?;
         Some(Hole { place, size })
+    }
+
+    /// What the blocks leave of the device: the size of the largest hole, the bytes of all holes, and how many they are.
+    /// No walk is made.
+    pub fn free(&self) -> Free
+        ensures { IsLeft self.now.memory self.now.blocks result }
+    {
+        self.holes.free()
     }
 
     /// How many bytes of device memory the blocks take: the sum of their lengths, each rounded up to a multiple of 16.

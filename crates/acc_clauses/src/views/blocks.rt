@@ -4,7 +4,7 @@ ghost use Rattle.std.specs.Prelude.{◌≡◌, ◌+◌, ◌++◌, ◌↔◌, All
 ghost use Rattle.acc_base.specs.Limits.{IsFromOne};
 ghost use Rattle.acc_base.specs.declared.addresses.TheConstants.{MEMORY_MAX};
 ghost use Rattle.acc_base.specs.Section.{end_of, device_memory};
-ghost use Rattle.acc_base.specs.Holes.{IsNextHole};
+ghost use Rattle.acc_base.specs.Holes.{IsLeft, IsNextHole};
 ghost use Rattle.acc_base.specs.Loans.{loan_of, is_lent};
 ghost use Rattle.acc_base.specs.Leases.{is_returnable};
 ghost use Rattle.acc_base.specs.Blocks.{block_at, rounded, place_of, place_for, used_bytes};
@@ -14,7 +14,7 @@ ghost use Rattle.acc_placement.specs.Ranges.{IsTakeBelow};
 ghost use Rattle.acc_dev.specs.Device.{planned_blocks};
 
 use crate::views::View;
-use acc_base::{Ended, Hole, Loan};
+use acc_base::{Ended, Free, Hole, Loan};
 use acc_lend::Lease;
 
 impl<'a> View<'a> {
@@ -75,6 +75,13 @@ impl<'a> View<'a> {
         ensures { IsNextHole from (device_memory self.now.limits) self.now.state.records.blocks result }
     {
         self.environment.device.hole(from)
+    }
+
+    /// What the blocks leave of the device: the size of the largest hole, the bytes of all holes, and how many they are.
+    pub fn free(&self) -> Free
+        ensures { IsLeft (device_memory self.now.limits) self.now.state.records.blocks result }
+    {
+        self.environment.device.free()
     }
 
     /// The bytes of a block. `None` exactly where there is no such block, or it is lent.

@@ -1,6 +1,6 @@
 //! The queries of a table. None allocates or is refused.
 
-ghost use Rattle.std.specs.Prelude.{◌≡◌, ◌-◌, ◌<◌, ◌≤◌, ◌↔◌, None, IsTrue, IfSome, IfNone, length, option_map};
+ghost use Rattle.std.specs.Prelude.{◌≡◌, ◌-◌, ◌<◌, ◌≤◌, ◌↔◌, None, IsSomeAnd, IsTrue, IfSome, IfNone, length, option_map};
 ghost use Rattle.acc_base.specs.Blocks.{used_bytes};
 ghost use Rattle.acc_base.specs.Limits.{limits_on};
 ghost use Rattle.acc_base.specs.Calls.{event_count, device_for};
@@ -10,14 +10,14 @@ ghost use Rattle.acc_base.specs.Ranges.{where_is, IsPlacedAt};
 ghost use Rattle.acc_base.specs.Pointers.{device_address_of, attachment_of};
 ghost use Rattle.acc_base.specs.Queues.{queue_at};
 ghost use Rattle.acc_base.specs.Section.{device_memory};
-ghost use Rattle.acc_base.specs.Holes.{IsNextHole};
+ghost use Rattle.acc_base.specs.Holes.{IsLeft, IsNextHole};
 ghost use Rattle.acc_base.specs.Waits.{ended_from};
 ghost use Rattle.acc_base.specs.Inside.{IsInsideOne};
 ghost use Rattle.acc_table.specs.Queries.{is_inside, counters_of_section, mapped_from, first_attached, IsLeastFrom, host_read_of, device_read_of, later, newest_of, IsLastEntered};
 
 use crate::calls::Mapped;
 use crate::tables::Table;
-use acc_base::{Attachment, Config, Counters, Directive, Ended, Event, Found, Hole, Section};
+use acc_base::{Attachment, Config, Counters, Directive, Ended, Event, Found, Free, Hole, Section};
 use acc_clauses::{Base, View, device_named};
 
 fn is_inside(found: Found) -> bool
@@ -187,6 +187,16 @@ impl Table {
         ensures none { self.now.limits.devices ≤ device → result ≡ None }
     {
         self.on(device)?.hole(from)
+    }
+
+    /// What the blocks of a device leave of its memory (OpenACC 3.3, section 2.6, data environment). It is the size in
+    /// bytes of the largest hole, the bytes of all holes, and how many they are. `None` exactly where there is no such
+    /// device. No hole is looked for, so it takes constant time.
+    pub fn free(&self, device: u64) -> Option<Free>
+        ensures there { device < self.now.limits.devices → IsSomeAnd result (IsLeft (device_memory (limits_on device self.now.limits)) (view device self.now.state).records.blocks) }
+        ensures none { self.now.limits.devices ≤ device → result ≡ None }
+    {
+        Some(self.on(device)?.free())
     }
 
     /// How many transfers wait in a queue of a device; 0 where there is no such queue (OpenACC 3.3, section 2.16).

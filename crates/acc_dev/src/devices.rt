@@ -177,7 +177,7 @@ impl Device {
         ensures only { IfErr result (λ fault. fault ≡ Fault.Memory) }
         ensures unchanged { IsUnchanged self.old self.new }
     {
-        self.ready.clear();
+        self.give_up_room();
         if lens.is_empty() {
             return Ok(());
         }
@@ -190,6 +190,17 @@ impl Device {
             count,
         )?;
         make_vectors(&mut self.ready, self.alloc, lens)
+    }
+
+    /// Gives up the room that [`Device::reserve`] made: the bytes of each birth. It needs no memory and is never refused.
+    pub fn give_up_room(&mut self)
+        ensures room { self.new.room ≡ [] }
+        ensures unchanged { IsUnchanged self.old self.new }
+    {
+        // Mostly there is none.
+        if !self.ready.is_empty() {
+            self.ready.clear();
+        }
     }
 
     /// Makes a block as [`Device::born`] does, where room for a birth of this length was made by [`Device::reserve`]

@@ -1,5 +1,6 @@
 -- All room that a plan needs is made: its tasks name one queue at most, that of its directive.
-use Rattle.std.proofs.Common.{ℕ, ◌≡◌, ◌<◌, ◌≤◌, refl, false, List, [], ◌∷◌, length, Option, Some, None, arith}
+use Rattle.std.proofs.Common.{ℕ, ◌≡◌, ◌<◌, ◌≤◌, refl, false, List, [], ◌∷◌, length, Option, Some, None, Result, Ok, Err, OnOk, arith}
+use Rattle.std.specs.Bool.{⊤}
 use Rattle.std.specs.List.{AllByRecursion}
 use Rattle.std.proofs.lemmas.Bool.Decides.{nat_tests}
 use Rattle.acc_clauses.specs.Words.{Directive, Task, Did}
@@ -9,9 +10,8 @@ use Rattle.acc_base.specs.Records.{State}
 use Rattle.acc_base.specs.Tasks.{queue_of}
 use Rattle.acc_base.specs.Judge.{queue_in}
 use Rattle.acc_queues.specs.Queued.{spare_at}
-use Rattle.acc_clauses.specs.declared.acted.Acted.{Acted}
 use Rattle.acc_clauses.specs.Planned.{Planned, holdings_by, IsPlanOf}
-use Rattle.acc_clauses.specs.Overlays.{tasks_in, dids_in, is_queue, puts_in}
+use Rattle.acc_clauses.specs.Overlays.{is_queue, puts_in}
 use Rattle.acc_clauses.specs.Contents.{Contents, Room}
 use Rattle.acc_clauses.specs.Stored.{IsStoreSound}
 use Rattle.acc_clauses.proofs.Asking.{asked_fit}
@@ -53,23 +53,8 @@ named_queue_there l d s p named h is = known_queue named (queue_in d) is h.known
 
 -- ---- all room
 
--- nothing but the room of queues differs
-pub record IsSameRoom (old new : Room) : Type 0 where
-  pub births : new.births ≡ old.births
-  pub ranges : new.ranges ≡ old.ranges
-  pub regions : new.regions ≡ old.regions
-  pub holdings : new.holdings ≡ old.holdings
-  pub attachments : new.attachments ≡ old.attachments
-
--- room was made for these tasks of a directive
-pub record IsReserved (d : Directive) (p : Planned) (acts : List Acted) (lens : List ℕ) (pointers : ℕ) (room : Room) : Type 0 where
-  pub tasks : tasks_in acts ≡ p.tasks
-  pub dids : dids_in acts ≡ p.dids
-  pub lens_are : lens ≡ lens_born p.tasks p.dids
-  pub pointers_are : pointers ≡ pointers_in (dids_in acts)
-  pub births : HasRoomFor lens room
-  pub region : HasRegionRoom (regions_entered d) (length (holdings_by p.tasks p.dids)) room
-  pub enough : pointers ≤ room.attachments
-
-pub plan_room : (d : Directive) (p : Planned) (acts : List Acted) (lens : List ℕ) (pointers : ℕ) (old new : Room) → IsReserved d p acts lens pointers old → IsSameRoom old new → HasPutRoom (λ q. puts_in q p.tasks p.dids) new → HasPlanRoom d p new
-plan_room d p acts lens pointers old new h same puts = grind (arith, nat_tests)
+-- where room is made, it is for all that a plan of a directive takes in
+pub room_made : {E : Type 0} (made : Result ⊤ E) (d : Directive) (p : Planned) (room : Room) → OnOk made (HasRoomFor (lens_born p.tasks p.dids) room)
+    → OnOk made (HasRegionRoom (regions_entered d) (length (holdings_by p.tasks p.dids)) room) → OnOk made (pointers_in p.dids ≤ room.attachments) → HasPutRoom (λ q. puts_in q p.tasks p.dids) room → OnOk made (HasPlanRoom d p room)
+room_made (Ok _) d p room births region pointers puts = record { births = births; region = region; pointers = pointers; puts = puts }
+room_made (Err _) d p room births region pointers puts = tt

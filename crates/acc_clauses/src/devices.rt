@@ -147,45 +147,24 @@ impl DeviceData {
         step(&mut self.environment, host, q);
     }
 
-    /// Makes room for births of blocks of these lengths, in this order. It also makes room for so many regions, the
-    /// next of which has so many holdings, and for so many attachment counters. Nothing else changes, also where it is
-    /// refused.
+    /// Gives up the bytes that were made for births. It allocates nothing and is never refused.
+    pub(crate) fn give_up_births(&mut self)
+        ensures limits { self.new.limits ≡ self.old.limits }
+        ensures device { self.new.device ≡ self.old.device }
+        ensures room { self.new.room ≡ record self.old.room { births = [] } }
+    {
+        self.environment.device.give_up_room();
+    }
+
+    /// Makes room for births of blocks of these lengths, in this order, where no bytes are kept for other births. It
+    /// also makes room for so many regions, the next of which has so many holdings, and for so many attachment counters.
+    /// Nothing else changes, also where it is refused.
     ///
     /// # Errors
     ///
-    /// [`Fault::Memory`] alone, where some of that room was missing. The bytes of a birth are always made anew. None are
-    /// kept for other births, and none at all where it is refused.
+    /// [`Fault::Memory`] alone, where some of that room was missing. The bytes of a birth are always made anew, and none
+    /// are kept where it is refused.
     pub(crate) fn reserve(
-        &mut self,
-        lens: &[u64],
-        regions: u64,
-        holdings: u64,
-        pointers: u64,
-    ) -> Result<(), Fault>
-        requires few { length lens.now ≤ 64 }
-        requires lens { All (IsFromOne MEMORY_MAX) lens.now }
-        ensures limits { self.new.limits ≡ self.old.limits }
-        ensures device { self.new.device ≡ self.old.device }
-        ensures room { OnOk result (HasRoomFor lens.now self.new.room) }
-        ensures births { OnOk result (self.new.room.births ≡ lens.now) }
-        ensures refused { OnErr result (self.new.room.births ≡ []) }
-        ensures room_region { OnOk result (HasRegionRoom regions holdings self.new.room) }
-        ensures room_pointers { OnOk result (pointers ≤ self.new.room.attachments) }
-        ensures puts { self.new.room.puts ≡ self.old.room.puts }
-        ensures only { IfErr result (λ fault. fault ≡ Memory) }
-        ensures needed { OnErr result (LacksRoom lens.now regions holdings pointers self.old.room) }
-    {
-        // What was made for births that never came is given up before all else.
-        self.environment.device.reserve(&[])?;
-        // Most directives need no room, and what follows would look at each list for it.
-        if lens.is_empty() && regions == 0 && holdings == 0 && pointers == 0 {
-            return Ok(());
-        }
-        self.grow(lens, regions, holdings, pointers)
-    }
-
-    /// Makes the room of [`DeviceData::reserve`].
-    fn grow(
         &mut self,
         lens: &[u64],
         regions: u64,
@@ -206,6 +185,10 @@ impl DeviceData {
         ensures only { IfErr result (λ fault. fault ≡ Memory) }
         ensures needed { OnErr result (LacksRoom lens.now regions holdings pointers self.old.room) }
     {
+        // Most directives need no room, and what follows would look at each list for it.
+        if lens.is_empty() && regions == 0 && holdings == 0 && pointers == 0 {
+            return Ok(());
+        }
         self.environment
             .present
             .reserve(lens.len() as u64, regions, holdings)?;

@@ -135,32 +135,35 @@ impl Store {
     }
 
     /// Makes all room that a directive needs. This plan was made for it on this state of the store. Nothing else
-    /// changes, also where it is refused.
+    /// changes, also where it is refused. No bytes are kept for births of other plans.
     ///
     /// # Errors
     ///
     /// [`Fault::Memory`] alone, and only where some of that room was missing. A plan with a birth always allocates for
-    /// the bytes of the block.
+    /// the bytes of the block. No bytes for births are then kept.
     pub fn reserve(&mut self, directive: &Directive, plan: &Plan) -> Result<(), Fault>
         requires planned { IsPlanOf self.old.limits directive.now self.old.state plan.now }
         ensures limits { self.new.limits ≡ self.old.limits }
         ensures state { self.new.state ≡ self.old.state }
         ensures room { OnOk result (HasPlanRoom directive.now plan.now self.new.room) }
         ensures births { OnOk result (self.new.room.births ≡ lens_born plan.now.tasks plan.now.dids) }
-        ensures unplanned { lens_born plan.now.tasks plan.now.dids ≡ [] → self.new.room.births ≡ [] }
+        ensures refused { OnErr result (self.new.room.births ≡ []) }
         ensures only { IfErr result (λ fault. fault ≡ Memory) }
         ensures needed { OnErr result (LacksPlanRoom directive.now plan.now self.old.room) }
     {
         self.device.laws();
         let acts = plan.acts();
+        // What was made for births that never came is given up before all else, and bytes for births are made last: so
+        // none stay where other room is refused.
+        self.device.give_up_births();
+        match queue_in(directive) {
+            Some(q) => self.device.reserve_puts(q, puts_in(q, acts))?,
+            None => {}
+        }
         let regions = regions_entered(directive);
         let holdings = plan.holdings().len() as u64;
         self.device
-            .reserve(plan.lens(), regions, holdings, pointers_in(acts))?;
-        match queue_in(directive) {
-            Some(q) => self.device.reserve_puts(q, puts_in(q, acts)),
-            None => Ok(()),
-        }
+            .reserve(plan.lens(), regions, holdings, pointers_in(acts))
     }
 
     /// Does a directive for which this plan was made on this state of the store, and for which room was made. It

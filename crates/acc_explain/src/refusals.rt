@@ -4,13 +4,20 @@
 mod tests;
 
 use crate::sources::put_cause;
-use acc_base::{Directive, Fault, Found, HOST_BASE, Item, List, QUEUE_COUNT, Section};
+use acc_base::{Directive, Fault, Found, Free, HOST_BASE, Item, List, QUEUE_COUNT, Section};
 use acc_page::{Names, Page};
 use acc_read::{ScriptKernel, Statement};
 use acc_table::{Mapped, Table};
 
 /// How many ranges that a section meets are shown at most.
 const TOLD: u64 = 8;
+
+/// What a device that is not there has free.
+const NONE_FREE: Free = Free {
+    largest: 0,
+    bytes: 0,
+    count: 0,
+};
 
 /// What an item of a statement names.
 #[derive(Clone, Copy)]
@@ -365,22 +372,14 @@ fn put_queue(page: &mut Page, view: DeviceView<'_>, q: u64) {
 }
 
 fn put_holes(page: &mut Page, view: DeviceView<'_>, need: u64) {
-    let mut largest = 0;
-    let mut free = 0;
-    let mut count = 0;
-    let mut from = 0;
-    for _ in 0..u64::MAX {
-        let Some(hole) = view.table.hole(view.device, from) else {
-            break;
-        };
-        largest = hole.size.max(largest);
-        free = hole.size.saturating_add(free);
-        count = u64::saturating_add(count, 1);
-        from = hole.place.saturating_add(1);
-    }
+    let Free {
+        largest,
+        bytes,
+        count,
+    } = view.table.free(view.device).unwrap_or(NONE_FREE);
     put_limit(page, "the block takes ", need, " bytes; before the line ");
     put_limit(page, "the largest hole has ", largest, ", and ");
-    put_limit(page, "", free, " bytes are free in ");
+    put_limit(page, "", bytes, " bytes are free in ");
     put_limit(page, "", count, if count == 1 { " hole" } else { " holes" });
     view.put_device(page);
 }

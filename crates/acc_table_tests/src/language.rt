@@ -123,6 +123,8 @@ pub enum Check {
     EndedFrom(u64, Option<Ended>),
     /// The hole of least place at or above a device address.
     HoleFrom(u64, Option<Hole>),
+    /// The size of the largest hole of the device, the bytes of all holes, and how many they are.
+    Left(Option<(u64, u64, u64)>),
     /// How many bytes of the device are used.
     Used(u64),
     /// How many events there are in all.

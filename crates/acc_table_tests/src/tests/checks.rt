@@ -3,7 +3,7 @@
 use crate::language::{At, Check};
 use crate::tests::playing::Play;
 use crate::turns::section;
-use acc_base::{Aim, Counters, Did, Event, Step};
+use acc_base::{Aim, Counters, Did, Event, Free, Step};
 use acc_table::{DeviceBase, Table};
 use std::process::Abort;
 
@@ -36,6 +36,16 @@ fn counted(table: &Table, device: u64, at: At) -> Option<(u64, u64)> {
         dynamic,
     } = table.counters(device, section(at))?;
     Some((structured, dynamic))
+}
+
+/// What the blocks leave of a device: the size of the largest hole, the bytes of all holes, and how many they are.
+fn left(table: &Table, device: u64) -> Option<(u64, u64, u64)> {
+    let Free {
+        largest,
+        bytes,
+        count,
+    } = table.free(device)?;
+    Some((largest, bytes, count))
 }
 
 /// How much of each kind the base has of a device.
@@ -111,6 +121,7 @@ fn holds(table: &Table, device: u64, check: Check) -> bool {
         Check::Queue(q, wanted) => table.queue_len(device, q) == wanted,
         Check::EndedFrom(from, wanted) => table.ended(device, from) == wanted,
         Check::HoleFrom(from, wanted) => table.hole(device, from) == wanted,
+        Check::Left(wanted) => left(table, device) == wanted,
         Check::Used(wanted) => table.used(device) == wanted,
         Check::Events(wanted) => table.events() == wanted,
         Check::TicketBook(wanted) => table.ticket_book() == wanted,

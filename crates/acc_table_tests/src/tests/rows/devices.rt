@@ -5,8 +5,8 @@ use crate::language::Ask::{
     Write,
 };
 use crate::language::Check::{
-    Address, Attached, Counted, Device, EndedFrom, Events, HoleFrom, Host, MappedFrom, Newest,
-    Present, Queue, RegionBook, Regions, Used,
+    Address, Attached, Counted, Device, EndedFrom, Events, HoleFrom, Host, Left, MappedFrom,
+    Newest, Present, Queue, RegionBook, Regions, Used,
 };
 use crate::language::Line::{Brings, Does, Drains, Gives, Idles, On, Refuses, Says};
 use crate::language::{Ask, Check, Limits, Row, WIDE};
@@ -245,6 +245,29 @@ pub const MANY_ROWS: &[Row] = &[
         ],
     },
     Row {
+        name: "what blocks leave of a device is told by the largest hole, all bytes and the number of holes",
+        limits: TWO,
+        lines: &[
+            Says(Left(Some((64, 64, 1)))),
+            Does(EnterData(&[
+                (Create { zero: false }, A, 16),
+                (Create { zero: false }, A + 16, 9),
+            ])),
+            Says(Left(Some((32, 32, 1)))),
+            Does(ExitData(&[(Delete, A, 16)])),
+            // 16 bytes before the block, and 32 behind it.
+            Says(Left(Some((32, 48, 2)))),
+            Does(EnterData(&[(Create { zero: false }, A + 32, 32)])),
+            Says(Left(Some((16, 16, 1)))),
+            Does(EnterData(&[(Create { zero: false }, A, 1)])),
+            Says(Left(Some((0, 0, 0)))),
+            On(1),
+            Says(Left(Some((64, 64, 1)))),
+            On(2),
+            Says(Left(None)),
+        ],
+    },
+    Row {
         name: "no query answers for a device that is not there",
         limits: FOUR,
         lines: &[
@@ -270,6 +293,7 @@ pub const MANY_ROWS: &[Row] = &[
             Says(Device((A, 16), None)),
             Says(EndedFrom(0, None)),
             Says(HoleFrom(0, None)),
+            Says(Left(None)),
             Says(Queue(0, 0)),
             Says(Used(0)),
             Says(Newest(None)),

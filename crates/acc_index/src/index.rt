@@ -22,8 +22,8 @@ pub struct Entry<T> {
 ///
 /// A value that is taken out leaves its place, which is gone, until more than half of the places are. So it moves no
 /// other one, and there are never more places than twice as many as values. A number stands as far behind the first as
-/// it is greater, unless such places were cleared away in between. A caller that needs a value twice asks for its place,
-/// so that the number is searched for once.
+/// it is greater, unless such places were cleared away in between. A caller that needs a value twice asks for its
+/// place, so that the number is searched for once.
 #[derive(Drop)]
 pub struct Index<T> {
     // By rising number. The last one is not gone.
@@ -54,8 +54,8 @@ impl<T: Drop> Index<T> {
         }
     }
 
-    /// That the numbers rise, and that no more places are kept for values that are gone than there are values. Nothing is
-    /// done.
+    /// That the numbers rise, and that no more places are kept for values that are gone than there are values. Nothing
+    /// is done.
     pub fn laws(&self)
         ensures rising { IsIndexRising self.now.entries }
         ensures few { self.now.gone ≤ length self.now.entries }
@@ -89,7 +89,8 @@ impl<T: Drop> Index<T> {
         ensures room { self.old.room ≤ self.new.room }
     {
         if self.items.capacity() - self.items.len() < count {
-            clear_many(&mut self.items, self.count);
+            let quarter = self.items.len() / 4;
+            clear_from(&mut self.items, self.count, quarter);
         }
         self.items.reserve(count)?;
         Ok(())
@@ -176,9 +177,7 @@ impl<T: Drop> Index<T> {
         let value = take_value(&mut self.items, number, near);
         self.count -= 1;
         trim(&mut self.items);
-        if self.count < self.items.len() - self.count {
-            clear_away(&mut self.items);
-        }
+        clear_from(&mut self.items, self.count, self.count + 1);
         value
     }
 }
@@ -328,9 +327,8 @@ fn clear_away<T: Drop>(items: &mut Vec<Entry<T>>)
     items.retain(|entry| entry.value.is_some());
 }
 
-/// Takes out all places that are gone, where they are at least a quarter of all, rounded down. The caller tells how many
-/// are not gone.
-fn clear_many<T: Drop>(items: &mut Vec<Entry<T>>, count: usize)
+/// Takes out all places that are gone, where they are `least` or more. `count` places are not gone.
+fn clear_from<T: Drop>(items: &mut Vec<Entry<T>>, count: usize, least: usize)
     requires rising { AreEntriesRising items.old.items }
     requires last { ends_gone items.old.items ≡ false }
     requires count { count ≡ length (live_entries items.old.items) }
@@ -338,10 +336,11 @@ fn clear_many<T: Drop>(items: &mut Vec<Entry<T>>, count: usize)
     ensures last { ends_gone items.new.items ≡ false }
     ensures entries { live_entries items.new.items ≡ live_entries items.old.items }
     ensures len { vec_len items.new ≤ vec_len items.old }
-    ensures cleared { (vec_len items.new ≡ count) ⊎ (3 * (vec_len items.old - count) < count) }
+    ensures count { count ≡ length (live_entries items.new.items) }
+    ensures cleared { (vec_len items.new ≡ count) ⊎ ((vec_len items.old - count < least) × (vec_len items.new ≡ vec_len items.old)) }
     ensures capacity { vec_capacity items.new ≡ vec_capacity items.old }
 {
-    if items.len() / 4 <= items.len() - count {
+    if least <= items.len() - count {
         clear_away(items);
     }
 }

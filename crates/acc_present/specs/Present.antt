@@ -90,8 +90,8 @@ pub record IsRegionRoomTaken (old new : Room) : Type 0 where
 abbrev pub IsRoomMissing : ℕ → ℕ → ℕ → Room → Type 0
 IsRoomMissing ranges regions holdings room = (room.ranges < ranges) ⊎ (room.regions < regions) ⊎ (room.holdings < holdings)
 
--- beside so many in use, so many more need memory: there is less room, and of all places fewer than a quarter are gone, or
--- too few
+-- beside so many in use, so many more need memory: there is less room, and of all places fewer than a quarter are gone,
+-- or too few
 pub record IsPlaceMissing (count room gone used : ℕ) : Type 0 where
   pub missing : room < count
   pub few : (3 * gone < used) ⊎ (room + gone < count)

@@ -529,8 +529,8 @@ impl Present {
     ///
     /// # Errors
     ///
-    /// [`Fault::Memory`] alone, only where there was no room for one more region, and fewer places than a quarter were of
-    /// regions that are gone. The table is then as before, and no room has shrunk.
+    /// [`Fault::Memory`] alone, only where there was no room for one more region, and fewer places than a quarter were
+    /// of regions that are gone. The table is then as before, and no room has shrunk.
     pub fn enter(&mut self, number: u64, holdings: Vec<Holding>) -> Result<(), Fault>
         requires { region_at number self.old.table.regions ≡ None }
         ensures ok { OnOk result (self.new.table ≡ with_regions self.old.table (with_region (record { number = number; holdings = holdings.items }) self.old.table.regions)) }
@@ -626,9 +626,9 @@ impl Present {
     ///
     /// # Errors
     ///
-    /// [`Fault::Memory`] alone, only where some of that room was missing. No room has shrunk then. Places of ranges and of
-    /// regions that are gone are taken for others first, where they are a quarter of all or more. So it is refused only
-    /// where nodes for ranges or room for holdings were missing, or where such places were fewer or not enough.
+    /// [`Fault::Memory`] alone, only where some of that room was missing. No room has shrunk then. Places of ranges and
+    /// of regions that are gone are taken for others first, where they are a quarter of all or more. So it is refused
+    /// only where nodes for ranges or room for holdings were missing, or where such places were fewer or not enough.
     pub fn reserve(&mut self, ranges: u64, regions: u64, holdings: u64) -> Result<(), Fault>
         ensures table { self.new.table ≡ self.old.table }
         ensures ranges { OnOk result (ranges ≤ self.new.room.ranges) }

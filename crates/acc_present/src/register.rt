@@ -22,8 +22,8 @@ pub struct OpenRegion {
 
 /// The open regions.
 ///
-/// What they hold stands in an [`Index`], by their numbers. So the newest region is found at once, and an older one mostly
-/// is. A region that is left moves no other one.
+/// What they hold stands in an [`Index`], by their numbers. So the newest region is found at once, and an older one
+/// mostly is. A region that is left moves no other one.
 #[derive(Drop)]
 pub struct Register {
     alloc: Global,

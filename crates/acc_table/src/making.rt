@@ -118,7 +118,8 @@ fn reply_told(directive: &Directive, number: u64) -> Reply
 }
 
 /// Makes room for a planned directive in the store and for its event in the trace. It returns what the items will do,
-/// as the event stores it: a list of its own, which takes no memory for one item.
+/// as the event stores it: a list of its own, which takes no memory for one item. Where room is refused, no bytes are
+/// kept for births, unless some were before.
 fn make_room(
     store: &mut Store,
     trace: &mut Vec<Event>,
@@ -130,6 +131,7 @@ fn make_room(
     ensures did { IfOk result (λ did. did ≡ plan.now.written) }
     ensures room { OnOk result (HasPlanRoom directive.now plan.now store.new.room) }
     ensures births { OnOk result (store.new.room.births ≡ lens_born plan.now.tasks plan.now.dids) }
+    ensures refused { OnErr result (store.old.room.births ≡ [] → store.new.room.births ≡ []) }
     ensures place { OnOk result (vec_len trace.new < vec_capacity trace.new) }
     ensures only { IfErr result (λ fault. fault ≡ Memory) }
 {

@@ -157,12 +157,12 @@ impl DeviceData {
     }
 
     /// Makes room for births of blocks of these lengths, in this order, where no bytes are kept for other births. It
-    /// also makes room for so many regions, the next of which has so many holdings, and for so many attachment counters.
-    /// Nothing else changes, also where it is refused.
+    /// also makes room for so many regions, the next of which has so many holdings, and for so many attachment
+    /// counters. Nothing else changes, also where it is refused.
     ///
     /// # Errors
     ///
-    /// [`Fault::Memory`] alone, where some of that room was missing. The bytes of a birth are always made anew, and none
+    /// [`Fault::Memory`] alone, where some of that room was missing. The bytes of a birth are always made anew. None
     /// are kept where it is refused.
     pub(crate) fn reserve(
         &mut self,

@@ -139,8 +139,8 @@ impl Store {
     ///
     /// # Errors
     ///
-    /// [`Fault::Memory`] alone, and only where some of that room was missing. A plan with a birth always allocates for
-    /// the bytes of the block. No bytes for births are then kept.
+    /// [`Fault::Memory`] alone, and only where some of that room was missing. Then no bytes are kept for births. A plan
+    /// with a birth always allocates for the bytes of the block.
     pub fn reserve(&mut self, directive: &Directive, plan: &Plan) -> Result<(), Fault>
         requires planned { IsPlanOf self.old.limits directive.now self.old.state plan.now }
         ensures limits { self.new.limits ≡ self.old.limits }
@@ -153,7 +153,7 @@ impl Store {
     {
         self.device.laws();
         let acts = plan.acts();
-        // What was made for births that never came is given up before all else, and bytes for births are made last: so
+        // What was made for births that never came is given up before all else. Bytes for births are made last, so that
         // none stay where other room is refused.
         self.device.give_up_births();
         match queue_in(directive) {

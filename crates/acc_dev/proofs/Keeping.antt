@@ -61,8 +61,8 @@ apart_of h s xs births room k c = record {
 }
 
 -- the listed holes are those that they leave
-pub holes_left : (h : Space) (s : List (Option Stored)) (xs : List (ℕ × ℕ)) → AreSlotsKept h s xs → AreHoles (memory_of h) (blocks_in s xs) h.holes
-holes_left h s xs k =
+pub holes_kept : (h : Space) (s : List (Option Stored)) (xs : List (ℕ × ℕ)) → AreSlotsKept h s xs → AreHoles (memory_of h) (blocks_in s xs) h.holes
+holes_kept h s xs k =
     let ts : List (ℕ × ℕ) = map taken_range (blocks_in s xs) in
     record {
       listed = holes_listed h (blocks_in s xs) (shared h s xs k);
@@ -74,7 +74,7 @@ holes_left h s xs k =
 
 -- with the holes they are the device
 pub divided : (h : Space) (s : List (Option Stored)) (xs : List (ℕ × ℕ)) → AreSlotsKept h s xs → IsDevice (memory_of h) (blocks_in s xs)
-divided h s xs k = (h.holes, holes_left h s xs k)
+divided h s xs k = (h.holes, holes_kept h s xs k)
 
 -- the first listed hole from an address on is the next one
 pub next_found : (h : Space) (s : List (Option Stored)) (xs : List (ℕ × ℕ)) (from : ℕ) (o : Option (ℕ × ℕ)) → AreSlotsKept h s xs → o ≡ find (λ x. nat_le from x.0) h.holes → IsNextHole from (memory_of h) (blocks_in s xs) (option_map hole_of o)

@@ -192,7 +192,8 @@ impl Device {
         make_vectors(&mut self.ready, self.alloc, lens)
     }
 
-    /// Gives up the room that [`Device::reserve`] made: the bytes of each birth. It needs no memory and is never refused.
+    /// Gives up the room that [`Device::reserve`] made: the bytes of each birth. It needs no memory and is never
+    /// refused.
     pub fn give_up_room(&mut self)
         ensures room { self.new.room ≡ [] }
         ensures unchanged { IsUnchanged self.old self.new }
@@ -427,8 +428,8 @@ impl Device {
         Some(Hole { place, size })
     }
 
-    /// What the blocks leave of the device: the size of the largest hole, the bytes of all holes, and how many they are.
-    /// No walk is made.
+    /// What the blocks leave of the device: the size of the largest hole, the bytes of all holes, and how many they
+    /// are. No walk is made.
     pub fn free(&self) -> Free
         ensures { IsLeft self.now.memory self.now.blocks result }
     {

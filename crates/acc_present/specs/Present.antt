@@ -22,7 +22,7 @@ pub record Room : Type 0 where
   pub regions : ℕ
   pub holdings : ℕ
 
--- how many places are kept of ranges that are gone, and of regions that are
+-- how many places are kept of ranges that are gone, and of regions that are gone
 pub record Gone : Type 0 where
   pub ranges : ℕ
   pub regions : ℕ
@@ -90,8 +90,8 @@ pub record IsRegionRoomTaken (old new : Room) : Type 0 where
 abbrev pub IsRoomMissing : ℕ → ℕ → ℕ → Room → Type 0
 IsRoomMissing ranges regions holdings room = (room.ranges < ranges) ⊎ (room.regions < regions) ⊎ (room.holdings < holdings)
 
--- beside so many in use, so many more need memory: there is less room, and of all places fewer than a quarter are gone,
--- or too few
+-- beside so many in use, so many more need memory: there is less room. Of all places fewer than a quarter are gone, or
+-- these and the room are too few
 pub record IsPlaceMissing (count room gone used : ℕ) : Type 0 where
   pub missing : room < count
   pub few : (3 * gone < used) ⊎ (room + gone < count)

@@ -128,8 +128,8 @@ impl<T: Copy> Rows<T> {
         self.around_counted(key, &mut Steps::new())
     }
 
-    /// The entries on both sides of a key, by at most two steps for each binary digit of the number of entries. There is
-    /// one at least where there are entries. At most 2^32 were counted before.
+    /// The entries on both sides of a key, by at most two steps for each binary digit of the number of entries. There
+    /// is one at least where there are entries. At most 2^32 were counted before.
     #[inline]
     pub fn around_counted<'a>(&'a self, key: u128, steps: &mut Steps) -> Around<'a, T>
         requires limit { steps.old ≤ 2 ^ 32 }

@@ -125,8 +125,8 @@ impl<T: Copy> Tree<T> {
         self.get_counted(key, &mut Steps::new())
     }
 
-    /// The entry of a key, if it is there, by at most two steps for each binary digit of the number of entries. There is
-    /// one at least where there are entries. At most 2^32 were counted before.
+    /// The entry of a key, if it is there, by at most two steps for each binary digit of the number of entries. There
+    /// is one at least where there are entries. At most 2^32 were counted before.
     pub fn get_counted(&self, key: u128, steps: &mut Steps) -> Option<Entry<T>>
         requires limit { steps.old ≤ 2 ^ 32 }
         ensures found { result ≡ at_key key self.now.entries }
@@ -146,8 +146,8 @@ impl<T: Copy> Tree<T> {
         self.around_counted(key, &mut Steps::new())
     }
 
-    /// The entries on both sides of a key, by at most two steps for each binary digit of the number of entries. There is
-    /// one at least where there are entries. At most 2^32 were counted before.
+    /// The entries on both sides of a key, by at most two steps for each binary digit of the number of entries. There
+    /// is one at least where there are entries. At most 2^32 were counted before.
     pub fn around_counted(&self, key: u128, steps: &mut Steps) -> Around<T>
         requires limit { steps.old ≤ 2 ^ 32 }
         ensures before { result.before ≡ last_before key self.now.entries }

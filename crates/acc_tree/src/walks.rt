@@ -9,7 +9,8 @@ use crate::entries::Entry;
 use crate::nodes::{Link, Node};
 use acc_base::Steps;
 
-/// Comes to the node at the top of a tree, if there is one, which is one step. A search comes to a node in no other way.
+/// Comes to the node at the top of a tree, if there is one, which is one step. A counted search comes to nodes by this
+/// alone.
 #[inline]
 fn visit<'a, T: Copy>(tree: &'a Link<T>, steps: &mut Steps) -> Option<&'a Node<T>>
     requires limit { steps.old < 2 ^ 33 }

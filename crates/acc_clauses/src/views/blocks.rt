@@ -77,7 +77,8 @@ impl<'a> View<'a> {
         self.environment.device.hole(from)
     }
 
-    /// What the blocks leave of the device: the size of the largest hole, the bytes of all holes, and how many they are.
+    /// What the blocks leave of the device: the size of the largest hole, the bytes of all holes, and how many they
+    /// are.
     pub fn free(&self) -> Free
         ensures { IsLeft (device_memory self.now.limits) self.now.state.records.blocks result }
     {

@@ -2,7 +2,8 @@
  * What a table asks for and holds over a long run. In each life 128 of a kind are alive while some 100,000 others come
  * and go: in no order beside one that stays, or the oldest first. A first round has more of them at once, so that room
  * for them is made. From then on the library asks for memory only for the lists of events, for the bytes of blocks and
- * for folds, and it holds as much as before. Last, directives are refused for want of memory, and keep none.
+ * for folds, and it holds as much as before. Last, directives are refused for want of memory, and keep none for their
+ * blocks.
  *
  * Usage: lives [ROUNDS]. Without the number there are 10 rounds. What it prints is the same with each number.
  */
@@ -20,8 +21,8 @@ enum {
     EVENTS = 2048,   /* how many events there are from one fold to the next at most */
     ITEMS = 64,      /* how many items a directive has at most */
     HOLDINGS = 8,    /* how many items an entry to a region has */
-    HOLDING = 80,    /* how many bytes what it holds for an item takes at most */
-    WAITING = 80,    /* how many bytes of room in a queue are made for a copy that waits there at most */
+    HOLDING = 80,    /* how many bytes what it holds for an item takes */
+    WAITING = 80,    /* a copy that waits takes 40 bytes, and a queue may have room for twice as many as wait */
     QUEUES = 16,     /* how many queues there are */
     BATCH = 512,     /* how many arrays come side by side of which few stay */
     STAY = 64,       /* the first of so many stays */
@@ -447,7 +448,8 @@ static const entry QUEUED = {
     .end = end_queued,
 };
 
-/* Enters the large arrays, where this growth is refused, and ends them where it is done all the same. */
+/* Enters the large arrays, where the growth of a number is refused; 0 stands for none. Tells whether they were entered,
+   which then ended again: there was no such growth. */
 static bool enter_large(world *world, const entry *entry, size_t growth)
 {
     lw_item items[ITEMS];
@@ -461,6 +463,7 @@ static bool enter_large(world *world, const entry *entry, size_t growth)
         refuse_growth(0);
         return false;
     }
+    check(!was_growth_refused(), entry->name, "they are entered though a growth was refused");
     refuse_growth(0);
     must(status, entry->name);
     entry->end(world, items);
@@ -489,6 +492,7 @@ static size_t refuse_each(world *world, const entry *entry, size_t most)
         check(bytes_held() <= most, entry->name, "more is held behind the next directive");
         refusals++;
     }
+    check(refusals > 0, entry->name, "they need no memory");
     check(bytes_held() <= most, entry->name, "more is held behind their end");
     return refusals;
 }
@@ -497,7 +501,7 @@ static size_t refuse_each(world *world, const entry *entry, size_t most)
 static void make_for_large(world *world)
 {
     make(world);
-    check(enter_large(world, &REGION, 0), "births", "refused");
+    (void)enter_large(world, &REGION, 0);
     update(world);
 }
 

@@ -1,5 +1,5 @@
-//! Calls in awkward orders. The oldest region or lease goes first, or the last of many items is refused. Scripts have
-//! only lines that are refused, or a last line that is at fault.
+//! Calls in awkward orders. The oldest region or lease goes first, or the last of many items is refused. In scripts,
+//! each directive on mapped arrays is refused, or the last line is at fault.
 
 use crate::desks::{Desk, limits};
 use crate::items::{Row, item, one, section};

@@ -1,4 +1,4 @@
-//! Large copies: an array of 16 MiB that is mapped, updated and worked on, and pages on a table with full traces, whose
+//! Large copies: an array of 16 MiB that is mapped, updated and worked on. And pages on a table with full traces, whose
 //! events hold all bytes.
 
 use crate::desks::{Desk, limits};

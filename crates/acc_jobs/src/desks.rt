@@ -87,7 +87,7 @@ impl Desk {
     }
 
     /// A stride by chance, one of `tens` numbers that end in 9. It shares no factor with a count such as 1,000 or
-    /// 20,000, so as many steps of it come to each of so many arrays once.
+    /// 20,000. So that many steps of it come to each of that many arrays once.
     pub fn stride(&mut self, tens: u64) -> u64 {
         self.below(tens).wrapping_mul(10).wrapping_add(9)
     }
@@ -251,7 +251,7 @@ impl Desk {
         self.tally
     }
 
-    /// The sum of the bytes in use on the device and of its mapped ranges, which are noted.
+    /// The sum of the bytes in use on the device and of the number of its mapped ranges, which are noted.
     fn left_on(&mut self) -> u64 {
         let used = self.table.used(self.device);
         used.wrapping_add(self.note_ranges())

@@ -120,8 +120,8 @@ fn scalar(desk: &mut Desk) {
     desk.exit(number);
 }
 
-/// Directives of 64 items: an `enter data` and an `exit data` of mapped arrays, and a region over other arrays, which
-/// are mapped in it alone.
+/// Directives of 64 items: an `enter data` and an `exit data` of mapped arrays, and a region. The region is over other
+/// arrays, which are mapped in it alone.
 fn many(desk: &mut Desk, arrays: Row) -> Result<(), Fault> {
     let first = desk.below(arrays.count);
     let stride = desk.stride(10);

@@ -44,8 +44,8 @@ fn structure(nth: u64) -> Section {
     section((nth % STRUCTS).wrapping_mul(16), 16)
 }
 
-/// Copies all structs to the device with their targets, and back. It goes by a stride, so that neighbours do not follow
-/// one another. Once all are attached, the host writes other bytes, so that host and device differ.
+/// Copies all structs to the device with their targets, and back. It goes by a stride, so that one seldom
+/// follows its neighbour. Once all are attached, the host writes other bytes, so that host and device differ.
 fn copy_all(desk: &mut Desk) -> Result<(), Fault> {
     let all = section(0, STRUCTS.wrapping_mul(16));
     desk.enter_data(one(EnterClause::Copyin, all));

@@ -61,7 +61,7 @@ impl Tally {
         }
     }
 
-    /// Notes words by four sums. A sum must wait for its last multiplication, so four go on while one waits.
+    /// Notes words by four sums. A sum must wait for its last multiplication, so three go on while one waits.
     fn note_fours(&mut self, fours: &[[[u8; 8]; 4]]) {
         let (mut one, mut two, mut three, mut four) = (1, 2, 3, 4);
         for [first, second, third, fourth] in fours {

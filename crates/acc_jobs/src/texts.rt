@@ -84,7 +84,7 @@ impl Text {
         )
     }
 
-    /// One or two lines that name one or two of the first `count` arrays, or a step of a queue.
+    /// One to three lines that name one or two of the first `count` arrays, or a step of a queue.
     fn directive(&mut self, count: u64) -> Result<(), AllocError> {
         let nth = self.below(count);
         let other = self.below(count);

@@ -238,8 +238,8 @@ fn work_in<R: Threads + Wait + Sync + AllocGlobal>(
     others: u64,
 ) {
     if let Some(mut lease) = desk.lend(region, section) {
-        let parts = (others % 64) as usize;
-        if let Err(fault) = add_evenly(rt, &mut lease, parts.wrapping_add(1)) {
+        let others = (others % 64) as usize;
+        if let Err(fault) = add_evenly(rt, &mut lease, others.wrapping_add(1)) {
             desk.tally.refuse(fault);
         }
         desk.call(Call::Gather(lease));

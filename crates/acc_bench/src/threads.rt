@@ -5,7 +5,7 @@ ghost use Rattle.std.specs.Prelude.{◌≡◌};
 use crate::measuring::{largest, tell_since};
 use crate::table::{items, section_at};
 use acc_base::{Config, EnterClause, ExitClause, Fault, RegionClause, UpdateClause};
-use acc_runtime::{Blanks, Caller, Open, Region, Runtime, blanks, drill};
+use acc_runtime::{Blanks, Caller, Limited, Open, Region, Runtime, blanks, drill};
 use anyhow::{Result, anyhow};
 use std::marker::Brand;
 use std::rt::Clock;
@@ -46,7 +46,7 @@ pub fn run<R: Print + Clock + Threads + Wait + Sync + AllocGlobal>(
 }
 
 fn play<
-    Regions: Ledger + Send + Sync,
+    Regions: Limited + Send + Sync,
     Tickets: Ledger + Send + Sync,
     Events: Ledger + Send + Sync,
     R: Threads + Wait + Sync + AllocGlobal,
@@ -54,6 +54,7 @@ fn play<
     requires regions { (blanks.regions.name ≡ Regions.name) × (blanks.regions.parts ≡ Regions.parts) × (config.regions ≡ Regions.parts) }
     requires tickets { (blanks.tickets.name ≡ Tickets.name) × (blanks.tickets.parts ≡ Tickets.parts) × (config.tickets ≡ Tickets.parts) }
     requires events { (blanks.events.name ≡ Events.name) × (blanks.events.parts ≡ Events.parts) × (config.tickets ≡ Events.parts) }
+    requires limits { config ≡ Regions.limits }
 {
     let (runtime, mut caller) = Runtime::<Regions, Tickets, Events>::new(rt, config, blanks)?;
     share(rt, &runtime, &mut caller, work, threads as usize)
@@ -61,7 +62,7 @@ fn play<
 
 /// Shares the table among so many threads, at most 64, and takes their shares back. Nothing is left mapped or open.
 fn share<
-    Regions: Ledger + Send + Sync,
+    Regions: Limited + Send + Sync,
     Tickets: Ledger + Send + Sync,
     Events: Ledger + Send + Sync,
     R: Threads + Wait + Sync + AllocGlobal,
@@ -98,7 +99,7 @@ fn share<
 
 /// The rounds of each caller, each in a thread of its own, until a fault.
 fn make_all<
-    Regions: Ledger + Send + Sync,
+    Regions: Limited + Send + Sync,
     Tickets: Ledger + Send + Sync,
     Events: Ledger + Send + Sync,
     R: Threads + Wait + AllocGlobal + Sync,
@@ -118,7 +119,7 @@ fn make_all<
 }
 
 /// Makes the rounds of the thread of a number, until a fault.
-fn make_rounds<Regions: Ledger, Tickets: Ledger, Events: Ledger, R: Wait + AllocGlobal>(
+fn make_rounds<Regions: Limited, Tickets: Ledger, Events: Ledger, R: Wait + AllocGlobal>(
     rt: &R,
     runtime: &Runtime<Regions, Tickets, Events>,
     caller: &mut Caller<Regions, Tickets, Events>,
@@ -140,14 +141,14 @@ fn make_rounds<Regions: Ledger, Tickets: Ledger, Events: Ledger, R: Wait + Alloc
 
 /// A thread of a number, which makes calls on 16 bytes of its own.
 #[derive(Drop)]
-struct Thread<'a, Regions: Ledger, Tickets: Ledger, Events: Ledger, R> {
+struct Thread<'a, Regions: Limited, Tickets: Ledger, Events: Ledger, R> {
     rt: &'a R,
     runtime: &'a Runtime<Regions, Tickets, Events>,
     caller: &'a mut Caller<Regions, Tickets, Events>,
     number: u64,
 }
 
-impl<Regions: Ledger, Tickets: Ledger, Events: Ledger, R: Wait + AllocGlobal> Thread<
+impl<Regions: Limited, Tickets: Ledger, Events: Ledger, R: Wait + AllocGlobal> Thread<
     '_,
     Regions,
     Tickets,

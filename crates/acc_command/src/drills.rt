@@ -3,7 +3,7 @@
 ghost use Rattle.std.specs.Prelude.{◌≡◌, ◌<◌, ◌≤◌};
 
 use acc_base::{Config, Fault};
-use acc_runtime::{Blanks, Drilled, Open, Runtime, blanks, drill};
+use acc_runtime::{Blanks, Drilled, Limited, Open, Runtime, blanks, drill};
 use acc_script::{Sink, write_all};
 use arrayvec::ArrayString;
 use std::fmt::{self, Write};
@@ -37,7 +37,7 @@ pub fn run_drill<R: Threads + Wait + Sync + AllocGlobal, O: Sink>(
 }
 
 fn drilled<
-    Regions: Ledger + Send + Sync,
+    Regions: Limited + Send + Sync,
     Tickets: Ledger + Send + Sync,
     Events: Ledger + Send + Sync,
     R: Threads + Wait + Sync + AllocGlobal,
@@ -45,6 +45,7 @@ fn drilled<
     requires regions { (blanks.regions.name ≡ Regions.name) × (blanks.regions.parts ≡ Regions.parts) × (config.regions ≡ Regions.parts) }
     requires tickets { (blanks.tickets.name ≡ Tickets.name) × (blanks.tickets.parts ≡ Tickets.parts) × (config.tickets ≡ Tickets.parts) }
     requires events { (blanks.events.name ≡ Events.name) × (blanks.events.parts ≡ Events.parts) × (config.tickets ≡ Events.parts) }
+    requires limits { config ≡ Regions.limits }
     requires threads { (0 < threads) × (threads ≤ 64) }
     requires rounds { (0 < rounds) × (rounds ≤ 1000) }
 {

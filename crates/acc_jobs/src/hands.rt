@@ -6,7 +6,7 @@ use crate::tallies::Tally;
 use acc_base::{EnterClause, ExitClause, Fault, Item, RegionClause, Section, UpdateClause};
 use acc_lend::{Add, Lease, run_one};
 use acc_random::Chance;
-use acc_runtime::{Caller, Region, Runtime};
+use acc_runtime::{Caller, Limited, Region, Runtime};
 use std::alloc::{AllocError, Global};
 use std::sync::Wait;
 use std::sync::ledger::Ledger;
@@ -69,7 +69,7 @@ impl<Regions: Ledger, Tickets: Ledger, Events: Ledger> Worker<Regions, Tickets, 
 
 /// A worker at a table.
 #[derive(Drop)]
-pub struct Hand<'a, Regions: Ledger, Tickets: Ledger, Events: Ledger, R> {
+pub struct Hand<'a, Regions: Limited, Tickets: Ledger, Events: Ledger, R> {
     /// The handle of its thread.
     pub rt: &'a R,
     /// The table.
@@ -89,7 +89,7 @@ fn list_of<C: Copy + Drop>(
     Ok(items)
 }
 
-impl<Regions: Ledger, Tickets: Ledger, Events: Ledger, R: Wait + AllocGlobal> Hand<
+impl<Regions: Limited, Tickets: Ledger, Events: Ledger, R: Wait + AllocGlobal> Hand<
     '_,
     Regions,
     Tickets,

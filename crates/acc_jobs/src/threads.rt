@@ -9,7 +9,7 @@ use crate::items::{one, section};
 use crate::tallies::Tally;
 use acc_base::{Config, EnterClause, ExitClause, Fault, RegionClause, Section};
 use acc_lend::{Add, Cuts, Lease, Open, run_parts};
-use acc_runtime::{Blanks, Caller, Runtime, blanks};
+use acc_runtime::{Blanks, Caller, Limited, Runtime, blanks};
 use acc_table::Call;
 use std::marker::Brand;
 use std::sync::Wait;
@@ -60,7 +60,7 @@ fn share<R: Threads + Wait + Sync + AllocGlobal>(
 }
 
 fn share_new<
-    Regions: Ledger + Send + Sync,
+    Regions: Limited + Send + Sync,
     Tickets: Ledger + Send + Sync,
     Events: Ledger + Send + Sync,
     R: Threads + Wait + Sync + AllocGlobal,
@@ -68,6 +68,7 @@ fn share_new<
     requires regions { (blanks.regions.name ≡ Regions.name) × (blanks.regions.parts ≡ Regions.parts) × (config.regions ≡ Regions.parts) }
     requires tickets { (blanks.tickets.name ≡ Tickets.name) × (blanks.tickets.parts ≡ Tickets.parts) × (config.tickets ≡ Tickets.parts) }
     requires events { (blanks.events.name ≡ Events.name) × (blanks.events.parts ≡ Events.parts) × (config.tickets ≡ Events.parts) }
+    requires limits { config ≡ Regions.limits }
 {
     let (runtime, mut caller) = Runtime::<Regions, Tickets, Events>::new(rt, config, blanks)?;
     play(rt, &runtime, &mut caller, plan, tally)
@@ -75,7 +76,7 @@ fn share_new<
 
 /// Makes all rounds, and notes what each thread and the table have then.
 fn play<
-    Regions: Ledger + Send + Sync,
+    Regions: Limited + Send + Sync,
     Tickets: Ledger + Send + Sync,
     Events: Ledger + Send + Sync,
     R: Threads + Wait + Sync + AllocGlobal,
@@ -120,7 +121,7 @@ fn note_workers<Regions: Ledger, Tickets: Ledger, Events: Ledger>(
 
 /// Makes all rounds, and notes behind each how many events the fold of the trace took.
 fn make_rounds<
-    Regions: Ledger + Send + Sync,
+    Regions: Limited + Send + Sync,
     Tickets: Ledger + Send + Sync,
     Events: Ledger + Send + Sync,
     R: Threads + Wait + Sync + AllocGlobal,
@@ -141,7 +142,7 @@ fn make_rounds<
 
 /// So many steps of each worker, each in a thread of its own.
 fn work_all<
-    Regions: Ledger + Send + Sync,
+    Regions: Limited + Send + Sync,
     Tickets: Ledger + Send + Sync,
     Events: Ledger + Send + Sync,
     R: Threads + Wait + Sync + AllocGlobal,
@@ -161,7 +162,7 @@ fn work_all<
 }
 
 /// Makes the steps of a worker, until a fault, which is noted.
-fn work<Regions: Ledger, Tickets: Ledger, Events: Ledger, R: Wait + AllocGlobal>(
+fn work<Regions: Limited, Tickets: Ledger, Events: Ledger, R: Wait + AllocGlobal>(
     rt: &R,
     runtime: &Runtime<Regions, Tickets, Events>,
     worker: &mut Worker<Regions, Tickets, Events>,
@@ -178,7 +179,7 @@ fn work<Regions: Ledger, Tickets: Ledger, Events: Ledger, R: Wait + AllocGlobal>
 }
 
 /// Notes how many events there were, and what is left.
-fn note_table<Regions: Ledger, Tickets: Ledger, Events: Ledger, R: Wait>(
+fn note_table<Regions: Limited, Tickets: Ledger, Events: Ledger, R: Wait>(
     rt: &R,
     runtime: &Runtime<Regions, Tickets, Events>,
     caller: &mut Caller<Regions, Tickets, Events>,

@@ -1,7 +1,7 @@
 -- A lease is as long as the section that was asked for, and so are the bytes of host memory that are read.
 use Rattle.std.proofs.Common.{ℕ, ◌≡◌, ◌-◌, ◌≤◌, refl, sym, ◌∙◌, ap, subst, Bool, true, false, cond, List, length, Some, None, Result, Ok, Err, arith, length-drop}
 use Rattle.std.proofs.lemmas.List.{length-take-le}
-use Rattle.std.specs.Prelude.{◌||◌, take, drop, MatchResult, IfOk}
+use Rattle.std.specs.Prelude.{◌||◌, ◌&&◌, not, take, drop, MatchResult, IfOk}
 use Rattle.std.proofs.lemmas.Bool.Decides.{nat_tests}
 use Rattle.acc_base.specs.Section.{is_empty, is_within, host_base, host_memory}
 use Rattle.acc_table.specs.Queries.{host_read_of}
@@ -12,8 +12,9 @@ use Rattle.acc_base.specs.declared.faults.Fault.{Fault}
 use Rattle.acc_base.specs.declared.calls.Call.TheVariants.{Lend}
 use Rattle.acc_base.specs.declared.mappings.Found.TheVariants.{Inside}
 use Rattle.acc_base.specs.declared.events.Event.TheVariants as events
-use Rattle.acc_base.specs.Results.{◌>>◌}
-use Rattle.acc_base.specs.Limits.{limits_on}
+use Rattle.acc_base.specs.declared.faults.Fault.TheVariants.{OutOfHost}
+use Rattle.acc_base.specs.Results.{◌>>◌, refuse_if}
+use Rattle.acc_base.specs.Limits.{Limits, limits_on}
 use Rattle.acc_base.specs.Loans.{Leased, not_lent}
 use Rattle.acc_base.specs.Records.{State}
 use Rattle.acc_base.specs.Ranges.{where_is}
@@ -25,6 +26,7 @@ use Rattle.acc_base.specs.Calls.{World, judge, ticket, trace_room, loan_on}
 use Rattle.acc_base.proofs.Results.{then_ok, ok_same}
 use Rattle.acc_table.specs.declared.calls.Reply.TheVariants as replies
 use Rattle.acc_table.specs.Calls.{reply_of, IsCarriedOut, IsDone}
+use Rattle.acc_table.specs.Laws.{IsLawful}
 use Rattle.acc_table.proofs.Replying.{made_of}
 use Rattle.acc_runtime.specs.Shares.{Shares}
 use Rattle.acc_runtime.specs.Acts.{IsActed}
@@ -66,10 +68,10 @@ pub lent_long : {E : Type 0} (r : Result Leased E) (p q : Shares) (w v : World) 
 lent_long (Ok lease) p q w v region section acted = lease_long w region section lease v acted.done
 lent_long (Err back) p q w v region section acted = tt
 
-pub was_lent_long : {E : Type 0} (r : Result Leased E) (p q : Shares) (region : ℕ) (section : Section)
-    → IfOk r (λ lease. WasAccepted p (Lend region section) (replies.Lease lease) q) → IfOk r (λ (lease : Leased). lease.len ≡ section.len)
-was_lent_long (Ok lease) p q region section accepted = lease_long accepted.before region section lease accepted.next accepted.acted.done
-was_lent_long (Err back) p q region section accepted = tt
+pub was_lent_long : {E : Type 0} (l : Limits) (r : Result Leased E) (p q : Shares) (region : ℕ) (section : Section)
+    → IfOk r (λ lease. WasAccepted l p (Lend region section) (replies.Lease lease) q) → IfOk r (λ (lease : Leased). lease.len ≡ section.len)
+was_lent_long l (Ok lease) p q region section accepted = lease_long accepted.before region section lease accepted.next accepted.acted.done
+was_lent_long l (Err back) p q region section accepted = tt
 
 -- ---- bytes of host memory
 
@@ -85,3 +87,16 @@ read_long s host bytes h = go (is_empty s || is_within s (host_memory (length ho
         let room : s.len ≤ length host - (s.start - host_base) = grind (arith, nat_tests) in
         subst (λ (xs : List ℕ). length xs ≡ s.len) same (length-take-le s.len (drop (s.start - host_base) host) (omega (arith, room, length-drop (s.start - host_base) host)))
     go false inside is = absurd cc
+
+-- host memory has the bytes of each section that lies in it
+pub read_inside : (l : Limits) (w : World) (s : Section) → IsLawful w → w.limits ≡ l → in_host l 0 s ≡ Ok tt → host_read_of s w.state.host ≡ None → ⊥
+read_inside l w s lawful same inside none =
+    let bounds = lawful.bounds in
+    let size : length w.state.host ≡ w.limits.host = (lawful.devices 0 (omega (arith, bounds.devices))).memories.host in
+    let host : length w.state.host ≡ l.host = size ∙ ap (λ (x : Limits). x.host) same in
+    go (is_empty s) (is_within s (host_memory l.host)) (take s.len (drop (s.start - host_base) w.state.host)) inside (ap (λ (n : ℕ). cond (is_empty s || is_within s (host_memory n)) (Some (take s.len (drop (s.start - host_base) w.state.host))) None) (sym host) ∙ none)
+  where
+    go : (empty within : Bool) (bytes : List ℕ) → refuse_if (not empty && not within) (OutOfHost 0) ≡ Ok tt → cond (empty || within) (Some bytes) None ≡ None → ⊥
+    go true within bytes inside none = absurd cc
+    go false true bytes inside none = absurd cc
+    go false false bytes inside none = absurd cc

@@ -2,10 +2,19 @@
 use Rattle.std.specs.Prelude.{ℕ, ◌+◌, ◌≡◌, ◌≤◌}
 use Rattle.std.specs.List.{AllByRecursion}
 use Rattle.acc_base.specs.declared.mappings.Range.{Range}
+use Rattle.acc_base.specs.Limits.{Limits}
 use Rattle.acc_base.specs.Devices.{view, open_regions}
 use Rattle.acc_base.specs.Calls.{World, event_count}
 use Rattle.acc_table.specs.Laws.{IsLawful}
 use Rattle.acc_runtime.specs.Shares.{Shares}
+
+-- the limits that a runtime tells are those of its types, whose ledgers have a region for each that may be open, and a
+-- ticket and an event for each ticket
+pub record IsTyped (l : Limits) (regions tickets events : ℕ) (config : Limits) : Type 0 where
+  pub limits : config ≡ l
+  pub limit : config.regions ≡ regions
+  pub uses : config.tickets ≡ tickets
+  pub times : config.tickets ≡ events
 
 -- there are shares of so many regions, tickets and events in all, and the books of what all callers have say this
 pub record IsBooked (regions tickets events : ℕ) (all : Shares) (w : World) : Type 0 where
@@ -20,10 +29,13 @@ pub record IsBooked (regions tickets events : ℕ) (all : Shares) (w : World) : 
   -- the events are what all callers made
   pub made : all.made ≡ event_count w.history
 
--- what the shares of one caller imply for the table, where there are so many regions and tickets in all
-pub record IsSettled (regions tickets : ℕ) (p : Shares) (w : World) : Type 0 where
+-- what the shares of one caller imply for the table of a runtime of these limits, where there are so many regions and
+-- tickets in all
+pub record IsSettled (l : Limits) (regions tickets : ℕ) (p : Shares) (w : World) : Type 0 where
   -- the table keeps all laws
   pub lawful : IsLawful w
+  -- its limits are those of the runtime
+  pub limits : w.limits ≡ l
   pub limit : w.limits.regions ≡ regions
   pub uses : w.limits.tickets ≡ tickets
   -- the allowance is none of an open region, and the tickets are none of an event

@@ -1,5 +1,5 @@
 -- The threads of a drill, each of which enters and exits a region so many times over one array.
-use Rattle.std.specs.Prelude.{ℕ, ◌≡◌, ◌+◌, ◌*◌, ◌⊎◌, List, [], ◌∷◌, Option, None, unwrap_or}
+use Rattle.std.specs.Prelude.{ℕ, zero, suc, ◌≡◌, ◌+◌, ◌-◌, ◌*◌, ◌<◌, ◌≤◌, ◌⊎◌, List, [], ◌∷◌, map, length, sum_by, All, Option, None, Some, MatchOption, unwrap_or}
 use Rattle.std.specs.Option.{option_or}
 use Rattle.acc_base.specs.declared.items.Section.{Section}
 use Rattle.acc_base.specs.declared.items.Item.{Item}
@@ -9,8 +9,10 @@ use Rattle.acc_base.specs.declared.calls.Call.{Call}
 use Rattle.acc_base.specs.declared.calls.Call.TheVariants.{Do}
 use Rattle.acc_base.specs.declared.directives.Directive.TheVariants.{Enter, Exit, EnterData}
 use Rattle.acc_base.specs.declared.faults.Fault.{Fault}
+use Rattle.acc_base.specs.declared.faults.Fault.TheVariants.{Memory, NoTickets, NoAllowance}
 use Rattle.acc_base.specs.declared.mappings.Counters.{Counters}
 use Rattle.acc_base.specs.Section.{host_base}
+use Rattle.acc_base.specs.Limits.{Limits}
 use Rattle.acc_base.specs.Loans.{Leased}
 use Rattle.acc_base.specs.Devices.{view}
 use Rattle.acc_base.specs.Calls.{World, event_count}
@@ -19,7 +21,7 @@ use Rattle.acc_table.specs.Queries.{counters_of_section}
 use Rattle.acc_runtime.specs.declared.drilling.Drilled.{Drilled}
 use Rattle.acc_runtime.specs.Shares.{Shares}
 use Rattle.acc_runtime.specs.Books.{IsSettled}
-use Rattle.acc_runtime.specs.Shared.{WasAccepted}
+use Rattle.acc_runtime.specs.Shared.{WasAccepted, WasRefused}
 
 -- the array of all threads: the first 16 bytes of host memory
 abbrev pub array : Section
@@ -40,11 +42,27 @@ entry = Do (Enter 0 (array_in Copyin))
 -- ---- a thread
 
 -- a region was entered and exited
-pub record WasRound (p q : Shares) : Type 0 where
+pub record WasRound (l : Limits) (p q : Shares) : Type 0 where
   pub region : ℕ
   pub within : Shares
-  pub entered : WasAccepted p entry (Entered region) within
-  pub exited : WasAccepted within (Do (Exit region)) Done q
+  pub entered : WasAccepted l p entry (Entered region) within
+  pub exited : WasAccepted l within (Do (Exit region)) Done q
+
+-- so many rounds were made, one after another
+abbrev pub WereRounds : Limits → ℕ → Shares → Shares → Type 0
+WereRounds l zero p q = q ≡ p
+WereRounds l (suc rounds) p q = (m : Shares) × WereRounds l rounds p m × WasRound l m q
+
+-- it stopped for this fault: no region was entered, for lack of memory or since that was refused; or one was entered
+-- that it could not exit
+abbrev pub WasStopped : Limits → Shares → Fault → Shares → Type 0
+WasStopped l p fault q =
+    ((q ≡ p) × ((fault ≡ Memory) ⊎ WasRefused l p entry fault))
+    ⊎ ((region : ℕ) × WasAccepted l p entry (Entered region) q × WasRefused l q (Do (Exit region)) fault)
+
+-- it stopped for this fault within so many rounds
+abbrev pub WasStoppedWithin : Limits → ℕ → Shares → Fault → Shares → Type 0
+WasStoppedWithin l rounds p fault q = (done : ℕ) × (done < rounds) × (m : Shares) × WereRounds l done p m × WasStopped l m fault q
 
 -- it stopped after so many rounds: with no region, or in one that it could not exit
 abbrev pub HasStopped : ℕ → Shares → Shares → Type 0
@@ -54,17 +72,63 @@ HasStopped rounds p q = ((q.made ≡ p.made + 2 * rounds) × (q.allowance ≡ p.
 abbrev pub HasRounds : ℕ → Shares → Type 0
 HasRounds rounds p = (p.allowance ≡ 1) × (p.tickets ≡ 2 * rounds) × (p.made ≡ 0)
 
--- and after it, with the fault that it met
+-- what that comes to
+abbrev pub for_rounds : ℕ → Shares
+for_rounds rounds = record { allowance = 1; tickets = 2 * rounds; made = 0 }
+
+-- from these shares on it made all its rounds, or stopped for the fault that it met within them
+abbrev pub HasRun : Limits → ℕ → Option Fault → Shares → Type 0
+HasRun l rounds fault p = MatchOption fault (WereRounds l rounds (for_rounds rounds) p) (λ met. WasStoppedWithin l rounds (for_rounds rounds) met p)
+
+-- what that comes to for its shares
 pub record IsWorked (rounds : ℕ) (p : Shares) (fault : Option Fault) : Type 0 where
   pub kept : p.made + p.tickets ≡ 2 * rounds
   pub made : fault ≡ None → p.made ≡ 2 * rounds
   pub back : fault ≡ None → p.allowance ≡ 1
-  pub stopped : (done : ℕ) × HasStopped done (record { allowance = 1; tickets = 2 * rounds; made = 0 }) p
+  pub stopped : (done : ℕ) × HasStopped done (for_rounds rounds) p
 
 -- the fault of the first thread that met one
 abbrev pub first_fault : List (Option Fault) → Option Fault
 first_fault [] = None
 first_fault (fault ∷ rest) = option_or fault (first_fault rest)
+
+-- ---- all threads
+
+-- what is known of a thread behind its work: its shares, and the fault that it met
+pub record Worked : Type 0 where
+  pub shares : Shares
+  pub fault : Option Fault
+
+-- the array was mapped, and all threads worked. They met this fault, of which the first thread by number decides that
+-- met one. The shares are those that the mapping left, with all that the threads have left and made
+pub record HaveWorked (l : Limits) (threads rounds : ℕ) (p : Shares) (fault : Option Fault) (q : Shares) : Type 0 where
+  pub mapped : Shares
+  pub accepted : WasAccepted l p mapping Done mapped
+  -- in the order of their numbers
+  pub all : List Worked
+  pub count : length all ≡ threads
+  pub run : All (λ w. HasRun l rounds w.fault w.shares) all
+  pub first : first_fault (map (λ w. w.fault) all) ≡ fault
+  pub allowance : q.allowance + threads ≡ mapped.allowance + sum_by (λ w. w.shares.allowance) all
+  pub tickets : q.tickets + 2 * rounds * threads ≡ mapped.tickets + sum_by (λ w. w.shares.tickets) all
+  pub made : q.made ≡ mapped.made + sum_by (λ w. w.shares.made) all
+
+-- so many threads had got their shares when there were too few for the next one
+pub record IsShort (threads rounds : ℕ) (p : Shares) (fault : Fault) : Type 0 where
+  pub given : ℕ
+  pub fewer : given < threads
+  pub regions : given ≤ p.allowance
+  pub tickets : 2 * rounds * given ≤ p.tickets
+  pub lacks : ((p.tickets < 2 * rounds * (given + 1)) × (fault ≡ NoTickets (p.tickets - 2 * rounds * given)))
+      ⊎ ((2 * rounds * (given + 1) ≤ p.tickets) × (p.allowance ≡ given) × (fault ≡ NoAllowance 0))
+
+-- what a drill was refused for: lack of memory, or the refusal of the mapping, before anything was done; behind the
+-- mapping too few shares for the threads; or the fault of the first thread by number that met one
+abbrev pub WasCutShort : Limits → ℕ → ℕ → Shares → Fault → Shares → Type 0
+WasCutShort l threads rounds p fault q =
+    ((q ≡ p) × ((fault ≡ Memory) ⊎ WasRefused l p mapping fault))
+    ⊎ (WasAccepted l p mapping Done q × IsShort threads rounds q fault)
+    ⊎ HaveWorked l threads rounds p (Some fault) q
 
 -- ---- what is left
 
@@ -78,6 +142,7 @@ pub record IsTold (w : World) (left : Drilled) : Type 0 where
   pub structured : left.structured ≡ (array_counters w).structured
   pub dynamic : left.dynamic ≡ (array_counters w).dynamic
 
--- a table said this of it, to a caller with these shares, where there are so many regions and tickets in all
-abbrev pub WasTold : ℕ → ℕ → Shares → Drilled → Type 0
-WasTold regions tickets p left = (w : World) × IsSettled regions tickets p w × IsTold w left
+-- a table of these limits said this of it, to a caller with these shares, where there are so many regions and tickets
+-- in all
+abbrev pub WasTold : Limits → ℕ → ℕ → Shares → Drilled → Type 0
+WasTold l regions tickets p left = (w : World) × IsSettled l regions tickets p w × IsTold w left

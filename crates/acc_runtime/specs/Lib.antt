@@ -4,3 +4,4 @@ pub mod Books
 pub mod Shared
 pub mod Drills
 pub mod Outcomes
+pub mod Services

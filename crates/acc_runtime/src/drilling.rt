@@ -1,15 +1,13 @@
 //! Many threads that enter and exit data regions over one array, and what that leaves.
 
-ghost use Rattle.std.specs.Prelude.{ℕ, ◌≡◌, ◌+◌, ◌-◌, ◌*◌, ◌<◌, ◌≤◌, ◌⊎◌, length, map, All, vec_len, vec_capacity, IfOk, IfNone, OnOk, OnErr};
+ghost use Rattle.std.specs.Prelude.{ℕ, ◌≡◌, ◌+◌, ◌-◌, ◌*◌, ◌<◌, ◌≤◌, ◌⊎◌, None, map, sum_by, All, vec_len, vec_capacity, IfOk, IfErr, IfNone, OnOk, OnErr};
 ghost use Rattle.std.specs.List.{AllByRecursion};
 ghost use Rattle.acc_base.specs.declared.mappings.Range.{Range};
 ghost use Rattle.acc_base.specs.Devices.{view};
-ghost use Rattle.acc_table.specs.declared.calls.Reply.TheVariants.{Done};
-ghost use Rattle.acc_runtime.specs.Shares.{Shares};
-ghost use Rattle.acc_runtime.specs.Shared.{WasAccepted};
-ghost use Rattle.acc_runtime.specs.Drills.{array_in, mapping, WasRound, HasStopped, HasRounds, IsWorked, first_fault, IsTold, WasTold};
+ghost use Rattle.acc_runtime.specs.Drills.{array_in, WasRound, WereRounds, WasStopped, WasStoppedWithin, HasRun, HasStopped, HasRounds, IsWorked, first_fault, HaveWorked, IsShort, WasCutShort, IsTold, WasTold};
 
 use crate::callers::Caller;
+use crate::ledgers::Limited;
 use crate::lock::Runtime;
 use acc_base::{Counters, EnterClause, Fault, HOST_BASE, Item, RegionClause, Section};
 use acc_lend::Gate;
@@ -62,16 +60,17 @@ fn array_in<C: Drop>(alloc: Global, clause: C) -> Result<Vec<Item<C>>, AllocErro
 }
 
 /// Enters a region and exits from it. A region that it cannot exit stays open.
-fn make_round<Regions: Ledger, Tickets: Ledger, Events: Ledger, R: Wait + AllocGlobal>(
+fn make_round<Regions: Limited, Tickets: Ledger, Events: Ledger, R: Wait + AllocGlobal>(
     rt: &R,
     runtime: &Runtime<Regions, Tickets, Events>,
     caller: &mut Caller<Regions, Tickets, Events>,
 ) -> Result<(), Fault>
     ensures kept { caller.new.made + caller.new.tickets ≡ caller.old.made + caller.old.tickets }
-    ensures accepted { OnOk result (WasRound caller.old caller.new) }
+    ensures accepted { OnOk result (WasRound runtime.now caller.old caller.new) }
     ensures made { OnOk result (caller.new.made ≡ caller.old.made + 2) }
     ensures back { OnOk result (caller.new.allowance ≡ caller.old.allowance) }
-    ensures stopped { OnErr result (HasStopped 0 caller.old caller.new) }
+    ensures stopped { IfErr result (λ fault. WasStopped runtime.now caller.old fault caller.new) }
+    ensures shares { OnErr result (HasStopped 0 caller.old caller.new) }
 {
     let items = array_in(rt.alloc(), RegionClause::Copyin)?;
     let region = runtime.enter(rt, caller, DEVICE, items)?;
@@ -83,7 +82,8 @@ fn make_round<Regions: Ledger, Tickets: Ledger, Events: Ledger, R: Wait + AllocG
 }
 
 /// Makes so many rounds, until a fault.
-fn make_rounds<Regions: Ledger, Tickets: Ledger, Events: Ledger, R: Wait + AllocGlobal>(
+#[tactic(auto, using(crate::proofs::Rounds::one_round_more, crate::proofs::Rounds::stopped_within))]
+fn make_rounds<Regions: Limited, Tickets: Ledger, Events: Ledger, R: Wait + AllocGlobal>(
     rt: &R,
     runtime: &Runtime<Regions, Tickets, Events>,
     caller: &mut Caller<Regions, Tickets, Events>,
@@ -92,7 +92,9 @@ fn make_rounds<Regions: Ledger, Tickets: Ledger, Events: Ledger, R: Wait + Alloc
     ensures kept { caller.new.made + caller.new.tickets ≡ caller.old.made + caller.old.tickets }
     ensures made { OnOk result (caller.new.made ≡ caller.old.made + 2 * rounds) }
     ensures back { OnOk result (caller.new.allowance ≡ caller.old.allowance) }
-    ensures stopped { OnErr result ((done : ℕ) × (done < rounds) × HasStopped done caller.old caller.new) }
+    ensures accepted { OnOk result (WereRounds runtime.now rounds caller.old caller.new) }
+    ensures stopped { IfErr result (λ fault. WasStoppedWithin runtime.now rounds caller.old fault caller.new) }
+    ensures shares { OnErr result ((done : ℕ) × (done < rounds) × HasStopped done caller.old caller.new) }
 {
     for _i in 0..rounds {
         make_round(rt, runtime, caller)?;
@@ -100,7 +102,7 @@ fn make_rounds<Regions: Ledger, Tickets: Ledger, Events: Ledger, R: Wait + Alloc
     Ok(())
 }
 
-fn work<Regions: Ledger, Tickets: Ledger, Events: Ledger, R: Wait + AllocGlobal, G: Gate<R>>(
+fn work<Regions: Limited, Tickets: Ledger, Events: Ledger, R: Wait + AllocGlobal, G: Gate<R>>(
     rt: &R,
     runtime: &Runtime<Regions, Tickets, Events>,
     worker: &mut Worker<Regions, Tickets, Events>,
@@ -109,7 +111,8 @@ fn work<Regions: Ledger, Tickets: Ledger, Events: Ledger, R: Wait + AllocGlobal,
     gate: &G,
 )
     requires { HasRounds rounds worker.old.caller }
-    ensures { IsWorked rounds worker.new.caller worker.new.fault }
+    ensures run { HasRun runtime.now rounds worker.new.fault worker.new.caller }
+    ensures worked { IsWorked rounds worker.new.caller worker.new.fault }
 {
     gate.before(rt, number);
     worker.fault = make_rounds(rt, runtime, &mut worker.caller, rounds).err();
@@ -118,7 +121,7 @@ fn work<Regions: Ledger, Tickets: Ledger, Events: Ledger, R: Wait + AllocGlobal,
 
 /// Each worker in a thread of its own.
 fn work_each<
-    Regions: Ledger + Send + Sync,
+    Regions: Limited + Send + Sync,
     Tickets: Ledger + Send + Sync,
     Events: Ledger + Send + Sync,
     R: Threads + Wait + AllocGlobal + Sync,
@@ -131,7 +134,7 @@ fn work_each<
     gate: &G,
 )
     requires { All (λ w. HasRounds rounds w.caller) workers.old }
-    ensures { All (λ w. IsWorked rounds w.caller w.fault) workers.new }
+    ensures { All (λ w. HasRun runtime.now rounds w.fault w.caller × IsWorked rounds w.caller w.fault) workers.new }
 {
     let threads = workers.len();
     if threads > 0 {
@@ -146,7 +149,7 @@ fn work_each<
 
 /// All workers, each in a thread of its own.
 fn work_all<
-    Regions: Ledger + Send + Sync,
+    Regions: Limited + Send + Sync,
     Tickets: Ledger + Send + Sync,
     Events: Ledger + Send + Sync,
     R: Threads + Wait + AllocGlobal + Sync,
@@ -159,6 +162,7 @@ fn work_all<
     gate: &G,
 )
     requires { All (λ w. HasRounds rounds w.caller) workers.old.items }
+    ensures run { All (λ w. HasRun runtime.now rounds w.fault w.caller) workers.new.items }
     ensures worked { All (λ w. IsWorked rounds w.caller w.fault) workers.new.items }
     ensures len { vec_len workers.new ≡ vec_len workers.old }
 {
@@ -180,6 +184,7 @@ fn split_all<Regions: Ledger, Tickets: Ledger, Events: Ledger>(
     ensures allowance { caller.new.allowance + vec_len workers.new ≡ caller.old.allowance }
     ensures tickets { caller.new.tickets + 2 * rounds * vec_len workers.new ≡ caller.old.tickets }
     ensures made { caller.new.made ≡ caller.old.made }
+    ensures short { IfErr result (IsShort threads rounds caller.old) }
 {
     for _i in 0..threads {
         let caller = caller.split(1, 2 * rounds)?;
@@ -221,6 +226,9 @@ fn merge_all<Regions: Ledger, Tickets: Ledger, Events: Ledger>(
     ensures entered { caller.old.allowance + vec_len workers + caller.old.made ≤ caller.new.allowance + caller.new.made }
     ensures more { (caller.old.allowance ≤ caller.new.allowance) × (caller.old.made ≤ caller.new.made) }
     ensures first { result ≡ first_fault (map (λ w. w.fault) workers.items) }
+    ensures allowance { caller.new.allowance ≡ caller.old.allowance + sum_by (λ w. w.caller.allowance) workers.items }
+    ensures tickets { caller.new.tickets ≡ caller.old.tickets + sum_by (λ w. w.caller.tickets) workers.items }
+    ensures all { caller.new.made ≡ caller.old.made + sum_by (λ w. w.caller.made) workers.items }
 {
     let mut first: Option<Fault> = None;
     while let Some(worker) = workers.pop() {
@@ -253,7 +261,7 @@ fn tell(table: &Table, allowance: u64) -> Drilled
     }
 }
 
-fn look<Regions: Ledger, Tickets: Ledger, Events: Ledger, R: Wait>(
+fn look<Regions: Limited, Tickets: Ledger, Events: Ledger, R: Wait>(
     rt: &R,
     runtime: &Runtime<Regions, Tickets, Events>,
     caller: &mut Caller<Regions, Tickets, Events>,
@@ -262,7 +270,7 @@ fn look<Regions: Ledger, Tickets: Ledger, Events: Ledger, R: Wait>(
     ensures allowance { result.allowance ≡ caller.old.allowance }
     ensures events { caller.old.made + caller.old.tickets ≡ Tickets.parts → result.events ≡ caller.old.made }
     ensures idle { caller.old.allowance ≡ Regions.parts → result.structured ≡ 0 }
-    ensures told { WasTold Regions.parts Tickets.parts caller.old result }
+    ensures told { WasTold runtime.now Regions.parts Tickets.parts caller.old result }
 {
     let allowance = caller.allowance();
     runtime.look(rt, caller, |table| tell(table, allowance))
@@ -282,7 +290,7 @@ fn look<Regions: Ledger, Tickets: Ledger, Events: Ledger, R: Wait>(
 /// it is that of the first by number. It is of [`Runtime::enter`] or [`Runtime::exit`], and the thread stops there. A
 /// region that it cannot exit stays open. What was done before stays done.
 pub fn drill<
-    Regions: Ledger + Send + Sync,
+    Regions: Limited + Send + Sync,
     Tickets: Ledger + Send + Sync,
     Events: Ledger + Send + Sync,
     R: Threads + Wait + AllocGlobal + Sync,
@@ -297,17 +305,18 @@ pub fn drill<
 ) -> Result<Drilled, Fault>
     requires threads { (0 < threads) × (threads ≤ 64) }
     requires rounds { (0 < rounds) × (rounds ≤ 1000) }
-    ensures mapped { OnOk result ((q : Shares) × WasAccepted caller.old mapping Done q) }
+    ensures worked { OnOk result (HaveWorked runtime.now threads rounds caller.old None caller.new) }
     ensures made { OnOk result (caller.new.made ≡ caller.old.made + (1 + 2 * rounds * threads)) }
     ensures tickets { OnOk result (caller.new.tickets + (1 + 2 * rounds * threads) ≡ caller.old.tickets) }
     ensures allowance { IfOk result (λ left. (caller.new.allowance ≡ caller.old.allowance) × (left.allowance ≡ caller.old.allowance)) }
     ensures idle { IfOk result (λ left. caller.old.allowance ≡ Regions.parts → left.structured ≡ 0) }
     ensures events { IfOk result (λ left. caller.new.made + caller.new.tickets ≡ Tickets.parts → left.events ≡ caller.new.made) }
-    ensures told { IfOk result (WasTold Regions.parts Tickets.parts caller.new) }
+    ensures told { IfOk result (WasTold runtime.now Regions.parts Tickets.parts caller.new) }
     ensures kept { OnErr result (caller.new.made + caller.new.tickets ≡ caller.old.made + caller.old.tickets) }
     ensures short { (caller.old.allowance < threads) ⊎ (caller.old.tickets ≤ 2 * rounds * threads) → caller.new.allowance ≡ caller.old.allowance }
     ensures most { OnErr result ((caller.new.allowance ≤ caller.old.allowance) × (caller.old.allowance ≤ caller.new.allowance + threads)) }
     ensures entered { OnErr result (caller.old.allowance ≤ caller.new.allowance + (caller.new.made - (caller.old.made + 1))) }
+    ensures fault { IfErr result (λ fault. WasCutShort runtime.now threads rounds caller.old fault caller.new) }
 {
     let mut workers = Vec::with_capacity(rt.alloc(), threads)?;
     let mapped = array_in(rt.alloc(), EnterClause::Copyin)?;

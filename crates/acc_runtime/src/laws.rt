@@ -16,7 +16,7 @@ ghost use Rattle.acc_runtime.specs.Acts.{IsActed, IsDenied};
 ghost use Rattle.acc_runtime.specs.Books.{IsSettled};
 
 use crate::callers::{Caller, is_entry};
-use crate::ledgers::Blanks;
+use crate::ledgers::{Blanks, Limited};
 use crate::outcomes::{Outcome, answers_idle};
 use acc_base::{Config, Directive, Fault, Section};
 use acc_table::laws::hold;
@@ -34,6 +34,7 @@ use std::sync::ledger::{Book, Ledger, Share};
 /// - no range has both counters zero, and each counter is the count over what happened on its device;
 /// - the structured counter of a block is how often open regions of its device hold it;
 /// - each device has what its own events alone lead to, and no region is open on two devices;
+/// - its limits are those of the type of its regions' ledger;
 /// - the history is legal, and there are no more events than tickets and no more open regions than the limit says;
 /// - the allowances of all callers and the open regions make up all regions;
 /// - the tickets of all callers and the events make up all tickets;
@@ -42,7 +43,7 @@ use std::sync::ledger::{Book, Ledger, Share};
 /// Contracts see the world of the table: its limits, its history and its state. Each call is one
 /// [`act`](Locked::act).
 #[derive(Drop)]
-pub struct Locked<Regions: Ledger, Tickets: Ledger, Events: Ledger> {
+pub struct Locked<Regions: Limited, Tickets: Ledger, Events: Ledger> {
     table: Table,
     books: Books<Regions, Tickets, Events>,
 }
@@ -58,7 +59,7 @@ struct Books<Regions: Ledger, Tickets: Ledger, Events: Ledger> {
     used: Share<Tickets>,
 }
 
-impl<Regions: Ledger, Tickets: Ledger, Events: Ledger> Model for Locked<Regions, Tickets, Events> {
+impl<Regions: Limited, Tickets: Ledger, Events: Ledger> Model for Locked<Regions, Tickets, Events> {
     ghost use Rattle.std.specs.Prelude.{◌≡◌};
     ghost use Rattle.acc_base.specs.Calls.{World, event_count};
     ghost use Rattle.acc_base.specs.Devices.{open_regions};
@@ -71,6 +72,7 @@ impl<Regions: Ledger, Tickets: Ledger, Events: Ledger> Model for Locked<Regions,
 
     ghost invariant = { λ locked.
         IsLawful locked.table
+        × (locked.table.limits ≡ Regions.limits)
         × IsBooked Regions.parts Tickets.parts Events.parts (record { allowance = locked.books.allowances.total; tickets = locked.books.tickets.total; made = locked.books.made.total }) locked.table
         × (locked.books.entered.parts ≡ open_regions locked.table.state) × (locked.books.entered.amount ≡ 0)
         × (locked.books.used.parts ≡ event_count locked.table.history) × (locked.books.used.amount ≡ 0) };
@@ -103,7 +105,7 @@ fn apply(table: &mut Table, call: Call) -> Outcome
     outcome
 }
 
-impl<Regions: Ledger, Tickets: Ledger, Events: Ledger> Locked<Regions, Tickets, Events> {
+impl<Regions: Limited, Tickets: Ledger, Events: Ledger> Locked<Regions, Tickets, Events> {
     /// A new table: nothing is mapped, no region is open, and host memory is zero. And the caller that has all regions
     /// and all tickets, and made no event.
     ///
@@ -124,6 +126,7 @@ impl<Regions: Ledger, Tickets: Ledger, Events: Ledger> Locked<Regions, Tickets, 
         requires regions { (blanks.regions.name ≡ Regions.name) × (blanks.regions.parts ≡ Regions.parts) × (config.regions ≡ Regions.parts) }
         requires tickets { (blanks.tickets.name ≡ Tickets.name) × (blanks.tickets.parts ≡ Tickets.parts) × (config.tickets ≡ Tickets.parts) }
         requires events { (blanks.events.name ≡ Events.name) × (blanks.events.parts ≡ Events.parts) × (config.tickets ≡ Events.parts) }
+        requires limits { config ≡ Regions.limits }
         ensures locked { IfOk result (λ made. made.0 ≡ new_world config) }
         ensures caller { IfOk result (λ made. made.1 ≡ record { allowance = config.regions; tickets = config.tickets; made = 0 }) }
         ensures err { IfErr result (λ fault. fault ≡ Memory) }
@@ -132,16 +135,19 @@ impl<Regions: Ledger, Tickets: Ledger, Events: Ledger> Locked<Regions, Tickets, 
         Ok(open_books(table, config, blanks))
     }
 
-    /// The limits.
+    /// The limits, which the ledgers have too.
     pub fn config(&self) -> Config
-        ensures { result ≡ self.now.limits }
+        ensures value { result ≡ self.now.limits }
+        ensures limits { self.now.limits ≡ Regions.limits }
+        ensures parts { (self.now.limits.regions ≡ Regions.parts) × (self.now.limits.tickets ≡ Tickets.parts) × (self.now.limits.tickets ≡ Events.parts) }
     {
         self.table.config()
     }
 
-    /// The laws hold. Nothing is done.
+    /// The laws hold, and the limits are those of the type. Nothing is done.
     pub fn laws(&self)
-        ensures { IsLawful self.now }
+        ensures lawful { IsLawful self.now }
+        ensures limits { self.now.limits ≡ Regions.limits }
     {
         let _ = &self.table;
     }
@@ -237,7 +243,7 @@ impl<Regions: Ledger, Tickets: Ledger, Events: Ledger> Locked<Regions, Tickets, 
     #[tactic(auto, using(crate::proofs::Settling::none_anywhere))]
     pub fn settled(&mut self, caller: &mut Caller<Regions, Tickets, Events>) -> bool
         ensures same { (self.new ≡ self.old) × (caller.new ≡ caller.old) }
-        ensures tells { IsSettled Regions.parts Tickets.parts caller.old self.old }
+        ensures tells { IsSettled Regions.limits Regions.parts Tickets.parts caller.old self.old }
         ensures whole { IsTrue result ↔ caller.old.allowance ≡ self.old.limits.regions }
         ensures regions { result ≡ true → open_regions self.old.state ≡ 0 }
         ensures counters { result ≡ true → (d : ℕ) → AllByRecursion (λ (r : Range). r.structured ≡ 0) (view d self.old.state).records.ranges }
@@ -255,9 +261,9 @@ impl<Regions: Ledger, Tickets: Ledger, Events: Ledger> Locked<Regions, Tickets, 
         caller: &mut Caller<Regions, Tickets, Events>,
         look: F,
     ) -> T
-        requires { IsSettled Regions.parts Tickets.parts caller.old self.old → FnOnceTakesAt F.FnOnce look self.old }
+        requires { IsSettled Regions.limits Regions.parts Tickets.parts caller.old self.old → FnOnceTakesAt F.FnOnce look self.old }
         ensures same { (self.new ≡ self.old) × (caller.new ≡ caller.old) }
-        ensures tells { IsSettled Regions.parts Tickets.parts caller.old self.old }
+        ensures tells { IsSettled Regions.limits Regions.parts Tickets.parts caller.old self.old }
         ensures called { FnOnceReturnsAt F.FnOnce look self.old result }
     {
         self.settled(caller);
@@ -280,7 +286,7 @@ impl<Regions: Ledger, Tickets: Ledger, Events: Ledger> Locked<Regions, Tickets, 
 }
 
 /// The books of a new table, and the caller that has all shares.
-fn open_books<Regions: Ledger, Tickets: Ledger, Events: Ledger>(
+fn open_books<Regions: Limited, Tickets: Ledger, Events: Ledger>(
     table: Table,
     config: Config,
     blanks: Blanks,
@@ -292,6 +298,7 @@ fn open_books<Regions: Ledger, Tickets: Ledger, Events: Ledger>(
     requires regions { (blanks.regions.name ≡ Regions.name) × (blanks.regions.parts ≡ Regions.parts) × (config.regions ≡ Regions.parts) }
     requires tickets { (blanks.tickets.name ≡ Tickets.name) × (blanks.tickets.parts ≡ Tickets.parts) × (config.tickets ≡ Tickets.parts) }
     requires events { (blanks.events.name ≡ Events.name) × (blanks.events.parts ≡ Events.parts) × (config.tickets ≡ Events.parts) }
+    requires limits { config ≡ Regions.limits }
     ensures locked { result.0 ≡ new_world config }
     ensures caller { result.1 ≡ record { allowance = config.regions; tickets = config.tickets; made = 0 } }
 {

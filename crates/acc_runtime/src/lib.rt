@@ -14,7 +14,7 @@
 //!
 //! ```
 //! use acc_base::{Config, EnterClause, Fault, HOST_BASE, Item, Section};
-//! use acc_runtime::{Blanks, Caller, Runtime, blanks};
+//! use acc_runtime::{Blanks, Caller, Limited, Runtime, blanks};
 //! use std::alloc::Global;
 //! use std::marker::Brand;
 //! use std::sync::Wait;
@@ -22,7 +22,7 @@
 //! use std::thread::{Threads, join};
 //!
 //! /// Maps the first 16 bytes of host memory, or counts their mapping once more, and gives its caller back.
-//! fn map<Regions: Ledger, Tickets: Ledger, Events: Ledger, R: Wait + AllocGlobal>(
+//! fn map<Regions: Limited, Tickets: Ledger, Events: Ledger, R: Wait + AllocGlobal>(
 //!     rt: &R,
 //!     runtime: &Runtime<Regions, Tickets, Events>,
 //!     mut caller: Caller<Regions, Tickets, Events>,
@@ -52,7 +52,7 @@
 //!
 //! /// Two threads map the same bytes, each with a ticket. Answers how many bytes of the device are in use then.
 //! fn map_twice<
-//!     Regions: Ledger + Send + Sync,
+//!     Regions: Limited + Send + Sync,
 //!     Tickets: Ledger + Send + Sync,
 //!     Events: Ledger + Send + Sync,
 //!     R: Threads + Wait + AllocGlobal + Sync,
@@ -75,7 +75,7 @@
 //!
 //! /// A runtime for three ledgers, whose blanks are those of the configuration.
 //! fn on_new_runtime<
-//!     Regions: Ledger + Send + Sync,
+//!     Regions: Limited + Send + Sync,
 //!     Tickets: Ledger + Send + Sync,
 //!     Events: Ledger + Send + Sync,
 //!     R: Threads + Wait + AllocGlobal + Sync,
@@ -83,6 +83,7 @@
 //!     requires regions { (blanks.regions.name ≡ Regions.name) × (blanks.regions.parts ≡ Regions.parts) × (config.regions ≡ Regions.parts) }
 //!     requires tickets { (blanks.tickets.name ≡ Tickets.name) × (blanks.tickets.parts ≡ Tickets.parts) × (config.tickets ≡ Tickets.parts) }
 //!     requires events { (blanks.events.name ≡ Events.name) × (blanks.events.parts ≡ Events.parts) × (config.tickets ≡ Events.parts) }
+//!     requires limits { config ≡ Regions.limits }
 //! {
 //!     let (runtime, caller) = Runtime::<Regions, Tickets, Events>::new(rt, config, blanks)?;
 //!     map_twice(rt, &runtime, caller)
@@ -96,26 +97,27 @@
 //! }
 //!
 //! ```
-//! The proof file of the call with `Brand` picks the ledger of each blank, as for `Regions` in
+//! The proof file of the call with `Brand` picks the ledger of each blank and the limits, as for `Regions` in
 //! `proofs/used_by_two/Invariants.antt`:
 //!
 //! ```text
 //! abbrev pub ghosts-on_new_runtime-Regions-Ledger : goal.ghosts-on_new_runtime-Regions-Ledger
 //! ghosts-on_new_runtime-Regions-Ledger a = record { name = a.blanks.regions.name; parts = a.blanks.regions.parts }
+//!
+//! abbrev pub ghosts-on_new_runtime-Regions-Limited : goal.ghosts-on_new_runtime-Regions-Limited
+//! ghosts-on_new_runtime-Regions-Limited a = record { limits = a.config }
 //! ```
 //!
 //! A function that hands a runtime and a caller to another thread needs one too. Here it is
 //! `proofs/map_twice/Answers.antt`, with the name of the crate in place of `example`:
 //!
 //! ```text
-//! use denote.Param.Send.{sendable}
-//! use Rattle.std.proofs.Crossing.{crosses}
-//! use Rattle.acc_runtime.proofs.Crossing.{runtime_sync}
+//! use Rattle.acc_runtime.proofs.Crossing.{sharing}
 //! use Rattle.acc_runtime.proofs.callers.Caller.TheSendSync.{the_send as caller_send}
 //! use Rattle.example.proofs.map_twice.Goals as goal
 //!
 //! pub join-first-requires-send-F : goal.join-first-requires-send-F
-//! join-first-requires-send-F g c κs within = search (sendable, crosses, runtime_sync, caller_send) depth 40 fits 10000
+//! join-first-requires-send-F g c κs within = search (sharing, caller_send) depth 40 fits 10000
 //! ```
 #![tactic(auto)]
 
@@ -134,7 +136,7 @@ mod serving;
 pub use acc_lend::{Gate, Lease, Open};
 pub use callers::Caller;
 pub use drilling::{Drilled, drill};
-pub use ledgers::Blanks;
+pub use ledgers::{Blanks, Limited};
 pub use lock::Runtime;
 pub use regions::Region;
 pub use runtime::blanks;

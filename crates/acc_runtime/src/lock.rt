@@ -3,6 +3,7 @@
 ghost use Rattle.std.specs.Prelude.{◌≡◌};
 
 use crate::laws::Locked;
+use crate::ledgers::Limited;
 use acc_base::Config;
 use std::marker::Model;
 use std::sync::ledger::Ledger;
@@ -16,25 +17,29 @@ use std::sync::{Mutex, MutexGuard, Wait};
 /// held, memory is allocated for what the table keeps of an event. The bytes of a host write that a counted trace does
 /// not keep are freed then too. Whenever it is free, the laws of [`Locked`] hold of the table.
 ///
-/// Which table a call meets is up to the threads. So contracts say that it met one of which the laws hold, and what
-/// came of the call there. They see a runtime as its limits.
+/// Which table a call meets is up to the threads. So contracts say that it met one of these limits of which the laws
+/// hold, and what came of the call there. They see a runtime as its limits.
 #[derive(Drop)]
-pub struct Runtime<Regions: Ledger, Tickets: Ledger, Events: Ledger> {
+pub struct Runtime<Regions: Limited, Tickets: Ledger, Events: Ledger> {
     lock: Mutex<Locked<Regions, Tickets, Events>>,
     // A copy of the table's, to be read without the lock.
     config: Config,
 }
 
-impl<Regions: Ledger, Tickets: Ledger, Events: Ledger> Model for Runtime<Regions, Tickets, Events> {
+impl<Regions: Limited, Tickets: Ledger, Events: Ledger> Model
+    for Runtime<Regions, Tickets, Events> {
     ghost use Rattle.acc_base.specs.Limits.{Limits};
+    ghost use Rattle.acc_runtime.specs.Books.{IsTyped};
 
     ghost Value = { Limits };
 
     ghost view = { λ runtime. runtime.config };
+
+    ghost invariant = { λ runtime. IsTyped Regions.limits Regions.parts Tickets.parts Events.parts runtime.config };
 }
 
-impl<Regions: Ledger, Tickets: Ledger, Events: Ledger> Runtime<Regions, Tickets, Events> {
-    /// The runtime of a table. Nothing else makes one, so its limits are those of the table that it guards.
+impl<Regions: Limited, Tickets: Ledger, Events: Ledger> Runtime<Regions, Tickets, Events> {
+    /// The runtime of a table.
     pub(crate) fn of(locked: Locked<Regions, Tickets, Events>) -> Runtime<Regions, Tickets, Events>
         ensures { result ≡ locked.limits }
     {
@@ -43,15 +48,19 @@ impl<Regions: Ledger, Tickets: Ledger, Events: Ledger> Runtime<Regions, Tickets,
         Runtime { lock, config }
     }
 
-    /// The limits.
+    /// The limits, which are those of the table behind the lock, and of the ledgers.
     pub fn config(&self) -> Config
-        ensures { result ≡ self.now }
+        ensures value { result ≡ self.now }
+        ensures limits { self.now ≡ Regions.limits }
+        ensures parts { (self.now.regions ≡ Regions.parts) × (self.now.tickets ≡ Tickets.parts) × (self.now.tickets ≡ Events.parts) }
     {
         self.config
     }
 
     /// The table, as soon as the lock is free.
-    pub(crate) fn lock<R: Wait>(&self, rt: &R) -> MutexGuard<'_, Locked<Regions, Tickets, Events>> {
+    pub(crate) fn lock<R: Wait>(&self, rt: &R) -> MutexGuard<'_, Locked<Regions, Tickets, Events>>
+        ensures { self.now ≡ Regions.limits }
+    {
         self.lock.lock(rt)
     }
 }

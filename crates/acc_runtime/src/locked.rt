@@ -11,6 +11,7 @@ ghost use Rattle.acc_runtime.specs.Acts.{IsActed, IsDenied};
 use crate::callers::Caller;
 use crate::calls;
 use crate::laws::Locked;
+use crate::ledgers::Limited;
 use crate::outcomes::{done, drained, entered, exited, gathered, leased, stepped};
 use crate::regions::Region;
 use acc_base::{EnterClause, ExitClause, Fault, Item, RegionClause, Section, UpdateClause};
@@ -18,7 +19,7 @@ use acc_lend::Lease;
 use acc_table::Call;
 use std::sync::ledger::Ledger;
 
-impl<Regions: Ledger, Tickets: Ledger, Events: Ledger> Locked<Regions, Tickets, Events> {
+impl<Regions: Limited, Tickets: Ledger, Events: Ledger> Locked<Regions, Tickets, Events> {
     /// Enters a data region on a device (OpenACC 3.3, section 2.6.5, data construct).
     ///
     /// # Errors

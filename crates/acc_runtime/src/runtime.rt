@@ -15,7 +15,7 @@ ghost use Rattle.acc_runtime.specs.Shared.{WasAccepted, WasRefused, WasRead, Was
 use crate::callers::Caller;
 use crate::calls;
 use crate::laws::Locked;
-use crate::ledgers::Blanks;
+use crate::ledgers::{Blanks, Limited};
 use crate::lock::Runtime;
 use crate::outcomes::{Outcome, done, drained, entered, exited, gathered, leased, stepped};
 use crate::regions::Region;
@@ -27,7 +27,7 @@ use acc_table::{Call, Folded, Table};
 use std::sync::Wait;
 use std::sync::ledger::{Blank, Ledger};
 
-impl<Regions: Ledger, Tickets: Ledger, Events: Ledger> Runtime<Regions, Tickets, Events> {
+impl<Regions: Limited, Tickets: Ledger, Events: Ledger> Runtime<Regions, Tickets, Events> {
     /// A runtime with a new table: nothing is mapped, no region is open, and host memory is zero. And its first caller,
     /// which has all regions and all tickets, and made no event. The blanks are those that [`blanks`] makes of the same
     /// configuration, each for the ledger whose type stands for it.
@@ -49,6 +49,7 @@ impl<Regions: Ledger, Tickets: Ledger, Events: Ledger> Runtime<Regions, Tickets,
         requires regions { (blanks.regions.name ≡ Regions.name) × (blanks.regions.parts ≡ Regions.parts) × (config.regions ≡ Regions.parts) }
         requires tickets { (blanks.tickets.name ≡ Tickets.name) × (blanks.tickets.parts ≡ Tickets.parts) × (config.tickets ≡ Tickets.parts) }
         requires events { (blanks.events.name ≡ Events.name) × (blanks.events.parts ≡ Events.parts) × (config.tickets ≡ Events.parts) }
+        requires limits { config ≡ Regions.limits }
         ensures runtime { IfOk result (λ made. made.0 ≡ config) }
         ensures caller { IfOk result (λ made. made.1 ≡ record { allowance = config.regions; tickets = config.tickets; made = 0 }) }
         ensures err { IfErr result (λ fault. fault ≡ Memory) }
@@ -64,9 +65,9 @@ impl<Regions: Ledger, Tickets: Ledger, Events: Ledger> Runtime<Regions, Tickets,
         caller: &mut Caller<Regions, Tickets, Events>,
         call: Call,
     ) -> Outcome
-        ensures accepted { IfOk result (λ reply. WasAccepted caller.old call reply caller.new) }
+        ensures accepted { IfOk result (λ reply. WasAccepted self.now caller.old call reply caller.new) }
         ensures reply { IfOk result (IsReplyTo call) }
-        ensures refused { IfErr result (λ back. WasRefused caller.old call back.1) }
+        ensures refused { IfErr result (λ back. WasRefused self.now caller.old call back.1) }
         ensures same { IfErr result (λ back. (back.0 ≡ call) × (caller.new ≡ caller.old)) }
     {
         let mut locked = self.lock(rt);
@@ -88,8 +89,8 @@ impl<Regions: Ledger, Tickets: Ledger, Events: Ledger> Runtime<Regions, Tickets,
         device: u64,
         items: Vec<Item<RegionClause>>,
     ) -> Result<Region, Fault>
-        ensures accepted { IfOk result (λ region. WasAccepted caller.old (Do (Enter device items.items)) (Entered region) caller.new) }
-        ensures refused { IfErr result (WasRefused caller.old (Do (Enter device items.items))) }
+        ensures accepted { IfOk result (λ region. WasAccepted self.now caller.old (Do (Enter device items.items)) (Entered region) caller.new) }
+        ensures refused { IfErr result (WasRefused self.now caller.old (Do (Enter device items.items))) }
         ensures same { OnErr result (caller.new ≡ caller.old) }
     {
         entered(self.act(rt, caller, calls::enter(device, items)))
@@ -106,8 +107,8 @@ impl<Regions: Ledger, Tickets: Ledger, Events: Ledger> Runtime<Regions, Tickets,
         caller: &mut Caller<Regions, Tickets, Events>,
         region: Region,
     ) -> Result<(), (Region, Fault)>
-        ensures accepted { OnOk result (WasAccepted caller.old (Do (Exit region)) Done caller.new) }
-        ensures refused { IfErr result (λ back. WasRefused caller.old (Do (Exit region)) back.1) }
+        ensures accepted { OnOk result (WasAccepted self.now caller.old (Do (Exit region)) Done caller.new) }
+        ensures refused { IfErr result (λ back. WasRefused self.now caller.old (Do (Exit region)) back.1) }
         ensures same { IfErr result (λ back. (back.0 ≡ region) × (caller.new ≡ caller.old)) }
     {
         let outcome = self.act(rt, caller, calls::exit(&region));
@@ -128,8 +129,8 @@ impl<Regions: Ledger, Tickets: Ledger, Events: Ledger> Runtime<Regions, Tickets,
         items: Vec<Item<EnterClause>>,
         queue: Option<u64>,
     ) -> Result<(), Fault>
-        ensures accepted { OnOk result (WasAccepted caller.old (Do (EnterData device items.items queue)) Done caller.new) }
-        ensures refused { IfErr result (WasRefused caller.old (Do (EnterData device items.items queue))) }
+        ensures accepted { OnOk result (WasAccepted self.now caller.old (Do (EnterData device items.items queue)) Done caller.new) }
+        ensures refused { IfErr result (WasRefused self.now caller.old (Do (EnterData device items.items queue))) }
         ensures same { OnErr result (caller.new ≡ caller.old) }
     {
         done(self.act(rt, caller, calls::enter_data(device, items, queue)))
@@ -150,8 +151,8 @@ impl<Regions: Ledger, Tickets: Ledger, Events: Ledger> Runtime<Regions, Tickets,
         finalize: bool,
         queue: Option<u64>,
     ) -> Result<(), Fault>
-        ensures accepted { OnOk result (WasAccepted caller.old (Do (ExitData device items.items finalize queue)) Done caller.new) }
-        ensures refused { IfErr result (WasRefused caller.old (Do (ExitData device items.items finalize queue))) }
+        ensures accepted { OnOk result (WasAccepted self.now caller.old (Do (ExitData device items.items finalize queue)) Done caller.new) }
+        ensures refused { IfErr result (WasRefused self.now caller.old (Do (ExitData device items.items finalize queue))) }
         ensures same { OnErr result (caller.new ≡ caller.old) }
     {
         done(self.act(rt, caller, calls::exit_data(device, items, finalize, queue)))
@@ -172,8 +173,8 @@ impl<Regions: Ledger, Tickets: Ledger, Events: Ledger> Runtime<Regions, Tickets,
         if_present: bool,
         queue: Option<u64>,
     ) -> Result<(), Fault>
-        ensures accepted { OnOk result (WasAccepted caller.old (Do (Update device items.items if_present queue)) Done caller.new) }
-        ensures refused { IfErr result (WasRefused caller.old (Do (Update device items.items if_present queue))) }
+        ensures accepted { OnOk result (WasAccepted self.now caller.old (Do (Update device items.items if_present queue)) Done caller.new) }
+        ensures refused { IfErr result (WasRefused self.now caller.old (Do (Update device items.items if_present queue))) }
         ensures same { OnErr result (caller.new ≡ caller.old) }
     {
         done(self.act(rt, caller, calls::update(device, items, if_present, queue)))
@@ -192,8 +193,8 @@ impl<Regions: Ledger, Tickets: Ledger, Events: Ledger> Runtime<Regions, Tickets,
         device: u64,
         queue: Option<u64>,
     ) -> Result<u64, Fault>
-        ensures accepted { IfOk result (λ count. WasAccepted caller.old (Do (WaitFor device queue)) (Drained count) caller.new) }
-        ensures refused { IfErr result (WasRefused caller.old (Do (WaitFor device queue))) }
+        ensures accepted { IfOk result (λ count. WasAccepted self.now caller.old (Do (WaitFor device queue)) (Drained count) caller.new) }
+        ensures refused { IfErr result (WasRefused self.now caller.old (Do (WaitFor device queue))) }
         ensures same { OnErr result (caller.new ≡ caller.old) }
     {
         drained(self.act(rt, caller, calls::wait(device, queue)))
@@ -212,8 +213,8 @@ impl<Regions: Ledger, Tickets: Ledger, Events: Ledger> Runtime<Regions, Tickets,
         device: u64,
         queue: u64,
     ) -> Result<bool, Fault>
-        ensures accepted { IfOk result (λ made. WasAccepted caller.old (Do (Step device queue)) (if made then Done else Idle) caller.new) }
-        ensures refused { IfErr result (WasRefused caller.old (Do (Step device queue))) }
+        ensures accepted { IfOk result (λ made. WasAccepted self.now caller.old (Do (Step device queue)) (if made then Done else Idle) caller.new) }
+        ensures refused { IfErr result (WasRefused self.now caller.old (Do (Step device queue))) }
         ensures same { OnErr result (caller.new ≡ caller.old) }
     {
         stepped(self.act(rt, caller, calls::step(device, queue)))
@@ -231,8 +232,8 @@ impl<Regions: Ledger, Tickets: Ledger, Events: Ledger> Runtime<Regions, Tickets,
         addr: u64,
         bytes: Vec<u8>,
     ) -> Result<(), Fault>
-        ensures accepted { OnOk result (WasAccepted caller.old (HostWrite addr bytes.items) Done caller.new) }
-        ensures refused { IfErr result (WasRefused caller.old (HostWrite addr bytes.items)) }
+        ensures accepted { OnOk result (WasAccepted self.now caller.old (HostWrite addr bytes.items) Done caller.new) }
+        ensures refused { IfErr result (WasRefused self.now caller.old (HostWrite addr bytes.items)) }
         ensures same { OnErr result (caller.new ≡ caller.old) }
     {
         done(self.act(rt, caller, calls::host_write(addr, bytes)))
@@ -251,9 +252,9 @@ impl<Regions: Ledger, Tickets: Ledger, Events: Ledger> Runtime<Regions, Tickets,
         region: &Region,
         section: Section,
     ) -> Result<Lease, Fault>
-        ensures accepted { IfOk result (λ lease. WasAccepted caller.old (Lend region.now section) (Lent lease) caller.new) }
+        ensures accepted { IfOk result (λ lease. WasAccepted self.now caller.old (Lend region.now section) (Lent lease) caller.new) }
         ensures len { IfOk result (λ lease. lease.len ≡ section.len) }
-        ensures refused { IfErr result (WasRefused caller.old (Lend region.now section)) }
+        ensures refused { IfErr result (WasRefused self.now caller.old (Lend region.now section)) }
         ensures same { OnErr result (caller.new ≡ caller.old) }
     {
         leased(self.act(rt, caller, calls::lend(region, section)))
@@ -270,8 +271,8 @@ impl<Regions: Ledger, Tickets: Ledger, Events: Ledger> Runtime<Regions, Tickets,
         caller: &mut Caller<Regions, Tickets, Events>,
         lease: Lease,
     ) -> Result<(), (Lease, Fault)>
-        ensures accepted { OnOk result (WasAccepted caller.old (Gather lease) Done caller.new) }
-        ensures refused { IfErr result (λ back. WasRefused caller.old (Gather lease) back.1) }
+        ensures accepted { OnOk result (WasAccepted self.now caller.old (Gather lease) Done caller.new) }
+        ensures refused { IfErr result (λ back. WasRefused self.now caller.old (Gather lease) back.1) }
         ensures same { IfErr result (λ back. (back.0 ≡ lease) × (caller.new ≡ caller.old)) }
     {
         gathered(self.act(rt, caller, Call::Gather(lease)))
@@ -289,31 +290,30 @@ impl<Regions: Ledger, Tickets: Ledger, Events: Ledger> Runtime<Regions, Tickets,
         section: Section,
     ) -> Result<Vec<u8>, Fault>
         ensures inside { OnOk result (in_host self.now 0 section ≡ Ok tt) }
-        ensures bytes { IfOk result (λ bytes. WasRead section bytes.items) }
+        ensures bytes { IfOk result (λ bytes. WasRead self.now section bytes.items) }
         ensures len { IfOk result (λ bytes. vec_len bytes ≡ section.len) }
         ensures err { IfErr result (λ fault. MatchResult (in_host self.now 0 section) (λ _. fault ≡ Memory) (λ outside. fault ≡ outside)) }
     {
         check_host(self.config(), section)?;
         let copy = Vec::with_capacity(rt.alloc(), section.len as usize)?;
-        match self.copied(rt, section, copy) {
-            Some(bytes) => Ok(bytes),
-            // Its host memory is as large as the limits say: so it was made. No type says so, and this way is never
-            // taken.
-            None => Err(Fault::Memory),
-        }
+        Ok(self.copied(rt, section, copy))
     }
 
     /// Copies the bytes of a section of host memory, with the lock held for no longer.
     #[tactic(auto, using(crate::proofs::Lengths::read_long))]
-    fn copied<R: Wait>(&self, rt: &R, section: Section, copy: Vec<u8>) -> Option<Vec<u8>>
+    fn copied<R: Wait>(&self, rt: &R, section: Section, copy: Vec<u8>) -> Vec<u8>
+        requires inside { in_host self.now 0 section ≡ Ok tt }
         requires empty { vec_len copy ≡ 0 }
         requires room { section.len ≤ vec_capacity copy }
-        ensures bytes { IfSome result (λ bytes. WasRead section bytes.items) }
-        ensures len { IfSome result (λ bytes. vec_len bytes ≡ section.len) }
+        ensures bytes { WasRead self.now section result.items }
+        ensures len { vec_len result ≡ section.len }
     {
         let locked = self.lock(rt);
         locked.laws();
-        locked.host_read(section, copy)
+        match locked.host_read(section, copy) {
+            Some(bytes) => bytes,
+            None => unreachable!(),
+        }
     }
 
     /// Makes what the table has its base, and returns how many events were stored, as [`Table::rebase`] does. It is no
@@ -324,7 +324,7 @@ impl<Regions: Ledger, Tickets: Ledger, Events: Ledger> Runtime<Regions, Tickets,
     ///
     /// [`Fault::Memory`] alone, and nothing changed.
     pub fn rebase<R: Wait>(&self, rt: &R) -> Result<u64, Fault>
-        ensures folded { IfOk result WasRebased }
+        ensures folded { IfOk result (WasRebased self.now) }
         ensures err { IfErr result (λ fault. fault ≡ Memory) }
     {
         Ok(self.fold(rt)?.count())
@@ -332,7 +332,7 @@ impl<Regions: Ledger, Tickets: Ledger, Events: Ledger> Runtime<Regions, Tickets,
 
     /// Makes what the table has its base, with the lock held for no longer, and returns what the table no longer needs.
     fn fold<R: Wait>(&self, rt: &R) -> Result<Folded, Fault>
-        ensures folded { IfOk result (λ folded. WasRebased (length folded.trace)) }
+        ensures folded { IfOk result (λ folded. WasRebased self.now (length folded.trace)) }
         ensures err { IfErr result (λ fault. fault ≡ Memory) }
     {
         let mut locked = self.lock(rt);
@@ -352,9 +352,9 @@ impl<Regions: Ledger, Tickets: Ledger, Events: Ledger> Runtime<Regions, Tickets,
         caller: &mut Caller<Regions, Tickets, Events>,
         look: F,
     ) -> T
-        requires { (w : World) → IsSettled Regions.parts Tickets.parts caller.old w → FnOnceTakesAt F.FnOnce look w }
+        requires { (w : World) → IsSettled self.now Regions.parts Tickets.parts caller.old w → FnOnceTakesAt F.FnOnce look w }
         ensures same { caller.new ≡ caller.old }
-        ensures called { (w : World) × IsSettled Regions.parts Tickets.parts caller.old w × FnOnceReturnsAt F.FnOnce look w result }
+        ensures called { (w : World) × IsSettled self.now Regions.parts Tickets.parts caller.old w × FnOnceReturnsAt F.FnOnce look w result }
     {
         self.lock(rt).look(caller, look)
     }

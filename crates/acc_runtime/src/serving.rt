@@ -1,15 +1,16 @@
-//! A worker that makes the transfers of the queues whose words it receives.
+//! A worker that makes the transfers of the queues whose words it gets.
 
-ghost use Rattle.std.specs.Prelude.{◌≡◌, ◌≤◌, ◌+◌, ◌⊎◌, true, false, if◌then◌else◌, IfOk, IfErr, OnErr};
-ghost use Rattle.acc_base.specs.declared.faults.Fault.{Fault as Refusal};
+ghost use Rattle.std.specs.Prelude.{ℕ, List, ◌≡◌, ◌≤◌, ◌+◌, ◌-◌, ◌^◌, min, if◌then◌else◌, IfOk, IfErr, OnErr};
+ghost use Rattle.std.specs.Iterator.{Drains, IsFinite};
 ghost use Rattle.acc_table.specs.declared.calls.Reply.TheVariants.{Done, Idle};
-ghost use Rattle.acc_runtime.specs.Shared.{WasAccepted, WasRefused, step_of};
+ghost use Rattle.acc_runtime.specs.Shared.{WasAccepted, WasRefused};
+ghost use Rattle.acc_runtime.specs.Services.{step_of, WasDrained, WasServed};
 
 use crate::callers::Caller;
+use crate::ledgers::Limited;
 use crate::lock::Runtime;
 use acc_base::{Fault, QUEUE_COUNT};
 use acc_lend::Gate;
-use crossbeam_channel::Receiver;
 use std::sync::Wait;
 use std::sync::ledger::Ledger;
 
@@ -23,14 +24,14 @@ pub struct Served {
 }
 
 /// Makes the next transfer of the queue that a word means, and returns whether there was one.
-fn step_of<Regions: Ledger, Tickets: Ledger, Events: Ledger, R: Wait>(
+fn step_of<Regions: Limited, Tickets: Ledger, Events: Ledger, R: Wait>(
     rt: &R,
     runtime: &Runtime<Regions, Tickets, Events>,
     caller: &mut Caller<Regions, Tickets, Events>,
     word: u64,
 ) -> Result<bool, Fault>
-    ensures accepted { IfOk result (λ made. WasAccepted caller.old (step_of word) (if made then Done else Idle) caller.new) }
-    ensures refused { IfErr result (WasRefused caller.old (step_of word)) }
+    ensures accepted { IfOk result (λ made. WasAccepted runtime.now caller.old (step_of word) (if made then Done else Idle) caller.new) }
+    ensures refused { IfErr result (WasRefused runtime.now caller.old (step_of word)) }
     ensures same { OnErr result (caller.new ≡ caller.old) }
 {
     runtime.step(rt, caller, word / QUEUE_COUNT, word % QUEUE_COUNT)
@@ -38,7 +39,8 @@ fn step_of<Regions: Ledger, Tickets: Ledger, Events: Ledger, R: Wait>(
 
 /// Steps until the queue is empty, a step is refused, or as many are made as a queue may have. So a queue that is
 /// filled meanwhile keeps no word waiting. It returns whether a step was refused.
-fn drain<Regions: Ledger, Tickets: Ledger, Events: Ledger, R: Wait>(
+#[tactic(auto, using(crate::proofs::Stepping::stepped_more, crate::proofs::Stepping::drained_empty, crate::proofs::Stepping::drained_full, crate::proofs::Stepping::drained_refused))]
+fn drain<Regions: Limited, Tickets: Ledger, Events: Ledger, R: Wait>(
     rt: &R,
     runtime: &Runtime<Regions, Tickets, Events>,
     caller: &mut Caller<Regions, Tickets, Events>,
@@ -47,9 +49,7 @@ fn drain<Regions: Ledger, Tickets: Ledger, Events: Ledger, R: Wait>(
     ensures events { caller.new.made + caller.new.tickets ≡ caller.old.made + caller.old.tickets }
     ensures more { caller.old.made ≤ caller.new.made }
     ensures allowance { caller.new.allowance ≡ caller.old.allowance }
-    ensures most { caller.new.made ≤ caller.old.made + runtime.now.queue_cap }
-    ensures drained { result ≡ false → WasAccepted caller.new (step_of word) Idle caller.new ⊎ (caller.new.made ≡ caller.old.made + runtime.now.queue_cap) }
-    ensures refused { result ≡ true → (fault : Refusal) × WasRefused caller.new (step_of word) fault }
+    ensures drained { WasDrained runtime.now word result caller.old caller.new }
 {
     for _i in 0..runtime.config().queue_cap() {
         match step_of(rt, runtime, caller, word) {
@@ -61,20 +61,31 @@ fn drain<Regions: Ledger, Tickets: Ledger, Events: Ledger, R: Wait>(
     false
 }
 
-/// Makes the transfers of each queue whose word is received, until the channel is closed (OpenACC 3.3, section 2.16,
+/// Makes the transfers of the queue of each word that comes, until no more come (OpenACC 3.3, section 2.16,
 /// asynchronous behavior). The word `w` means queue `w % 16` of device `w / 16`. A queue is stepped until it is empty,
 /// a step is refused, or as many are made as a queue may have. For the n-th word, counted from 0, the gate's
 /// `before(n)` and `after(n)` are called around that. The lock is free between two steps, and while the gate is called.
 ///
-/// A word of a device that is not there is a refusal, as every step is that the table or the caller's shares refuse.
-/// The words behind it are served too. The numbers for the gate end at `usize::MAX`, which all later words get.
-pub fn serve<Regions: Ledger, Tickets: Ledger, Events: Ledger, R: Wait, G: Gate<R>>(
+/// The words may be those that a channel receives, until it is closed: `serve` waits for them as their iterator does. A
+/// word of a device that is not there is a refusal, as every step is that the table or the caller's shares refuse. The
+/// words behind it are served too. The numbers for the gate end at `usize::MAX`, which all later words get.
+pub fn serve<
+    Regions: Limited,
+    Tickets: Ledger,
+    Events: Ledger,
+    R: Wait,
+    W: Iterator<Item = u64>,
+    G: Gate<R>,
+>(
     rt: &R,
     runtime: &Runtime<Regions, Tickets, Events>,
     caller: &mut Caller<Regions, Tickets, Events>,
-    bells: Receiver<u64>,
+    words: W,
     gate: &G,
 ) -> Served
+    requires can { W.can_next words }
+    requires ends { IsFinite (W.remaining words) }
+    ensures served { (all : List ℕ) × (refusals : ℕ) × Drains W.next_gives words all × WasServed runtime.now all result.steps refusals caller.old caller.new × (result.refusals ≡ min refusals (2 ^ 64 - 1)) }
     ensures steps { caller.new.made ≡ caller.old.made + result.steps }
     ensures tickets { caller.new.tickets + result.steps ≡ caller.old.tickets }
     ensures allowance { caller.new.allowance ≡ caller.old.allowance }
@@ -82,7 +93,7 @@ pub fn serve<Regions: Ledger, Tickets: Ledger, Events: Ledger, R: Wait, G: Gate<
     let before = caller.made();
     let mut number: usize = 0;
     let mut refusals: u64 = 0;
-    for word in bells.iter(rt) {
+    for word in words {
         gate.before(rt, number);
         if drain(rt, runtime, caller, word) {
             refusals = refusals.saturating_add(1);

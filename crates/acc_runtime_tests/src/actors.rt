@@ -5,7 +5,7 @@ use acc_base::{
     EnterClause, ExitClause, Fault, HOST_BASE, Item, RegionClause, Section, UpdateClause,
 };
 use acc_lend::{Add, run_one};
-use acc_runtime::{Caller, Lease, Region, Runtime};
+use acc_runtime::{Caller, Lease, Limited, Region, Runtime};
 use acc_table::Table;
 use std::alloc::{AllocError, Global};
 use std::process::Abort;
@@ -95,7 +95,7 @@ pub enum Deed {
 
 /// A caller with its runtime, and what it holds there.
 #[derive(Drop)]
-pub struct Actor<'a, Regions: Ledger, Tickets: Ledger, Events: Ledger, R> {
+pub struct Actor<'a, Regions: Limited, Tickets: Ledger, Events: Ledger, R> {
     /// The handle of the process.
     pub rt: &'a R,
     /// The runtime that its calls are made on.
@@ -129,7 +129,7 @@ fn structured_on(table: &Table, device: u64) -> u64 {
     }
 }
 
-impl<'a, Regions: Ledger, Tickets: Ledger, Events: Ledger, R: Wait + AllocGlobal> Actor<
+impl<'a, Regions: Limited, Tickets: Ledger, Events: Ledger, R: Wait + AllocGlobal> Actor<
     'a,
     Regions,
     Tickets,
@@ -330,7 +330,7 @@ impl<'a, Regions: Ledger, Tickets: Ledger, Events: Ledger, R: Wait + AllocGlobal
     }
 }
 
-impl<Regions: Ledger, Tickets: Ledger, Events: Ledger, R: Abort + Wait + AllocGlobal> Actor<
+impl<Regions: Limited, Tickets: Ledger, Events: Ledger, R: Abort + Wait + AllocGlobal> Actor<
     '_,
     Regions,
     Tickets,

@@ -5,7 +5,7 @@ use crate::lives::{MAPPED, reads};
 use crate::same;
 use crate::scenes::{Scene, again_on_a_new_runtime, on_a_new_runtime};
 use acc_base::{Config, Fault, RegionClause};
-use acc_runtime::{Drilled, Gate, Open, drill};
+use acc_runtime::{Drilled, Gate, Limited, Open, drill};
 use acc_table::Table;
 use acc_thread_tests::{Meeting, limits};
 use std::alloc::{AllocError, Global};
@@ -179,7 +179,7 @@ fn numbers(left: Result<Drilled, Fault>) -> Result<[u64; 4], Fault> {
 }
 
 impl<
-    Regions: Ledger + Send + Sync,
+    Regions: Limited + Send + Sync,
     Tickets: Ledger + Send + Sync,
     Events: Ledger + Send + Sync,
     R: Abort + Clock + Threads + Wait + AllocGlobal + Sync,

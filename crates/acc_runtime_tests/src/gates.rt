@@ -1,7 +1,7 @@
 //! A gate that looks.
 
 use acc_lend::Gate;
-use acc_runtime::{Caller, Runtime};
+use acc_runtime::{Caller, Limited, Runtime};
 use acc_table::Table;
 use std::sync::atomic::{AtomicU64, Ordering};
 use std::sync::ledger::Ledger;
@@ -9,7 +9,7 @@ use std::sync::{Mutex, Wait};
 
 /// Looks how many events there are when it is called: before and after number 0, before and after number 1, and so on.
 #[derive(Drop)]
-pub struct Watch<'a, Regions: Ledger, Tickets: Ledger, Events: Ledger> {
+pub struct Watch<'a, Regions: Limited, Tickets: Ledger, Events: Ledger> {
     runtime: &'a Runtime<Regions, Tickets, Events>,
     caller: Mutex<Caller<Regions, Tickets, Events>>,
     wanted: &'a [u64],
@@ -17,7 +17,7 @@ pub struct Watch<'a, Regions: Ledger, Tickets: Ledger, Events: Ledger> {
     calls: AtomicU64,
 }
 
-impl<'a, Regions: Ledger, Tickets: Ledger, Events: Ledger> Watch<'a, Regions, Tickets, Events> {
+impl<'a, Regions: Limited, Tickets: Ledger, Events: Ledger> Watch<'a, Regions, Tickets, Events> {
     /// A gate that finds so many events at each of its calls, and looks with this caller.
     pub fn new(
         runtime: &'a Runtime<Regions, Tickets, Events>,
@@ -54,7 +54,7 @@ impl<'a, Regions: Ledger, Tickets: Ledger, Events: Ledger> Watch<'a, Regions, Ti
     }
 }
 
-impl<R: Wait, Regions: Ledger, Tickets: Ledger, Events: Ledger> Gate<R>
+impl<R: Wait, Regions: Limited, Tickets: Ledger, Events: Ledger> Gate<R>
     for Watch<'_, Regions, Tickets, Events> {
     fn before(&self, rt: &R, n: usize) {
         self.see(rt, n.saturating_mul(2));

@@ -4,6 +4,7 @@ use crate::actors::{ARRAY, Actor, Deed};
 use crate::same;
 use crate::scenes::{Scene, again_on_a_new_runtime, on_a_new_runtime, other_limits};
 use acc_base::{Event, ExitClause, Fault, RegionClause, UpdateClause};
+use acc_runtime::Limited;
 use acc_table::Table;
 use acc_thread_tests::limits;
 use std::alloc::{AllocError, Global};
@@ -108,7 +109,7 @@ pub struct Mode {
 
 /// An actor, and what the trace has to be.
 #[derive(Drop)]
-pub struct Life<'a, 'r, Regions: Ledger, Tickets: Ledger, Events: Ledger, R> {
+pub struct Life<'a, 'r, Regions: Limited, Tickets: Ledger, Events: Ledger, R> {
     /// Who makes the calls.
     pub actor: &'a mut Actor<'r, Regions, Tickets, Events, R>,
     /// What goes with them.
@@ -171,7 +172,7 @@ fn ends(alloc: Global, table: &Table, events: u64, end: Option<&str>) -> Result<
     }
 }
 
-impl<Regions: Ledger, Tickets: Ledger, Events: Ledger, R: Abort + Wait + AllocGlobal> Life<
+impl<Regions: Limited, Tickets: Ledger, Events: Ledger, R: Abort + Wait + AllocGlobal> Life<
     '_,
     '_,
     Regions,
@@ -257,7 +258,7 @@ impl<Regions: Ledger, Tickets: Ledger, Events: Ledger, R: Abort + Wait + AllocGl
 }
 
 /// Lives the whole life, which makes 13 events, and gives all regions back.
-pub fn live<Regions: Ledger, Tickets: Ledger, Events: Ledger, R: Abort + Wait + AllocGlobal>(
+pub fn live<Regions: Limited, Tickets: Ledger, Events: Ledger, R: Abort + Wait + AllocGlobal>(
     actor: &mut Actor<Regions, Tickets, Events, R>,
     mode: Mode,
 ) -> Result<(), Fault> {

@@ -5,7 +5,7 @@ ghost use Rattle.std.specs.Prelude.{◌≡◌};
 use crate::actors::Actor;
 use crate::{drills, lives, same, serving, shares};
 use acc_base::{Config, Fault};
-use acc_runtime::{Blanks, Runtime, blanks};
+use acc_runtime::{Blanks, Limited, Runtime, blanks};
 use acc_table::Table;
 use acc_thread_tests::limits;
 use std::marker::Brand;
@@ -42,7 +42,7 @@ pub fn two_devices() -> Result<Config, Fault> {
 
 /// Plays a scene on a new runtime.
 fn play_on_new<
-    Regions: Ledger + Send + Sync,
+    Regions: Limited + Send + Sync,
     Tickets: Ledger + Send + Sync,
     Events: Ledger + Send + Sync,
     R: Abort + Clock + Threads + Wait + AllocGlobal + Sync,
@@ -50,13 +50,14 @@ fn play_on_new<
     requires regions { (blanks.regions.name ≡ Regions.name) × (blanks.regions.parts ≡ Regions.parts) × (config.regions ≡ Regions.parts) }
     requires tickets { (blanks.tickets.name ≡ Tickets.name) × (blanks.tickets.parts ≡ Tickets.parts) × (config.tickets ≡ Tickets.parts) }
     requires events { (blanks.events.name ≡ Events.name) × (blanks.events.parts ≡ Events.parts) × (config.tickets ≡ Events.parts) }
+    requires limits { config ≡ Regions.limits }
 {
     let (runtime, caller) = Runtime::<Regions, Tickets, Events>::new(rt, config, blanks)?;
     Actor::new(rt, &runtime, caller).play(scene, config)
 }
 
 impl<
-    Regions: Ledger + Send + Sync,
+    Regions: Limited + Send + Sync,
     Tickets: Ledger + Send + Sync,
     Events: Ledger + Send + Sync,
     R: Abort + Clock + Threads + Wait + AllocGlobal + Sync,

@@ -6,7 +6,7 @@ use crate::lives::{Life, MAPPED, Mode, Row};
 use crate::same;
 use crate::scenes::{Scene, again_on_a_new_runtime, on_a_new_runtime, other_limits, two_devices};
 use acc_base::{Fault, UpdateClause};
-use acc_runtime::{Open, Served, serve};
+use acc_runtime::{Limited, Open, Served, serve};
 use acc_thread_tests::{bells, limits};
 use std::process::Abort;
 use std::sync::Wait;
@@ -101,7 +101,7 @@ const TWO_DEVICES: [Service; 1] = [Service {
     ],
 }];
 
-impl<Regions: Ledger, Tickets: Ledger, Events: Ledger, R: Abort + Wait + AllocGlobal> Life<
+impl<Regions: Limited, Tickets: Ledger, Events: Ledger, R: Abort + Wait + AllocGlobal> Life<
     '_,
     '_,
     Regions,
@@ -115,7 +115,8 @@ impl<Regions: Ledger, Tickets: Ledger, Events: Ledger, R: Abort + Wait + AllocGl
             Err(_) => bells(actor.rt, actor.rt.alloc(), words)?,
             from => from?,
         };
-        Ok(serve(actor.rt, actor.runtime, &mut actor.caller, from, &Open))
+        let words = from.iter(actor.rt);
+        Ok(serve(actor.rt, actor.runtime, &mut actor.caller, words, &Open))
     }
 
     /// Serves the words, and once more where a step was refused for memory: its transfer is still there then.
@@ -138,7 +139,8 @@ impl<Regions: Ledger, Tickets: Ledger, Events: Ledger, R: Abort + Wait + AllocGl
         let actor = &mut *self.actor;
         let watch = Watch::new(actor.runtime, actor.caller.split(0, 0)?, service.events);
         let from = bells(actor.rt, actor.rt.alloc(), service.words)?;
-        let served = serve(actor.rt, actor.runtime, &mut actor.caller, from, &watch);
+        let words = from.iter(actor.rt);
+        let served = serve(actor.rt, actor.runtime, &mut actor.caller, words, &watch);
         same(actor.rt, (served, watch.saw_all()), (service.served, true));
         Ok(())
     }
@@ -159,7 +161,7 @@ impl<Regions: Ledger, Tickets: Ledger, Events: Ledger, R: Abort + Wait + AllocGl
 }
 
 /// Tells a worker the words, of one device or of two.
-pub fn ring<Regions: Ledger, Tickets: Ledger, Events: Ledger, R: Abort + Wait + AllocGlobal>(
+pub fn ring<Regions: Limited, Tickets: Ledger, Events: Ledger, R: Abort + Wait + AllocGlobal>(
     actor: &mut Actor<Regions, Tickets, Events, R>,
     retries: bool,
 ) -> Result<(), Fault> {

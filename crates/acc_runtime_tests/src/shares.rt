@@ -5,6 +5,7 @@ use crate::actors::{Actor, Deed};
 use crate::same;
 use crate::scenes::{Scene, on_a_new_runtime, two_devices};
 use acc_base::{Fault, RegionClause};
+use acc_runtime::Limited;
 use acc_thread_tests::limits;
 use std::process::Abort;
 use std::sync::Wait;
@@ -25,7 +26,7 @@ const SHARES: [(u64, u64, Result<u64, Fault>); 3] = [
 ];
 
 /// A caller with so many regions and tickets of an actor's enters, and both are merged again.
-fn enter_with<Regions: Ledger, Tickets: Ledger, Events: Ledger, R: Abort + Wait + AllocGlobal>(
+fn enter_with<Regions: Limited, Tickets: Ledger, Events: Ledger, R: Abort + Wait + AllocGlobal>(
     actor: &mut Actor<Regions, Tickets, Events, R>,
     shares: (u64, u64),
     wanted: Result<u64, Fault>,
@@ -42,7 +43,7 @@ fn enter_with<Regions: Ledger, Tickets: Ledger, Events: Ledger, R: Abort + Wait 
 /// Splits callers off, lets them be refused, and merges them. The region that is entered with shares of another caller
 /// gives its place to the one that exits.
 pub fn split_and_merge<
-    Regions: Ledger,
+    Regions: Limited,
     Tickets: Ledger,
     Events: Ledger,
     R: Abort + Wait + AllocGlobal,
@@ -84,7 +85,7 @@ const BOTH: [(Deed, Result<u64, Fault>); 13] = [
 ];
 
 /// Makes those calls. Behind them the caller has the whole allowance.
-pub fn enter_both<Regions: Ledger, Tickets: Ledger, Events: Ledger, R: Abort + Wait + AllocGlobal>(
+pub fn enter_both<Regions: Limited, Tickets: Ledger, Events: Ledger, R: Abort + Wait + AllocGlobal>(
     actor: &mut Actor<Regions, Tickets, Events, R>,
 ) -> Result<(), Fault> {
     actor.make_all(&BOTH);

@@ -3,7 +3,7 @@
 use crate::scenes::{ARRAY, Scene, leave, on_a_new_runtime, shares, state};
 use crate::{limits, same};
 use acc_base::{Fault, HOST_BASE, Item, RegionClause, Section};
-use acc_runtime::{Caller, Runtime};
+use acc_runtime::{Caller, Limited, Runtime};
 use std::alloc::{AllocError, Global};
 use std::process::Abort;
 use std::sync::Wait;
@@ -32,7 +32,7 @@ fn both(alloc: Global, thread: usize) -> Result<Vec<Item<RegionClause>>, AllocEr
     Ok(vec![in alloc; shared, own]?)
 }
 
-fn make_round<Regions: Ledger, Tickets: Ledger, Events: Ledger, R: Wait + AllocGlobal>(
+fn make_round<Regions: Limited, Tickets: Ledger, Events: Ledger, R: Wait + AllocGlobal>(
     rt: &R,
     runtime: &Runtime<Regions, Tickets, Events>,
     caller: &mut Caller<Regions, Tickets, Events>,
@@ -43,7 +43,7 @@ fn make_round<Regions: Ledger, Tickets: Ledger, Events: Ledger, R: Wait + AllocG
     leave(rt, runtime, caller, region)
 }
 
-fn make_rounds<Regions: Ledger, Tickets: Ledger, Events: Ledger, R: Wait + AllocGlobal>(
+fn make_rounds<Regions: Limited, Tickets: Ledger, Events: Ledger, R: Wait + AllocGlobal>(
     rt: &R,
     runtime: &Runtime<Regions, Tickets, Events>,
     caller: &mut Caller<Regions, Tickets, Events>,
@@ -66,7 +66,7 @@ fn split<Regions: Ledger, Tickets: Ledger, Events: Ledger>(
 }
 
 fn run_all<
-    Regions: Ledger + Send + Sync,
+    Regions: Limited + Send + Sync,
     Tickets: Ledger + Send + Sync,
     Events: Ledger + Send + Sync,
     R: Threads + Wait + AllocGlobal + Sync,
@@ -85,7 +85,7 @@ fn run_all<
 
 /// All threads make their rounds, and the table is looked at.
 pub fn run_and_look<
-    Regions: Ledger + Send + Sync,
+    Regions: Limited + Send + Sync,
     Tickets: Ledger + Send + Sync,
     Events: Ledger + Send + Sync,
     R: Abort + Threads + Wait + AllocGlobal + Sync,

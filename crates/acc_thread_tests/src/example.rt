@@ -3,7 +3,7 @@
 ghost use Rattle.std.specs.Prelude.{◌≡◌};
 
 use acc_base::{Config, EnterClause, Fault, HOST_BASE, Item, Section};
-use acc_runtime::{Blanks, Caller, Runtime, blanks};
+use acc_runtime::{Blanks, Caller, Limited, Runtime, blanks};
 use std::alloc::Global;
 use std::marker::Brand;
 use std::sync::Wait;
@@ -12,7 +12,7 @@ use std::test::Fail;
 use std::thread::{Threads, join};
 
 /// Maps the first 16 bytes of host memory, or counts their mapping once more, and gives its caller back.
-fn map<Regions: Ledger, Tickets: Ledger, Events: Ledger, R: Wait + AllocGlobal>(
+fn map<Regions: Limited, Tickets: Ledger, Events: Ledger, R: Wait + AllocGlobal>(
     rt: &R,
     runtime: &Runtime<Regions, Tickets, Events>,
     mut caller: Caller<Regions, Tickets, Events>,
@@ -42,7 +42,7 @@ fn array(alloc: Global) -> Result<Vec<Item<EnterClause>>, Fault> {
 
 /// Two threads map the same bytes, each with a ticket. Answers how many bytes of the device are in use then.
 fn map_twice<
-    Regions: Ledger + Send + Sync,
+    Regions: Limited + Send + Sync,
     Tickets: Ledger + Send + Sync,
     Events: Ledger + Send + Sync,
     R: Threads + Wait + AllocGlobal + Sync,
@@ -65,7 +65,7 @@ fn map_twice<
 
 /// A runtime for three ledgers, whose blanks are those of the configuration.
 fn on_new_runtime<
-    Regions: Ledger + Send + Sync,
+    Regions: Limited + Send + Sync,
     Tickets: Ledger + Send + Sync,
     Events: Ledger + Send + Sync,
     R: Threads + Wait + AllocGlobal + Sync,
@@ -73,6 +73,7 @@ fn on_new_runtime<
     requires regions { (blanks.regions.name ≡ Regions.name) × (blanks.regions.parts ≡ Regions.parts) × (config.regions ≡ Regions.parts) }
     requires tickets { (blanks.tickets.name ≡ Tickets.name) × (blanks.tickets.parts ≡ Tickets.parts) × (config.tickets ≡ Tickets.parts) }
     requires events { (blanks.events.name ≡ Events.name) × (blanks.events.parts ≡ Events.parts) × (config.tickets ≡ Events.parts) }
+    requires limits { config ≡ Regions.limits }
 {
     let (runtime, caller) = Runtime::<Regions, Tickets, Events>::new(rt, config, blanks)?;
     map_twice(rt, &runtime, caller)

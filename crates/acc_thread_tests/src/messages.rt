@@ -4,7 +4,7 @@ use crate::meeting::{Meeting, Numbered};
 use crate::scenes::{ARRAY, Scene, leave, list, map, on_a_new_runtime, shares, state};
 use crate::{bells, limits, same};
 use acc_base::{Fault, RegionClause, UpdateClause};
-use acc_runtime::{Caller, Gate, Region, Runtime, Served, serve};
+use acc_runtime::{Caller, Gate, Limited, Region, Runtime, Served, serve};
 use acc_table::Table;
 use std::process::Abort;
 use std::rt::Clock;
@@ -19,7 +19,7 @@ const TELLER: usize = 0;
 const TOLD: usize = 1;
 
 /// Maps the array, and writes a 7 into each place of it.
-fn map_and_write<Regions: Ledger, Tickets: Ledger, Events: Ledger, R: Wait + AllocGlobal>(
+fn map_and_write<Regions: Limited, Tickets: Ledger, Events: Ledger, R: Wait + AllocGlobal>(
     rt: &R,
     runtime: &Runtime<Regions, Tickets, Events>,
     caller: &mut Caller<Regions, Tickets, Events>,
@@ -30,7 +30,7 @@ fn map_and_write<Regions: Ledger, Tickets: Ledger, Events: Ledger, R: Wait + All
 }
 
 /// Whether each byte of the array in host memory is a 7.
-fn has_sevens<Regions: Ledger, Tickets: Ledger, Events: Ledger, R: Wait + AllocGlobal>(
+fn has_sevens<Regions: Limited, Tickets: Ledger, Events: Ledger, R: Wait + AllocGlobal>(
     rt: &R,
     runtime: &Runtime<Regions, Tickets, Events>,
 ) -> Result<bool, Fault> {
@@ -40,7 +40,7 @@ fn has_sevens<Regions: Ledger, Tickets: Ledger, Events: Ledger, R: Wait + AllocG
 
 /// Finds with a caller that has no shares, after the message, that the array is there; then one more call is refused.
 fn find_when_told<
-    Regions: Ledger,
+    Regions: Limited,
     Tickets: Ledger,
     Events: Ledger,
     R: Abort + Wait + Clock + AllocGlobal,
@@ -59,7 +59,7 @@ fn find_when_told<
 }
 
 fn do_and_tell<
-    Regions: Ledger,
+    Regions: Limited,
     Tickets: Ledger,
     Events: Ledger,
     R: Abort + Wait + Clock + AllocGlobal,
@@ -75,7 +75,7 @@ fn do_and_tell<
 
 /// One thread maps the array and writes it. The other finds that after the message.
 pub fn tell<
-    Regions: Ledger + Send + Sync,
+    Regions: Limited + Send + Sync,
     Tickets: Ledger + Send + Sync,
     Events: Ledger + Send + Sync,
     R: Abort + Clock + Threads + Wait + AllocGlobal + Sync,
@@ -104,7 +104,7 @@ fn a_thread_finds_what_another_tells_it_of(rt: HostRuntime) -> Result<(), Fail> 
 }
 
 /// Enters a region over the array, and gives its caller back.
-fn enter<Regions: Ledger, Tickets: Ledger, Events: Ledger, R: Wait + AllocGlobal>(
+fn enter<Regions: Limited, Tickets: Ledger, Events: Ledger, R: Wait + AllocGlobal>(
     rt: &R,
     runtime: &Runtime<Regions, Tickets, Events>,
     mut caller: Caller<Regions, Tickets, Events>,
@@ -117,7 +117,7 @@ fn enter<Regions: Ledger, Tickets: Ledger, Events: Ledger, R: Wait + AllocGlobal
 }
 
 /// Exits from the region that another thread entered, which gets the place.
-fn exit_entered<Regions: Ledger, Tickets: Ledger, Events: Ledger, R: Abort + Wait>(
+fn exit_entered<Regions: Limited, Tickets: Ledger, Events: Ledger, R: Abort + Wait>(
     rt: &R,
     runtime: &Runtime<Regions, Tickets, Events>,
     caller: &mut Caller<Regions, Tickets, Events>,
@@ -130,7 +130,7 @@ fn exit_entered<Regions: Ledger, Tickets: Ledger, Events: Ledger, R: Abort + Wai
 
 /// One thread enters a region, and another exits from it.
 pub fn hand_over<
-    Regions: Ledger + Send + Sync,
+    Regions: Limited + Send + Sync,
     Tickets: Ledger + Send + Sync,
     Events: Ledger + Send + Sync,
     R: Abort + Clock + Threads + Wait + AllocGlobal + Sync,
@@ -164,7 +164,7 @@ fn a_thread_exits_from_what_another_entered(rt: HostRuntime) -> Result<(), Fail>
 }
 
 /// Maps the array, of which a copy waits for each of two workers then.
-fn queue_copies<Regions: Ledger, Tickets: Ledger, Events: Ledger, R: Wait + AllocGlobal>(
+fn queue_copies<Regions: Limited, Tickets: Ledger, Events: Ledger, R: Wait + AllocGlobal>(
     rt: &R,
     runtime: &Runtime<Regions, Tickets, Events>,
     caller: &mut Caller<Regions, Tickets, Events>,
@@ -184,7 +184,7 @@ const SERVED: Served = Served {
 };
 
 /// Serves a queue under the number of a worker, who takes part in a meeting, and gives its caller back.
-fn serve_own<Regions: Ledger, Tickets: Ledger, Events: Ledger, R: Clock + Wait + AllocGlobal>(
+fn serve_own<Regions: Limited, Tickets: Ledger, Events: Ledger, R: Clock + Wait + AllocGlobal>(
     rt: &R,
     runtime: &Runtime<Regions, Tickets, Events>,
     mut caller: Caller<Regions, Tickets, Events>,
@@ -193,7 +193,7 @@ fn serve_own<Regions: Ledger, Tickets: Ledger, Events: Ledger, R: Clock + Wait +
 ) -> (Caller<Regions, Tickets, Events>, Result<Served, Fault>) {
     let gate = Numbered { meeting, number };
     let served = match bells(rt, rt.alloc(), &[3 + number as u64 % 2]) {
-        Ok(from) => Ok(serve(rt, runtime, &mut caller, from, &gate)),
+        Ok(from) => Ok(serve(rt, runtime, &mut caller, from.iter(rt), &gate)),
         Err(fault) => Err(fault),
     };
     (caller, served)
@@ -201,7 +201,7 @@ fn serve_own<Regions: Ledger, Tickets: Ledger, Events: Ledger, R: Clock + Wait +
 
 /// Both workers serve, and have to meet.
 pub fn serve_both<
-    Regions: Ledger + Send + Sync,
+    Regions: Limited + Send + Sync,
     Tickets: Ledger + Send + Sync,
     Events: Ledger + Send + Sync,
     R: Abort + Clock + Threads + Wait + AllocGlobal + Sync,

@@ -5,7 +5,7 @@ ghost use Rattle.std.specs.Prelude.{◌≡◌};
 use crate::crowd::run_and_look;
 use crate::messages::{hand_over, serve_both, tell};
 use acc_base::{Config, EnterClause, Fault, HOST_BASE, Item, Section};
-use acc_runtime::{Blanks, Caller, Region, Runtime, blanks};
+use acc_runtime::{Blanks, Caller, Limited, Region, Runtime, blanks};
 use acc_table::Table;
 use std::alloc::{AllocError, Global};
 use std::marker::Brand;
@@ -46,7 +46,7 @@ pub fn list<C: Drop>(alloc: Global, clause: C) -> Result<Vec<Item<C>>, AllocErro
 }
 
 /// Maps the array.
-pub fn map<Regions: Ledger, Tickets: Ledger, Events: Ledger, R: Wait + AllocGlobal>(
+pub fn map<Regions: Limited, Tickets: Ledger, Events: Ledger, R: Wait + AllocGlobal>(
     rt: &R,
     runtime: &Runtime<Regions, Tickets, Events>,
     caller: &mut Caller<Regions, Tickets, Events>,
@@ -56,7 +56,7 @@ pub fn map<Regions: Ledger, Tickets: Ledger, Events: Ledger, R: Wait + AllocGlob
 }
 
 /// Exits from a region, which stays open where that is refused.
-pub fn leave<Regions: Ledger, Tickets: Ledger, Events: Ledger, R: Wait>(
+pub fn leave<Regions: Limited, Tickets: Ledger, Events: Ledger, R: Wait>(
     rt: &R,
     runtime: &Runtime<Regions, Tickets, Events>,
     caller: &mut Caller<Regions, Tickets, Events>,
@@ -79,7 +79,7 @@ pub fn shares<Regions: Ledger, Tickets: Ledger, Events: Ledger>(
 }
 
 /// How many regions are open, how many events there are, and how many bytes of the device are in use.
-pub fn state<Regions: Ledger, Tickets: Ledger, Events: Ledger, R: Wait>(
+pub fn state<Regions: Limited, Tickets: Ledger, Events: Ledger, R: Wait>(
     rt: &R,
     runtime: &Runtime<Regions, Tickets, Events>,
     caller: &mut Caller<Regions, Tickets, Events>,
@@ -92,7 +92,7 @@ pub fn state<Regions: Ledger, Tickets: Ledger, Events: Ledger, R: Wait>(
 }
 
 fn play<
-    Regions: Ledger + Send + Sync,
+    Regions: Limited + Send + Sync,
     Tickets: Ledger + Send + Sync,
     Events: Ledger + Send + Sync,
     R: Abort + Clock + Threads + Wait + AllocGlobal + Sync,
@@ -112,7 +112,7 @@ fn play<
 
 /// Plays a scene on a new runtime whose ledgers have these blanks.
 fn play_on_new<
-    Regions: Ledger + Send + Sync,
+    Regions: Limited + Send + Sync,
     Tickets: Ledger + Send + Sync,
     Events: Ledger + Send + Sync,
     R: Abort + Clock + Threads + Wait + AllocGlobal + Sync,
@@ -120,6 +120,7 @@ fn play_on_new<
     requires regions { (blanks.regions.name ≡ Regions.name) × (blanks.regions.parts ≡ Regions.parts) × (config.regions ≡ Regions.parts) }
     requires tickets { (blanks.tickets.name ≡ Tickets.name) × (blanks.tickets.parts ≡ Tickets.parts) × (config.tickets ≡ Tickets.parts) }
     requires events { (blanks.events.name ≡ Events.name) × (blanks.events.parts ≡ Events.parts) × (config.tickets ≡ Events.parts) }
+    requires limits { config ≡ Regions.limits }
 {
     let (runtime, mut caller) = Runtime::<Regions, Tickets, Events>::new(rt, config, blanks)?;
     play(rt, &runtime, &mut caller, scene)

@@ -1,6 +1,7 @@
-use Rattle.std.proofs.Common.{rules, arith, ◌*◌, ap, vec_len, Some, ◌≡◌, ◌+◌, sym, ◌∙◌, map}
+use Rattle.std.proofs.Common.{rules, arith, ◌*◌, ap, vec_len, Some, ◌≡◌, ◌+◌, sym, ◌∙◌, map, sum_by}
 use Rattle.std.specs.Option.{option_or}
 use Rattle.std.proofs.lemmas.List.Elements.{All-pop}
+use Rattle.std.proofs.lemmas.List.Sums.{sum_by_push}
 use Rattle.acc_runtime.specs.Drills.{IsWorked, first_fault}
 use Rattle.acc_runtime.proofs.Faults.{first_behind, or_none_both, stopped_with}
 use Rattle.acc_runtime.proofs.drilling.merge_all.Goals as goal
@@ -22,6 +23,9 @@ loop-worker-preserved g c =
     let len : vec_len c.loop-worker.workers ≡ vec_len c.pop.new.self + 1 = search rules in
     let product = ap (λ n. 2 * c.args.rounds * n) len in
     let first : c.or-first.result ≡ option_or c.in-Some.worker.fault c.loop-worker.first = search rules in
+    let allowances = ap (sum_by (λ w. w.caller.allowance)) items ∙ sum_by_push (λ w. w.caller.allowance) c.pop.new.self.items c.in-Some.worker in
+    let all_tickets = ap (sum_by (λ w. w.caller.tickets)) items ∙ sum_by_push (λ w. w.caller.tickets) c.pop.new.self.items c.in-Some.worker in
+    let events = ap (sum_by (λ w. w.caller.made)) items ∙ sum_by_push (λ w. w.caller.made) c.pop.new.self.items c.in-Some.worker in
     record {
       worked = both.0;
       kept = omega arith;
@@ -30,6 +34,9 @@ loop-worker-preserved g c =
       most = omega arith;
       entered = omega arith;
       more = omega arith;
+      allowance = omega (arith, inv.allowance, allowances, allowance);
+      tickets = omega (arith, inv.tickets, all_tickets, tickets);
+      all = omega (arith, inv.all, events, made);
       first = rw first (sym (first_behind (λ w. w.fault) c.pop.new.self.items c.in-Some.worker c.loop-worker.first)
           ∙ ap (λ xs. option_or (first_fault (map (λ w. w.fault) xs)) c.loop-worker.first) (sym items) ∙ inv.first);
     }

@@ -1,4 +1,4 @@
-use Rattle.std.proofs.Common.{◌≡◌, ◌+◌, ◌*◌, ◌≤◌, All, map, vec_len, None}
+use Rattle.std.proofs.Common.{◌≡◌, ◌+◌, ◌*◌, ◌≤◌, All, map, sum_by, vec_len, None}
 use Rattle.std.specs.Option.{option_or}
 use Rattle.acc_runtime.specs.Drills.{IsWorked, first_fault}
 use Rattle.acc_runtime.proofs.drilling.merge_all.Given as goal
@@ -12,6 +12,9 @@ invariant-loop-worker g l = record {
   most : l.caller.allowance + vec_len l.workers ≤ l.fn.caller.allowance + vec_len l.fn.workers;
   entered : l.fn.caller.allowance + vec_len l.fn.workers + l.fn.caller.made ≤ l.caller.allowance + vec_len l.workers + l.caller.made;
   more : (l.fn.caller.allowance ≤ l.caller.allowance) × (l.fn.caller.made ≤ l.caller.made);
+  allowance : l.caller.allowance + sum_by (λ w. w.caller.allowance) l.workers.items ≡ l.fn.caller.allowance + sum_by (λ w. w.caller.allowance) l.fn.workers.items;
+  tickets : l.caller.tickets + sum_by (λ w. w.caller.tickets) l.workers.items ≡ l.fn.caller.tickets + sum_by (λ w. w.caller.tickets) l.fn.workers.items;
+  all : l.caller.made + sum_by (λ w. w.caller.made) l.workers.items ≡ l.fn.caller.made + sum_by (λ w. w.caller.made) l.fn.workers.items;
   first : option_or (first_fault (map (λ w. w.fault) l.workers.items)) l.first ≡ first_fault (map (λ w. w.fault) l.fn.workers.items);
 }
 

@@ -1,9 +1,7 @@
-use denote.Param.Send.{sendable}
-use Rattle.std.proofs.Crossing.{crosses}
-use Rattle.acc_runtime.proofs.Crossing.{runtime_sync}
+use Rattle.acc_runtime.proofs.Crossing.{sharing}
 use Rattle.acc_runtime.proofs.callers.Caller.TheSendSync.{the_send as caller_send}
 use Rattle.acc_thread_tests.proofs.meeting.Meeting.TheSendSync.{the_sync as meeting_sync}
 use Rattle.acc_thread_tests.proofs.messages.tell.Goals as goal
 
 pub join-other-requires-send-F : goal.join-other-requires-send-F
-join-other-requires-send-F g c κs within = search (sendable, crosses, runtime_sync, caller_send, meeting_sync) depth 40 fits 10000
+join-other-requires-send-F g c κs within = search (sharing, caller_send, meeting_sync) depth 40 fits 10000

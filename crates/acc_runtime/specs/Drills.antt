@@ -99,12 +99,12 @@ pub record Worked : Type 0 where
   pub shares : Shares
   pub fault : Option Fault
 
--- the array was mapped, and all threads worked. They met this fault, of which the first thread by number decides that
--- met one. The shares are those that the mapping left, with all that the threads have left and made
+-- the array was mapped, and all threads worked. In some order of them, the first that met a fault met this one. The
+-- shares are those that the mapping left, with all that the threads have left and made
 pub record HaveWorked (l : Limits) (threads rounds : ℕ) (p : Shares) (fault : Option Fault) (q : Shares) : Type 0 where
   pub mapped : Shares
   pub accepted : WasAccepted l p mapping Done mapped
-  -- in the order of their numbers
+  -- in some order
   pub all : List Worked
   pub count : length all ≡ threads
   pub run : All (λ w. HasRun l rounds w.fault w.shares) all
@@ -123,7 +123,7 @@ pub record IsShort (threads rounds : ℕ) (p : Shares) (fault : Fault) : Type 0 
       ⊎ ((2 * rounds * (given + 1) ≤ p.tickets) × (p.allowance ≡ given) × (fault ≡ NoAllowance 0))
 
 -- what a drill was refused for: lack of memory, or the refusal of the mapping, before anything was done; behind the
--- mapping too few shares for the threads; or the fault of the first thread by number that met one
+-- mapping too few shares for the threads; or a fault that one of them met
 abbrev pub WasCutShort : Limits → ℕ → ℕ → Shares → Fault → Shares → Type 0
 WasCutShort l threads rounds p fault q =
     ((q ≡ p) × ((fault ≡ Memory) ⊎ WasRefused l p mapping fault))

@@ -30,7 +30,8 @@ use std::sync::ledger::{Blank, Ledger};
 impl<Regions: Limited, Tickets: Ledger, Events: Ledger> Runtime<Regions, Tickets, Events> {
     /// A runtime with a new table: nothing is mapped, no region is open, and host memory is zero. And its first caller,
     /// which has all regions and all tickets, and made no event. The blanks are those that [`blanks`] makes of the same
-    /// configuration, each for the ledger whose type stands for it.
+    /// configuration, each for the ledger whose type stands for it. That of the regions has the configuration as its
+    /// limits ([`Limited`]).
     ///
     /// # Errors
     ///

@@ -99,11 +99,12 @@ pub record Worked : Type 0 where
   pub shares : Shares
   pub fault : Option Fault
 
--- the array was mapped, and all threads worked. In some order of them, the first that met a fault met this one. The
--- shares are those that the mapping left, with all that the threads have left and made
+-- the array was mapped, the shares sufficed for all threads, and all worked. In some order of them, the first that met a
+-- fault met this one. The shares are those that the mapping left, with all that the threads have left and made
 pub record HaveWorked (l : Limits) (threads rounds : ℕ) (p : Shares) (fault : Option Fault) (q : Shares) : Type 0 where
   pub mapped : Shares
   pub accepted : WasAccepted l p mapping Done mapped
+  pub enough : (threads ≤ mapped.allowance) × (2 * rounds * threads ≤ mapped.tickets)
   -- in some order
   pub all : List Worked
   pub count : length all ≡ threads

@@ -60,7 +60,7 @@ module _ {Thread : Type 0} (shares : Thread → Shares) (fault : Thread → Opti
   have_worked l threads rounds given p m s q met xs accepted count each regions left made ran first allowance tickets events = record {
     mapped = m;
     accepted = accepted;
-    enough = omega (arith, each, regions), omega (arith, ap (λ n. 2 * rounds * n) each, left);
+    enough = (omega (arith, each, regions), omega (arith, ap (λ n. 2 * rounds * n) each, left));
     all = map known xs;
     count = length-map xs known ∙ count;
     run = All-map (λ w. HasRun l rounds w.fault w.shares) known xs ran;

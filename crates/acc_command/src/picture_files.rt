@@ -21,7 +21,7 @@ pub struct PictureFiles<'a, 'b, D> {
 impl<D: FileStore> PictureSink for PictureFiles<'_, '_, D> {
     fn keep(&self, frame: Frame, picture: &[u8]) -> Result<(), Stop> {
         let is_written = match frame {
-            Frame::Last => self.write(self.last.unwrap_or(""), picture),
+            Frame::Last => self.files.write(self.last.unwrap_or(""), picture),
             Frame::Line(number) => self.write_numbered(number, picture)?,
         };
         if is_written {
@@ -33,15 +33,11 @@ impl<D: FileStore> PictureSink for PictureFiles<'_, '_, D> {
 }
 
 impl<D: FileStore> PictureFiles<'_, '_, D> {
-    fn write(&self, name: &str, picture: &[u8]) -> bool {
-        self.files.write(name, picture)
-    }
-
     fn write_numbered(&self, number: u64, picture: &[u8]) -> Result<bool, Fault> {
         let mut page = Page::new(self.alloc);
         put_numbered(&mut page, self.each.unwrap_or(""), number);
         let name = page.whole()?;
-        Ok(str::from_utf8(name).is_ok_and(|name| self.write(name, picture)))
+        Ok(str::from_utf8(name).is_ok_and(|name| self.files.write(name, picture)))
     }
 }
 

@@ -7,7 +7,7 @@ use crate::options::Options;
 use crate::tools::read_file;
 use acc_base::{Config, Fault};
 use acc_emit::emit;
-use acc_follow::{Page, Rows, count_rows};
+use acc_follow::{Page, RowCounts, count_rows};
 use acc_random::random_script;
 use acc_script::{Sink, Source, Status, read_all, write_all};
 use std::sync::Wait;
@@ -60,7 +60,7 @@ pub fn write_rows<'a, R: Threads + Wait + Sync + AllocGlobal, D: FileStore, O: S
     files: &D,
     out: &mut O,
 ) -> Result<Status, Mishap<'a>> {
-    let mut rows = Rows::new(rt.alloc());
+    let mut rows = RowCounts::new(rt.alloc());
     for name in names {
         let script = read_file(files, name)?;
         rows = count_rows(rt, config, &script, rows)?;

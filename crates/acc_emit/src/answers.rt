@@ -90,7 +90,7 @@ fn start_question(sheet: &mut Sheet, call: &str, section: Section) -> Result<(),
 
 fn put_length(sheet: &mut Sheet, length: u64) {
     sheet.body.text(", ");
-    sheet.put_number(length);
+    sheet.body.number(length);
 }
 
 /// Puts a question for each pointer of a section whose target is known.

@@ -9,7 +9,7 @@ use std::alloc::Global;
 
 /// A directive without its items: what stands before them, and behind them.
 #[derive(Clone, Copy)]
-pub struct Frame {
+pub struct DirectiveFrame {
     /// The words before the clauses, as `enter data`.
     pub head: &'static str,
     /// The queue of its `async` clause (OpenACC 3.3, section 2.16), if it has one.
@@ -24,7 +24,7 @@ pub struct Frame {
     pub opens: bool,
 }
 
-const REGION: Frame = Frame {
+const REGION: DirectiveFrame = DirectiveFrame {
     head: "data",
     queue: None,
     option: "",
@@ -37,7 +37,7 @@ const REGION: Frame = Frame {
 #[derive(Drop)]
 pub struct WrittenDirective {
     /// What stands before its items, and behind them.
-    pub frame: Frame,
+    pub frame: DirectiveFrame,
     /// Its items.
     pub items: Vec<Written>,
 }
@@ -81,8 +81,8 @@ pub fn written_directive(
     Ok(Some(WrittenDirective { frame, items }))
 }
 
-fn without_block(head: &'static str, queue: Option<u64>, option: &'static str) -> Frame {
-    Frame {
+fn without_block(head: &'static str, queue: Option<u64>, option: &'static str) -> DirectiveFrame {
+    DirectiveFrame {
         head,
         queue,
         option,
@@ -91,9 +91,9 @@ fn without_block(head: &'static str, queue: Option<u64>, option: &'static str) -
     }
 }
 
-fn exit_frame(queue: Option<u64>, finalize: bool) -> Frame {
+fn exit_frame(queue: Option<u64>, finalize: bool) -> DirectiveFrame {
     let option = if finalize { " finalize" } else { "" };
-    Frame {
+    DirectiveFrame {
         call: if finalize {
             "acc_detach_finalize"
         } else {
@@ -109,7 +109,11 @@ fn exit_frame(queue: Option<u64>, finalize: bool) -> Frame {
 /// # Errors
 ///
 /// `OutsideArray` alone, where no one array has the section of an item, or its pointer.
-pub fn put_directive(sheet: &mut Sheet, frame: Frame, items: &[Written]) -> Result<(), EmitFault> {
+pub fn put_directive(
+    sheet: &mut Sheet,
+    frame: DirectiveFrame,
+    items: &[Written],
+) -> Result<(), EmitFault> {
     if fit_one_directive(&sheet.names, items) {
         return put_clauses(sheet, frame, items);
     }
@@ -120,7 +124,7 @@ pub fn put_directive(sheet: &mut Sheet, frame: Frame, items: &[Written]) -> Resu
 }
 
 /// Puts an item as a directive of its own, with the call for its pointer.
-fn put_item(sheet: &mut Sheet, frame: Frame, item: Written) -> Result<(), EmitFault> {
+fn put_item(sheet: &mut Sheet, frame: DirectiveFrame, item: Written) -> Result<(), EmitFault> {
     if frame.call_first {
         put_call(sheet, frame.call, item.pointer())?;
     }
@@ -136,7 +140,7 @@ fn put_item(sheet: &mut Sheet, frame: Frame, item: Written) -> Result<(), EmitFa
 }
 
 /// Puts a comment for an item without a section, and opens its block all the same.
-fn put_passed_over(sheet: &mut Sheet, frame: Frame, item: Written) {
+fn put_passed_over(sheet: &mut Sheet, frame: DirectiveFrame, item: Written) {
     if !item.words.word.is_empty() {
         sheet.start("/* an empty section: no action */\n");
     } else if item.pointer().is_none() {
@@ -145,7 +149,11 @@ fn put_passed_over(sheet: &mut Sheet, frame: Frame, item: Written) {
     put_opening(sheet, frame);
 }
 
-fn put_clause_alone(sheet: &mut Sheet, frame: Frame, item: Written) -> Result<(), EmitFault> {
+fn put_clause_alone(
+    sheet: &mut Sheet,
+    frame: DirectiveFrame,
+    item: Written,
+) -> Result<(), EmitFault> {
     if item.words.zero {
         put_with_zero(sheet, frame, item)
     } else {
@@ -154,8 +162,8 @@ fn put_clause_alone(sheet: &mut Sheet, frame: Frame, item: Written) -> Result<()
 }
 
 /// Puts an item with the modifier `zero`. A compiler that does not know the modifier fills the block in its place.
-fn put_with_zero(sheet: &mut Sheet, frame: Frame, item: Written) -> Result<(), EmitFault> {
-    let without_block = Frame {
+fn put_with_zero(sheet: &mut Sheet, frame: DirectiveFrame, item: Written) -> Result<(), EmitFault> {
+    let without_block = DirectiveFrame {
         opens: false,
         ..frame
     };
@@ -184,12 +192,16 @@ fn put_fill(sheet: &mut Sheet, item: Written) -> Result<(), EmitFault> {
     sheet.start("fill_with_zero(");
     sheet.put_address(item.section)?;
     sheet.body.text(", ");
-    sheet.put_number(item.section.len);
+    sheet.body.number(item.section.len);
     sheet.body.text(");\n#endif\n");
     Ok(())
 }
 
-fn put_clauses(sheet: &mut Sheet, frame: Frame, items: &[Written]) -> Result<(), EmitFault> {
+fn put_clauses(
+    sheet: &mut Sheet,
+    frame: DirectiveFrame,
+    items: &[Written],
+) -> Result<(), EmitFault> {
     sheet.start("#pragma acc ");
     sheet.body.text(frame.head);
     for item in items {
@@ -202,7 +214,7 @@ fn put_clauses(sheet: &mut Sheet, frame: Frame, items: &[Written]) -> Result<(),
     Ok(())
 }
 
-fn put_opening(sheet: &mut Sheet, frame: Frame) {
+fn put_opening(sheet: &mut Sheet, frame: DirectiveFrame) {
     if frame.opens {
         sheet.open_block();
     }
@@ -222,7 +234,7 @@ fn put_clause(sheet: &mut Sheet, item: Written) -> Result<(), EmitFault> {
 fn put_queue(sheet: &mut Sheet, queue: Option<u64>) {
     if let Some(queue) = queue {
         sheet.body.text(" async(");
-        sheet.put_number(queue);
+        sheet.body.number(queue);
         sheet.body.text(")");
     }
 }
@@ -232,7 +244,7 @@ pub fn put_wait(sheet: &mut Sheet, queue: Option<u64>) {
     sheet.start("#pragma acc wait");
     if let Some(queue) = queue {
         sheet.body.text("(");
-        sheet.put_number(queue);
+        sheet.body.number(queue);
         sheet.body.text(")");
     }
     sheet.body.text("\n");

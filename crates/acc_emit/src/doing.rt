@@ -5,7 +5,7 @@ use crate::emitters::Emitter;
 use crate::faults::{EmitFault, Reason};
 use crate::items::Written;
 use crate::pointers::{pointer_section, word_at};
-use crate::regions::OpenRegion;
+use crate::regions::NestedRegion;
 use crate::twins::DEVICE;
 use crate::waits::common;
 use acc_base::{Did, Directive, Section};
@@ -50,7 +50,7 @@ pub fn emit_directive(
 pub fn put_all(emitter: &mut Emitter, written: WrittenDirective) -> Result<(), EmitFault> {
     put_directive(&mut emitter.sheet, written.frame, &written.items)?;
     if written.frame.opens {
-        let region = OpenRegion::new(&emitter.sheet, written.items);
+        let region = NestedRegion::new(&emitter.sheet, written.items);
         emitter.regions.push(region)?;
     }
     Ok(())
@@ -69,7 +69,7 @@ fn emit_end(emitter: &mut Emitter, did: &[Did]) -> Result<(), EmitFault> {
 fn note_all(emitter: &mut Emitter, queue: Option<u64>, items: &[Written]) -> Result<(), EmitFault> {
     for (nth, item) in items.iter().enumerate() {
         if item.copied_block().is_some() && has_attached(emitter, items, nth, item.section) {
-            return Err(emitter.unfit(Reason::AttachedCopied));
+            return Err(emitter.sheet.unfit(Reason::AttachedCopied));
         }
         check_ended(emitter, queue, *item)?;
         note(emitter, queue, *item)?;
@@ -103,12 +103,12 @@ fn check_attached(emitter: &Emitter, item: Written) -> Result<(), EmitFault> {
         return Ok(());
     };
     if emitter.marks.is_racing(pointer_section(place)) {
-        return Err(emitter.unfit(Reason::Unsettled));
+        return Err(emitter.sheet.unfit(Reason::Unsettled));
     }
     let target = word_at(&emitter.own.table, place, false);
     let twin = word_at(&emitter.twin.table, place, false);
     if target != twin || !emitter.marks.has_pointer(place, target) {
-        return Err(emitter.unfit(Reason::Unpointed));
+        return Err(emitter.sheet.unfit(Reason::Unpointed));
     }
     Ok(())
 }
@@ -118,7 +118,7 @@ fn check_attached(emitter: &Emitter, item: Written) -> Result<(), EmitFault> {
 fn check_ended(emitter: &Emitter, queue: Option<u64>, item: Written) -> Result<(), EmitFault> {
     match item.ended_block() {
         Some(block) if emitter.marks.waits.keep(block, queue) => {
-            Err(emitter.unfit(Reason::Unsettled))
+            Err(emitter.sheet.unfit(Reason::Unsettled))
         }
         _ => Ok(()),
     }

@@ -1,8 +1,8 @@
 //! A script that is being emitted.
 
-use crate::faults::{EmitFault, Reason};
+use crate::faults::EmitFault;
 use crate::marks::Marks;
-use crate::regions::OpenRegion;
+use crate::regions::NestedRegion;
 use crate::sheets::Sheet;
 use crate::twins::{boxed_session, twin_of};
 use acc_base::{Config, Section};
@@ -24,7 +24,7 @@ pub struct Emitter {
     /// The sections of the blocks that the last directive left without bytes.
     pub births: Vec<Section>,
     /// The open regions, the innermost last.
-    pub regions: Vec<OpenRegion>,
+    pub regions: Vec<NestedRegion>,
 }
 
 impl Emitter {
@@ -46,10 +46,5 @@ impl Emitter {
             births: Vec::new(alloc),
             regions: Vec::new(alloc),
         })
-    }
-
-    /// Returns the fault of the line that is being emitted, for a reason.
-    pub fn unfit(&self, reason: Reason) -> EmitFault {
-        self.sheet.unfit(reason)
     }
 }

@@ -9,8 +9,7 @@ use crate::sheets::Sheet;
 use crate::twins::{DEVICE, follow_on_twin, read_on};
 use crate::writes::{declare, emit_kernel, emit_write};
 use acc_base::{Config, Fault, ScriptFault, Section};
-use acc_page::{Page, statement_text};
-use acc_read::{Statement, next_line};
+use acc_read::{Page, Statement, next_line, statement_text};
 use acc_script::Effect;
 use std::alloc::Global;
 use std::sync::Wait;
@@ -65,7 +64,7 @@ fn end_at(emitter: &mut Emitter, until_refusal: bool) -> Result<(), EmitFault> {
         return Err(EmitFault::Run(Fault::Script { line, kind }));
     }
     if until_refusal {
-        return Err(emitter.unfit(Reason::NothingRefused));
+        return Err(emitter.sheet.unfit(Reason::NothingRefused));
     }
     Ok(())
 }
@@ -97,7 +96,7 @@ fn put_statement(sheet: &mut Sheet, line: &[u8]) {
     if !text.is_empty() {
         let number = sheet.line;
         sheet.start("/* ");
-        sheet.put_number(number);
+        sheet.body.number(number);
         sheet.body.text(": ");
         sheet.body.bytes(text);
         sheet.body.text(" */\n");
@@ -117,7 +116,7 @@ fn emit_statement(
         Statement::Declare { name, array } => declare(alloc, &mut emitter.sheet, name, *array),
         Statement::Direct(directive) => emit_directive(alloc, emitter, directive),
         Statement::Select(device) if *device == DEVICE => Ok(()),
-        Statement::Select(_) => Err(emitter.unfit(Reason::OtherDevice)),
+        Statement::Select(_) => Err(emitter.sheet.unfit(Reason::OtherDevice)),
         Statement::Kernel {
             kernel,
             section,

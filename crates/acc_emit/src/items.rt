@@ -3,7 +3,7 @@
 use acc_base::{
     Aim, Did, EnterClause, ExitClause, Fault, Item, RegionClause, Section, Step, UpdateClause,
 };
-use acc_page::Names;
+use acc_read::Names;
 use std::alloc::Global;
 
 /// The word of a clause, and its modifier.
@@ -16,7 +16,7 @@ pub struct Words {
 }
 
 /// A clause of a directive, as C writes it.
-pub trait Clause: Copy {
+pub trait WrittenClause: Copy {
     /// Returns its word and its modifier.
     fn words(self) -> Words;
 }
@@ -25,7 +25,7 @@ fn plain(word: &'static str) -> Words {
     Words { word, zero: false }
 }
 
-impl Clause for RegionClause {
+impl WrittenClause for RegionClause {
     fn words(self) -> Words {
         match self {
             RegionClause::Copy => plain("copy"),
@@ -45,7 +45,7 @@ impl Clause for RegionClause {
     }
 }
 
-impl Clause for EnterClause {
+impl WrittenClause for EnterClause {
     fn words(self) -> Words {
         match self {
             EnterClause::Copyin => plain("copyin"),
@@ -58,7 +58,7 @@ impl Clause for EnterClause {
     }
 }
 
-impl Clause for ExitClause {
+impl WrittenClause for ExitClause {
     fn words(self) -> Words {
         plain(match self {
             ExitClause::Copyout => "copyout",
@@ -68,7 +68,7 @@ impl Clause for ExitClause {
     }
 }
 
-impl Clause for UpdateClause {
+impl WrittenClause for UpdateClause {
     fn words(self) -> Words {
         plain(match self {
             UpdateClause::ToSelf => "self",
@@ -93,7 +93,7 @@ pub struct Written {
 /// # Errors
 ///
 /// [`Fault::Memory`] alone.
-pub fn written_items<C: Clause>(
+pub fn written_items<C: WrittenClause>(
     alloc: Global,
     items: &[Item<C>],
     did: &[Did],

@@ -40,7 +40,7 @@ fn put_loop(
         }
         None => sheet.body.text("i + "),
     }
-    sheet.put_number(u64::from(number));
+    sheet.body.number(u64::from(number));
     sheet.body.text(");\n");
     Ok(())
 }
@@ -53,7 +53,7 @@ fn put_plus(sheet: &mut Sheet, source: Section, section: Section) -> Result<(), 
     put_source(sheet, source, count)?;
     put_start(sheet, section)?;
     sheet.body.text(" copyin(bytes[0:");
-    sheet.put_number(count);
+    sheet.body.number(count);
     sheet.body.text("])\n");
     put_for(sheet, count);
     put_target(sheet, section)?;
@@ -71,7 +71,7 @@ fn put_source(sheet: &mut Sheet, source: Section, count: u64) -> Result<(), Emit
         len: count,
     })?;
     sheet.body.text(", ");
-    sheet.put_number(count);
+    sheet.body.number(count);
     sheet.body.text(");\n");
     Ok(())
 }
@@ -85,7 +85,7 @@ fn put_start(sheet: &mut Sheet, section: Section) -> Result<(), EmitFault> {
 
 fn put_for(sheet: &mut Sheet, count: u64) {
     sheet.start("for (int i = 0; i < ");
-    sheet.put_number(count);
+    sheet.body.number(count);
     sheet.body.text("; i++)\n");
 }
 

@@ -23,10 +23,10 @@ pub fn emit_refused(
     until_refusal: bool,
 ) -> Result<(), EmitFault> {
     if !until_refusal {
-        return Err(emitter.unfit(Reason::Refused));
+        return Err(emitter.sheet.unfit(Reason::Refused));
     }
     if !is_of_openacc(fault) {
-        return Err(emitter.unfit(Reason::Limit));
+        return Err(emitter.sheet.unfit(Reason::Limit));
     }
     emitter.sheet.start("expect_failure();\n");
     put_refused(alloc, emitter, statement)?;
@@ -55,13 +55,13 @@ fn put_refused(
     match statement {
         Statement::Direct(directive) => match written_directive(alloc, directive, &[])? {
             Some(written) => put_all(emitter, written),
-            None => Err(emitter.unfit(Reason::Limit)),
+            None => Err(emitter.sheet.unfit(Reason::Limit)),
         },
         Statement::Kernel {
             kernel,
             section,
             ..
         } => put_kernel(&mut emitter.sheet, *kernel, *section),
-        _ => Err(emitter.unfit(Reason::Limit)),
+        _ => Err(emitter.sheet.unfit(Reason::Limit)),
     }
 }

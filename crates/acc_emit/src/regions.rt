@@ -8,17 +8,17 @@ use acc_base::Did;
 
 /// An open data region.
 #[derive(Drop)]
-pub struct OpenRegion {
+pub struct NestedRegion {
     /// The items of its start; from the last to the first, once they are undone.
     pub items: Vec<Written>,
     /// Whether it is one directive, with one block; else each item has a block of its own.
     is_one: bool,
 }
 
-impl OpenRegion {
+impl NestedRegion {
     /// Returns a region with these items.
-    pub fn new(sheet: &Sheet, items: Vec<Written>) -> OpenRegion {
-        OpenRegion {
+    pub fn new(sheet: &Sheet, items: Vec<Written>) -> NestedRegion {
+        NestedRegion {
             is_one: fit_one_directive(&sheet.names, &items),
             items,
         }

@@ -2,7 +2,7 @@
 
 use crate::faults::{EmitFault, Reason};
 use acc_base::{Fault, Section};
-use acc_page::{Names, Page, Spot};
+use acc_read::{Names, Page, Spot};
 use std::alloc::Global;
 use std::fmt::Write;
 
@@ -77,11 +77,6 @@ impl Sheet {
     pub fn close_block(&mut self) {
         self.depth = self.depth.saturating_sub(1);
         self.start("}\n");
-    }
-
-    /// Puts a number in decimal digits.
-    pub fn put_number(&mut self, number: u64) {
-        let _ = write!(self.body, "{number}");
     }
 
     /// Puts a section as a subarray of C, `a_[0:16]`, or as the whole array, `a_`.

@@ -86,7 +86,7 @@ pub fn follow_on_twin<R: Threads + Wait + Sync + AllocGlobal>(
     statement: Statement<'_>,
 ) -> Result<(), EmitFault> {
     if emitter.twin.perform(rt, statement)?.is_refused() {
-        return Err(emitter.unfit(Reason::Unsettled));
+        return Err(emitter.sheet.unfit(Reason::Unsettled));
     }
     let Emitter { twin, births, .. } = emitter;
     for section in births.iter() {

@@ -5,7 +5,7 @@ use std::alloc::{AllocError, Global};
 
 /// A copy that waits in a queue.
 #[derive(Clone, Copy)]
-struct Waiting {
+struct WaitingCopy {
     queue: u64,
     block: u64,
     section: Section,
@@ -17,7 +17,7 @@ struct Waiting {
 /// same bytes meanwhile, and is not in the same queue, may come before them or behind them.
 #[derive(Drop)]
 pub struct Waits {
-    all: Vec<Waiting>,
+    all: Vec<WaitingCopy>,
 }
 
 impl Waits {
@@ -34,7 +34,7 @@ impl Waits {
     ///
     /// [`AllocError`] where there is no memory. Nothing is noted then.
     pub fn put(&mut self, queue: u64, block: u64, section: Section) -> Result<(), AllocError> {
-        self.all.push(Waiting {
+        self.all.push(WaitingCopy {
             queue,
             block,
             section,

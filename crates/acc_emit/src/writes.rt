@@ -69,7 +69,7 @@ fn put_write(sheet: &mut Sheet, section: Section, bytes: &[u8]) -> Result<(), Em
         sheet.body.digits(&[*byte]);
     }
     sheet.body.text("\", ");
-    sheet.put_number(section.len);
+    sheet.body.number(section.len);
     sheet.body.text(");\n");
     Ok(())
 }

@@ -3,11 +3,10 @@
 use crate::hints::{Finding, put_hint};
 use crate::readers::{Reader, front_of};
 use crate::sources::{put_cause, put_note, put_source};
-use crate::tokens::{Token, is_mark, is_word_byte, tokens_of};
+use crate::tokens::{Token, is_mark, tokens_of};
 use crate::wanted::{put_wanted, wanted_behind};
 use acc_base::ScriptFault;
-use acc_page::Page;
-use acc_read::Arrays;
+use acc_read::{Arrays, Page, before_comment, is_text_byte, is_word_byte};
 use std::alloc::{AllocError, Global};
 
 /// How many bytes of a token are shown at most.
@@ -48,10 +47,7 @@ fn put_long(page: &mut Page, number: u64, line: &[u8]) {
 }
 
 fn put_not_text(page: &mut Page, number: u64, line: &[u8]) {
-    let place = line
-        .iter()
-        .take_while(|b| **b == b'\t' || (b' '..=b'~').contains(*b))
-        .count();
+    let place = line.iter().take_while(|b| is_text_byte(**b)).count();
     put_source(page, number, line, place);
     page.text("found the byte ");
     page.address(u64::from(line.get(place).copied().unwrap_or(0)));
@@ -65,7 +61,7 @@ fn explain_token(
     line: &[u8],
     kind: ScriptFault,
 ) -> Result<(), AllocError> {
-    let text = text_of(line);
+    let text = before_comment(line);
     let tokens = tokens_of(reader.alloc, text)?;
     let nth = reader.place(text, &tokens, kind);
     put_source(page, number, line, place_of(text, &tokens, nth));
@@ -79,11 +75,6 @@ fn explain_token(
     page.text("\n");
     add_hint(page, reader, number, finding);
     Ok(())
-}
-
-fn text_of(line: &[u8]) -> &[u8] {
-    let len = line.iter().take_while(|b| **b != b'#').count();
-    line.get(..len).unwrap_or(line)
 }
 
 /// Where the token of a number begins; where it is missing, the end of the last one.

@@ -4,7 +4,7 @@ use crate::readers::Reader;
 use crate::routines::{ROUTINES, WORDS};
 use crate::tokens::{Token, nth_bytes};
 use acc_base::ScriptFault;
-use acc_page::Page;
+use acc_read::{Page, is_text};
 
 /// A line at fault, cut into tokens, with the number of the one that is wrong.
 #[derive(Clone, Copy)]
@@ -17,10 +17,6 @@ pub struct Finding<'a> {
     pub nth: usize,
     /// What is wrong.
     pub kind: ScriptFault,
-}
-
-fn is_text(token: &[u8], text: &str) -> bool {
-    token == text.as_bytes()
 }
 
 impl<'a> Finding<'a> {

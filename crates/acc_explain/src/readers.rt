@@ -3,8 +3,7 @@
 use crate::sentences::SENTENCES;
 use crate::tokens::{Token, next_token};
 use acc_base::ScriptFault;
-use acc_page::Page;
-use acc_read::{Arrays, Trouble, line_at};
+use acc_read::{Arrays, Page, Trouble, line_at};
 use std::alloc::Global;
 
 /// The reader with the arrays that a line finds.

@@ -5,8 +5,7 @@ mod tests;
 
 use crate::sources::put_cause;
 use acc_base::{Directive, Fault, Found, Free, HOST_BASE, Item, List, QUEUE_COUNT, Section};
-use acc_page::{Names, Page};
-use acc_read::{ScriptKernel, Statement};
+use acc_read::{Names, Page, ScriptKernel, Statement};
 use acc_table::{Mapped, Table};
 
 /// How many ranges that a section meets are shown at most.
@@ -18,13 +17,6 @@ const NONE_FREE: Free = Free {
     bytes: 0,
     count: 0,
 };
-
-/// What an item of a statement names.
-#[derive(Clone, Copy)]
-struct Named {
-    section: Section,
-    pointer: Option<u64>,
-}
 
 #[derive(Clone, Copy)]
 struct DeviceView<'a> {
@@ -55,10 +47,10 @@ pub fn explain_refusal(
     let device = device_of(table, statement);
     let view = DeviceView { table, device };
     put_place(page, number);
-    if let Some((nth, named)) = item_of(statement, fault) {
-        put_item(page, names, nth, named);
+    if let Some((nth, item)) = item_of(statement, fault) {
+        put_item(page, names, nth, item);
         if is_of_ranges(fault) {
-            put_meetings(page, view, names, statement, nth, named.section);
+            put_meetings(page, view, names, statement, nth, item.section);
         }
     }
     put_fault(page, view, fault);
@@ -87,8 +79,8 @@ fn is_of_ranges(fault: Fault) -> bool {
     )
 }
 
-/// The item that a refusal names, and what it names.
-fn item_of(statement: &Statement<'_>, fault: Fault) -> Option<(u64, Named)> {
+/// The item that a refusal names, by its place and without its clause.
+fn item_of(statement: &Statement<'_>, fault: Fault) -> Option<(u64, Item<()>)> {
     let nth = match fault {
         Fault::OutOfHost { item }
         | Fault::Misaligned { item }
@@ -98,12 +90,12 @@ fn item_of(statement: &Statement<'_>, fault: Fault) -> Option<(u64, Named)> {
         | Fault::DeviceFull { item, .. } => item,
         _ => return None,
     };
-    Some((nth, named_in(statement, nth as usize)?))
+    Some((nth, item_in(statement, nth as usize)?))
 }
 
-fn named_in(statement: &Statement<'_>, nth: usize) -> Option<Named> {
+fn item_in(statement: &Statement<'_>, nth: usize) -> Option<Item<()>> {
     match statement {
-        Statement::Direct(directive) => named_by(directive, nth),
+        Statement::Direct(directive) => item_by(directive, nth),
         Statement::Kernel {
             kernel,
             section,
@@ -118,7 +110,7 @@ fn named_in(statement: &Statement<'_>, nth: usize) -> Option<Named> {
     }
 }
 
-fn named_by(directive: &Directive, nth: usize) -> Option<Named> {
+fn item_by(directive: &Directive, nth: usize) -> Option<Item<()>> {
     match directive {
         Directive::Enter { items, .. } => nth_of(items, nth),
         Directive::EnterData { items, .. } => nth_of(items, nth),
@@ -128,16 +120,22 @@ fn named_by(directive: &Directive, nth: usize) -> Option<Named> {
     }
 }
 
-fn nth_of<C: Copy>(items: &List<Item<C>>, nth: usize) -> Option<Named> {
-    let item = items.as_slice().get(nth)?;
-    Some(Named {
-        section: item.section,
-        pointer: item.pointer,
+fn nth_of<C: Copy>(items: &List<Item<C>>, nth: usize) -> Option<Item<()>> {
+    let Item {
+        section,
+        pointer,
+        ..
+    } = *items.as_slice().get(nth)?;
+    Some(Item {
+        clause: (),
+        section,
+        pointer,
     })
 }
 
-fn section_alone(section: Section) -> Named {
-    Named {
+fn section_alone(section: Section) -> Item<()> {
+    Item {
+        clause: (),
         section,
         pointer: None,
     }
@@ -151,13 +149,13 @@ fn kernel_section(kernel: ScriptKernel, section: Section, nth: usize) -> Section
     }
 }
 
-fn put_item(page: &mut Page, names: &Names, nth: u64, named: Named) {
+fn put_item(page: &mut Page, names: &Names, nth: u64, item: Item<()>) {
     put_cause(page);
     page.text("item ");
     page.number(nth);
     page.text(" is ");
-    put_section(page, names, named.section);
-    if let Some(pointer) = named.pointer {
+    put_section(page, names, item.section);
+    if let Some(pointer) = item.pointer {
         page.text(" via the pointer ");
         put_byte(page, names, pointer);
     }
@@ -204,8 +202,8 @@ fn put_meetings(
     }
     if let Statement::Direct(directive) = statement {
         for other in 0..nth {
-            if let Some(named) = named_by(directive, other as usize) {
-                put_other(page, names, other, named.section, section);
+            if let Some(item) = item_by(directive, other as usize) {
+                put_other(page, names, other, item.section, section);
             }
         }
     }

@@ -1,6 +1,6 @@
 //! A line of a script with a mark under a place.
 
-use acc_page::Page;
+use acc_read::Page;
 
 /// How many bytes of a line stand at most before the place that is marked.
 const BEFORE: usize = 60;

@@ -1,5 +1,6 @@
 //! The tokens of a statement, by their places in it.
 
+use acc_read::{is_blank, is_word_byte};
 use std::alloc::{AllocError, Global};
 
 /// Where a token stands in a text: from its first byte up to the one behind its last.
@@ -56,15 +57,6 @@ pub fn nth_bytes<'a>(text: &'a [u8], tokens: &[Token], nth: usize) -> &'a [u8] {
         Some(token) => bytes_of(text, *token),
         None => &[],
     }
-}
-
-fn is_blank(b: u8) -> bool {
-    b == b' ' || b == b'\t'
-}
-
-/// Whether a byte may stand in a word: letters, digits and `_`.
-pub fn is_word_byte(b: u8) -> bool {
-    b.is_ascii_alphanumeric() || b == b'_'
 }
 
 /// Whether a byte is a mark, which is a token alone.

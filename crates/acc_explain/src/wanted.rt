@@ -3,7 +3,7 @@
 use crate::readers::{Reader, tail_of};
 use crate::sentences::SENTENCES;
 use crate::tokens::{bytes_of, is_mark, next_token};
-use acc_page::Page;
+use acc_read::Page;
 use std::alloc::{AllocError, Global};
 
 /// A token, or kind of token, that could stand at a place.

@@ -2,8 +2,7 @@
 
 use crate::report_objects::put_report;
 use acc_base::Fault;
-use acc_page::{Page, statement_text};
-use acc_read::Statement;
+use acc_read::{Page, Statement, statement_text};
 use acc_script::{Effect, MemorySink, Session, Sink, Status, Watcher, write_all};
 use acc_table::Table;
 use std::alloc::Global;

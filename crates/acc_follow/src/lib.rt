@@ -8,8 +8,8 @@ mod picture_sinks;
 mod report_objects;
 mod row_counts;
 
-pub use acc_log::Rows;
-pub use acc_page::{Names, Page, Spot, statement_text};
+pub use acc_log::RowCounts;
+pub use acc_read::Page;
 pub use differences::{Difference, first_difference};
 pub use follows::{Beside, Setting, Views, follow};
 pub use picture_sinks::{Frame, PictureSink, Stop};

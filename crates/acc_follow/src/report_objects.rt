@@ -1,7 +1,7 @@
 //! The report as an object of JSON, on one line.
 
 use acc_base::{Ended, QUEUE_COUNT, Section};
-use acc_page::Page;
+use acc_read::Page;
 use acc_table::{Mapped, Table};
 use std::fmt::Write;
 

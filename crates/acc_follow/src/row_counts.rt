@@ -1,9 +1,8 @@
 //! Which rows of the clause tables a script reaches.
 
 use acc_base::{Config, Fault};
-use acc_log::{Log, Rows};
-use acc_page::{Names, statement_text};
-use acc_read::line_at;
+use acc_log::{Log, RowCounts};
+use acc_read::{Names, line_at, statement_text};
 use acc_script::{Effect, MemorySink, MemorySource, Session, Sink, Watcher, run};
 use std::alloc::Global;
 use std::sync::Wait;
@@ -18,8 +17,8 @@ pub fn count_rows<R: Threads + Wait + Sync + AllocGlobal>(
     rt: &R,
     config: Config,
     script: &[u8],
-    rows: Rows,
-) -> Result<Rows, Fault> {
+    rows: RowCounts,
+) -> Result<RowCounts, Fault> {
     let mut log = Log::new(rt.alloc());
     log.rows = Some(rows);
     let mut counter = RowCounter {
@@ -49,7 +48,7 @@ struct RowCounter {
 }
 
 impl RowCounter {
-    fn rows(&mut self) -> Result<Rows, Fault> {
+    fn rows(&mut self) -> Result<RowCounts, Fault> {
         let is_whole = !self.wants && self.log.page.whole().is_ok();
         match self.log.rows.take() {
             Some(rows) if is_whole && !rows.wants() => Ok(rows),

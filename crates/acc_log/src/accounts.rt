@@ -37,19 +37,20 @@ pub struct Copied {
 
 /// A copy that waits in a queue.
 #[derive(Clone, Copy)]
-struct Waiting {
-    queue: Queue,
+struct QueuedCopy {
+    queue: QueueKey,
     copied: Copied,
 }
 
+/// A queue: the number of its device, and its own number there.
 #[derive(Clone, Copy, PartialEq, Eq)]
-struct Queue {
+struct QueueKey {
     device: u64,
     queue: u64,
 }
 
 /// A block: the number of its device, and its own number there.
-type Block = (u64, u64);
+type BlockKey = (u64, u64);
 
 /// What the events so far say, read and changed on one device at a time. [`Account::wants`] returns whether there was
 /// no memory for some of it.
@@ -59,8 +60,8 @@ pub struct Account {
     pub device: u64,
     /// The mapped ranges, by device and first address.
     ranges: BTreeMap<(u64, u64), Placed>,
-    pointers: BTreeMap<(Block, u64), u64>,
-    waiting: Vec<Waiting>,
+    pointers: BTreeMap<(BlockKey, u64), u64>,
+    waiting: Vec<QueuedCopy>,
     regions: Vec<usize>,
     wants: bool,
 }
@@ -126,7 +127,7 @@ impl Account {
     /// Puts a copy at the end of a queue (OpenACC 3.3, section 2.16).
     pub fn put(&mut self, queue: u64, copied: Copied) {
         let queue = self.queue(queue);
-        if self.waiting.push(Waiting { queue, copied }).is_err() {
+        if self.waiting.push(QueuedCopy { queue, copied }).is_err() {
             self.wants = true;
         }
     }
@@ -141,8 +142,8 @@ impl Account {
         None
     }
 
-    fn queue(&self, queue: u64) -> Queue {
-        Queue {
+    fn queue(&self, queue: u64) -> QueueKey {
+        QueueKey {
             device: self.device,
             queue,
         }

@@ -8,7 +8,7 @@ use crate::log_lines::{
 };
 use crate::logs::Log;
 use acc_base::{Aim, Counter, Did, Section, Step};
-use acc_page::Names;
+use acc_read::Names;
 
 impl Log {
     /// Puts the lines of an item that enters: its mapping, its copy, its pointer.

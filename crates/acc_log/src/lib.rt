@@ -11,4 +11,4 @@ mod rows;
 mod totals;
 
 pub use logs::Log;
-pub use rows::Rows;
+pub use rows::RowCounts;

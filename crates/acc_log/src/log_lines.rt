@@ -3,7 +3,7 @@
 use crate::accounts::{Copied, Placed};
 use crate::log_items::LogItem;
 use acc_base::{Fault, Section};
-use acc_page::{Names, Page};
+use acc_read::{Names, Page};
 
 /// What each line of a log begins with.
 pub const MARK: &str = "lamwiest: ";

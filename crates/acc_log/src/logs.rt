@@ -6,14 +6,13 @@ use crate::log_items::{Drops, LogItem};
 use crate::log_lines::{
     put_copied, put_device, put_head, put_inner, put_loan, put_refused, put_region, put_written,
 };
-use crate::rows::{Rows, has_readonly};
+use crate::rows::{RowCounts, has_readonly};
 use crate::totals::{Totals, put_total};
 use acc_base::{
     Aim, Counter, Did, EnterClause, Event, ExitClause, Fault, Item, RegionClause, Section, Step,
     UpdateClause,
 };
-use acc_page::{Names, Page};
-use acc_read::Statement;
+use acc_read::{Names, Page, Statement};
 use acc_script::Effect;
 use acc_table::Table;
 use std::alloc::Global;
@@ -24,7 +23,7 @@ pub struct Log {
     /// The lines that were not written yet.
     pub page: Page,
     /// How often rows of the clause tables were reached, where that is counted.
-    pub rows: Option<Rows>,
+    pub rows: Option<RowCounts>,
     /// What the events in the log say of ranges, pointers, queues and regions.
     pub(crate) account: Account,
     /// What the events in the log did in all.

@@ -1,6 +1,6 @@
 //! The rows of the clause tables, and how often each was reached.
 
-use acc_page::Page;
+use acc_read::Page;
 use std::alloc::Global;
 use std::collections::BTreeMap;
 
@@ -8,7 +8,7 @@ use std::collections::BTreeMap;
 type Rule = (&'static str, &'static str, &'static [&'static str]);
 
 /// A row: the first two of its rule, and what became of the item.
-type Row = (&'static str, &'static str, &'static str);
+type ClauseRow = (&'static str, &'static str, &'static str);
 
 /// Where a section lies.
 const SECTION: &[&str] = &["empty", "inside", "absent", "partly present"];
@@ -111,15 +111,15 @@ const RULES: &[Rule] = &[
 
 /// How often scripts reached each row of the clause tables.
 #[derive(Drop)]
-pub struct Rows {
-    counts: BTreeMap<Row, u64>,
+pub struct RowCounts {
+    counts: BTreeMap<ClauseRow, u64>,
     wants: bool,
 }
 
-impl Rows {
+impl RowCounts {
     /// Returns that none was reached.
-    pub fn new(alloc: Global) -> Rows {
-        Rows {
+    pub fn new(alloc: Global) -> RowCounts {
+        RowCounts {
             counts: BTreeMap::new(alloc),
             wants: false,
         }
@@ -144,7 +144,7 @@ impl Rows {
         }
     }
 
-    fn count(&self, row: Row) -> u64 {
+    fn count(&self, row: ClauseRow) -> u64 {
         self.counts.get(&row).copied().unwrap_or(0)
     }
 
@@ -160,7 +160,7 @@ impl Rows {
         all
     }
 
-    fn put_row(&self, page: &mut Page, row: Row) -> bool {
+    fn put_row(&self, page: &mut Page, row: ClauseRow) -> bool {
         let count = self.count(row);
         put_name(page, row);
         page.text("\t");
@@ -170,7 +170,7 @@ impl Rows {
     }
 }
 
-fn put_name(page: &mut Page, row: Row) {
+fn put_name(page: &mut Page, row: ClauseRow) {
     let (directive, modifier, outcome) = row;
     page.text(directive);
     if !modifier.is_empty() {

@@ -1,7 +1,7 @@
 //! How much was done in all.
 
 use crate::log_lines::MARK;
-use acc_page::Page;
+use acc_read::Page;
 
 /// How many mappings were made and ended, how many copies were made each way with their bytes, and how many statements
 /// were refused.

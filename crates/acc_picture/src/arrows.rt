@@ -1,11 +1,11 @@
 //! Arrows from blocks to what the attached pointers in them are aimed at.
 
+use crate::device_pictures::DevicePicture;
 use crate::device_rows::row_at;
 use crate::places::{DEVICE_END, WIDTH, middle_of};
-use crate::scenes::Scene;
 use crate::shapes::{Point, close_group, close_title, open_titled, put_curve};
 use acc_base::{Attachment, Section};
-use acc_page::{Names, Page};
+use acc_read::{Names, Page};
 use acc_table::Table;
 
 /// An attached pointer in the block of one row, whose target lies in one row.
@@ -20,7 +20,7 @@ struct Arrow {
 
 /// Puts the arrows of all attached pointers of a device (OpenACC 3.3, section 2.6.8). Neighbours that go from one row
 /// to one row share an arrow. What the pointers of a lent block hold is not known.
-pub fn put_arrows(page: &mut Page, table: &Table, names: &Names, scene: &Scene) {
+pub fn put_arrows(page: &mut Page, table: &Table, names: &Names, scene: &DevicePicture) {
     let (mut from, mut to) = (usize::MAX, usize::MAX);
     for attached in &scene.attached {
         if let Some(arrow) = arrow_of(table, scene, *attached) {
@@ -33,7 +33,7 @@ pub fn put_arrows(page: &mut Page, table: &Table, names: &Names, scene: &Scene) 
     }
 }
 
-fn arrow_of(table: &Table, scene: &Scene, attached: Attachment) -> Option<Arrow> {
+fn arrow_of(table: &Table, scene: &DevicePicture, attached: Attachment) -> Option<Arrow> {
     let place = table.device_address(scene.device, attached.pointer)?;
     let target = target_of(table, scene.device, attached.pointer)?;
     Some(Arrow {

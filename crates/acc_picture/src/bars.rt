@@ -1,10 +1,10 @@
 //! Host memory and the device's to scale, as bars.
 
-use crate::gathering::{Entry, Kind, Part};
+use crate::gathering::{Part, Stretch, StretchKind};
 use crate::places::{BAR_HEIGHT, BAR_WIDTH, BAR_X, MARGIN};
 use crate::shapes::{Area, Point, close_group, close_text, open_text, put_box};
 use acc_base::{DEVICE_BASE, HOST_BASE};
-use acc_page::Page;
+use acc_read::Page;
 
 /// A bar that stands for a memory.
 #[derive(Clone, Copy)]
@@ -49,12 +49,12 @@ impl Bar {
 
     /// Puts some addresses, at least one pixel wide, and returns behind which pixel all is free. A hole is left out,
     /// and so is what ends where something was put before.
-    fn put_next(self, page: &mut Page, put: u64, kind: Kind, start: u64, len: u64) -> u64 {
+    fn put_next(self, page: &mut Page, put: u64, kind: StretchKind, start: u64, len: u64) -> u64 {
         let from = self.pixel(start).min(BAR_WIDTH - 1);
         let until = self
             .pixel(start.saturating_add(len))
             .max(from.saturating_add(1));
-        if until <= put || matches!(kind, Kind::Hole) {
+        if until <= put || matches!(kind, StretchKind::Hole) {
             return put;
         }
         self.put_box(page, kind.class(), from, until);
@@ -75,13 +75,13 @@ pub fn put_host_bar(page: &mut Page, y: u64, size: u64, parts: &[Part]) {
 }
 
 /// Puts the bar of a device's memory of `size` bytes, with its blocks, at an upper edge.
-pub fn put_device_bar(page: &mut Page, y: u64, size: u64, device: u64, entries: &[Entry]) {
+pub fn put_device_bar(page: &mut Page, y: u64, size: u64, device: u64, stretches: &[Stretch]) {
     let base = DEVICE_BASE.saturating_mul(device.saturating_add(1));
     let bar = Bar { y, base, size };
     bar.put_outline(page, "device ");
     let mut put = 0;
-    for entry in entries {
-        put = bar.put_next(page, put, entry.kind, entry.place, entry.size);
+    for stretch in stretches {
+        put = bar.put_next(page, put, stretch.kind, stretch.place, stretch.size);
     }
     close_group(page);
 }

@@ -1,12 +1,12 @@
 //! Which host bytes the blocks of a device were made for.
 
-use crate::gathering::{Entry, Kind};
+use crate::gathering::{Stretch, StretchKind};
 use acc_base::{Did, Event, Item, Section, Step};
 use acc_table::Table;
 use std::alloc::AllocError;
 use std::collections::BTreeMap;
 
-/// Adds an entry of no size for each block that was made since the base of the table. At each place the last one stays.
+/// Adds an stretch of no size for each block that was made since the base of the table. At each place the last one stays.
 ///
 /// # Errors
 ///
@@ -14,7 +14,7 @@ use std::collections::BTreeMap;
 pub fn add_births(
     table: &Table,
     device: u64,
-    births: &mut BTreeMap<u64, Entry>,
+    births: &mut BTreeMap<u64, Stretch>,
 ) -> Result<(), AllocError> {
     for event in table.trace() {
         add_event(event, device, births)?;
@@ -25,7 +25,7 @@ pub fn add_births(
 fn add_event(
     event: &Event,
     device: u64,
-    births: &mut BTreeMap<u64, Entry>,
+    births: &mut BTreeMap<u64, Stretch>,
 ) -> Result<(), AllocError> {
     if event.device() != device {
         return Ok(());
@@ -40,7 +40,7 @@ fn add_event(
 fn add_all<C>(
     items: &[Item<C>],
     did: &[Did],
-    births: &mut BTreeMap<u64, Entry>,
+    births: &mut BTreeMap<u64, Stretch>,
 ) -> Result<(), AllocError> {
     for nth in 0..items.len() {
         add_birth(items.get(nth), did.get(nth), births)?;
@@ -51,21 +51,21 @@ fn add_all<C>(
 fn add_birth<C>(
     item: Option<&Item<C>>,
     did: Option<&Did>,
-    births: &mut BTreeMap<u64, Entry>,
+    births: &mut BTreeMap<u64, Stretch>,
 ) -> Result<(), AllocError> {
     if let (Some(item), Some(did)) = (item, did) {
         if let Step::Born { place, .. } = did.step {
-            births.insert(place, entry_of(place, item.section))?;
+            births.insert(place, stretch_of(place, item.section))?;
         }
     }
     Ok(())
 }
 
-fn entry_of(place: u64, section: Section) -> Entry {
-    Entry {
+fn stretch_of(place: u64, section: Section) -> Stretch {
+    Stretch {
         place,
         size: 0,
-        kind: Kind::Ended(0),
+        kind: StretchKind::Ended(0),
         section: Some(section),
     }
 }

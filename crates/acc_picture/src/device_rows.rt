@@ -1,6 +1,6 @@
 //! The rows of the device: blocks and holes.
 
-use crate::gathering::{Entry, Kind};
+use crate::gathering::{Stretch, StretchKind};
 use crate::places::{ATTACHED, DEVICE_ADDRESS, DEVICE_BYTES, NAME, STATE, device_area, text_in};
 use crate::shapes::{
     Area, close_group, close_text, close_title, open_text, open_titled, put_address, put_box,
@@ -8,14 +8,14 @@ use crate::shapes::{
 };
 use crate::short_names::put_short_name;
 use acc_base::Attachment;
-use acc_page::{Names, Page};
+use acc_read::{Names, Page};
 use std::alloc::Global;
 
 /// Blocks and holes that share a row.
 #[derive(Clone, Copy)]
 pub struct DeviceRow {
     /// The first of them.
-    first: Entry,
+    first: Stretch,
     /// How many they are.
     count: u64,
     /// Their bytes.
@@ -31,29 +31,29 @@ pub struct DeviceRow {
 }
 
 /// The row of some blocks and holes that lie one behind the other, if there are any.
-pub fn device_row(entries: &[Entry]) -> Option<DeviceRow> {
+pub fn device_row(stretches: &[Stretch]) -> Option<DeviceRow> {
     let mut row = DeviceRow {
-        first: *entries.first()?,
-        count: entries.len() as u64,
+        first: *stretches.first()?,
+        count: stretches.len() as u64,
         bytes: 0,
         blocks: 0,
         pins: 0,
         attached: None,
         pointers: 0,
     };
-    for entry in entries {
-        row.add(*entry);
+    for stretch in stretches {
+        row.add(*stretch);
     }
     Some(row)
 }
 
 impl DeviceRow {
-    fn add(&mut self, entry: Entry) {
-        self.bytes = self.bytes.saturating_add(entry.size);
-        if !matches!(entry.kind, Kind::Hole) {
+    fn add(&mut self, stretch: Stretch) {
+        self.bytes = self.bytes.saturating_add(stretch.size);
+        if !matches!(stretch.kind, StretchKind::Hole) {
             self.blocks = self.blocks.saturating_add(1);
         }
-        if let Kind::Ended(pins) = entry.kind {
+        if let StretchKind::Ended(pins) = stretch.kind {
             self.pins = self.pins.saturating_add(pins);
         }
     }
@@ -115,7 +115,7 @@ impl DeviceRow {
     }
 
     fn put_state(&self, page: &mut Page, area: Area) {
-        if self.count == 1 && matches!(self.first.kind, Kind::Lent | Kind::Ended(_)) {
+        if self.count == 1 && matches!(self.first.kind, StretchKind::Lent | StretchKind::Ended(_)) {
             put_text(page, "number", text_in(area, STATE), self.class());
         }
     }

@@ -2,7 +2,7 @@
 
 use crate::births::add_births;
 use acc_base::{Attachment, HOST_BASE, Section};
-use acc_page::Names;
+use acc_read::Names;
 use acc_table::{Mapped, Table};
 use std::alloc::{AllocError, Global};
 use std::collections::BTreeMap;
@@ -18,18 +18,18 @@ pub struct Part {
 
 impl Part {
     /// What its block is; a hole where it has none.
-    pub fn kind(self) -> Kind {
+    pub fn kind(self) -> StretchKind {
         match self.mapped {
-            None => Kind::Hole,
-            Some(mapped) if mapped.lent => Kind::Lent,
-            Some(_) => Kind::Mapped,
+            None => StretchKind::Hole,
+            Some(mapped) if mapped.lent => StretchKind::Lent,
+            Some(_) => StretchKind::Mapped,
         }
     }
 }
 
 /// What some addresses of the device are.
 #[derive(Clone, Copy)]
-pub enum Kind {
+pub enum StretchKind {
     /// A block of a mapped range.
     Mapped,
     /// One that is lent.
@@ -40,27 +40,27 @@ pub enum Kind {
     Hole,
 }
 
-impl Kind {
+impl StretchKind {
     /// The class of style of its shapes.
     pub fn class(self) -> &'static str {
         match self {
-            Kind::Mapped => "mapped",
-            Kind::Lent => "lent",
-            Kind::Ended(_) => "ended",
-            Kind::Hole => "hole",
+            StretchKind::Mapped => "mapped",
+            StretchKind::Lent => "lent",
+            StretchKind::Ended(_) => "ended",
+            StretchKind::Hole => "hole",
         }
     }
 }
 
 /// Addresses of the device that lie side by side.
 #[derive(Clone, Copy)]
-pub struct Entry {
+pub struct Stretch {
     /// The first one.
     pub place: u64,
     /// How many they are.
     pub size: u64,
     /// What they are.
-    pub kind: Kind,
+    pub kind: StretchKind,
     /// The host bytes that are mapped there, or were.
     pub section: Option<Section>,
 }
@@ -127,18 +127,18 @@ fn unmapped_at(names: &Names, from: u64, limit: u64) -> Option<Section> {
 /// # Errors
 ///
 /// Where memory is wanting.
-pub fn add_entries(
+pub fn add_stretches(
     alloc: Global,
     table: &Table,
     device: u64,
     parts: &[Part],
-    entries: &mut Vec<Entry>,
+    stretches: &mut Vec<Stretch>,
 ) -> Result<(), AllocError> {
     let mut by_place = BTreeMap::new(alloc);
     place_all(table, device, parts, &mut by_place)?;
-    for (_, entry) in by_place.iter() {
-        if entry.size > 0 {
-            entries.push(*entry)?;
+    for (_, stretch) in by_place.iter() {
+        if stretch.size > 0 {
+            stretches.push(*stretch)?;
         }
     }
     Ok(())
@@ -149,7 +149,7 @@ fn place_all(
     table: &Table,
     device: u64,
     parts: &[Part],
-    by_place: &mut BTreeMap<u64, Entry>,
+    by_place: &mut BTreeMap<u64, Stretch>,
 ) -> Result<(), AllocError> {
     add_births(table, device, by_place)?;
     for part in parts {
@@ -159,63 +159,63 @@ fn place_all(
     add_holes(table, device, by_place)
 }
 
-fn add_block(part: Part, by_place: &mut BTreeMap<u64, Entry>) -> Result<(), AllocError> {
+fn add_block(part: Part, by_place: &mut BTreeMap<u64, Stretch>) -> Result<(), AllocError> {
     let Some(mapped) = part.mapped else {
         return Ok(());
     };
-    let entry = Entry {
+    let stretch = Stretch {
         place: mapped.place,
         size: mapped.len.div_ceil(16).saturating_mul(16),
         kind: part.kind(),
         section: Some(part.section),
     };
-    by_place.insert(mapped.place, entry)?;
+    by_place.insert(mapped.place, stretch)?;
     Ok(())
 }
 
 fn add_ended(
     table: &Table,
     device: u64,
-    by_place: &mut BTreeMap<u64, Entry>,
+    by_place: &mut BTreeMap<u64, Stretch>,
 ) -> Result<(), AllocError> {
     let mut from = 0;
     for _ in 0..u64::MAX {
         let Some(ended) = table.ended(device, from) else {
             break;
         };
-        let entry = Entry {
+        let stretch = Stretch {
             place: ended.place,
             size: ended.size,
-            kind: Kind::Ended(ended.pins),
+            kind: StretchKind::Ended(ended.pins),
             section: section_at(by_place, ended.place),
         };
-        by_place.insert(ended.place, entry)?;
+        by_place.insert(ended.place, stretch)?;
         from = ended.place.saturating_add(1);
     }
     Ok(())
 }
 
-fn section_at(by_place: &BTreeMap<u64, Entry>, place: u64) -> Option<Section> {
+fn section_at(by_place: &BTreeMap<u64, Stretch>, place: u64) -> Option<Section> {
     by_place.get(&place)?.section
 }
 
 fn add_holes(
     table: &Table,
     device: u64,
-    by_place: &mut BTreeMap<u64, Entry>,
+    by_place: &mut BTreeMap<u64, Stretch>,
 ) -> Result<(), AllocError> {
     let mut from = 0;
     for _ in 0..u64::MAX {
         let Some(hole) = table.hole(device, from) else {
             break;
         };
-        let entry = Entry {
+        let stretch = Stretch {
             place: hole.place,
             size: hole.size,
-            kind: Kind::Hole,
+            kind: StretchKind::Hole,
             section: None,
         };
-        by_place.insert(hole.place, entry)?;
+        by_place.insert(hole.place, stretch)?;
         from = hole.place.saturating_add(1);
     }
     Ok(())

@@ -7,7 +7,7 @@ use crate::shapes::{
     put_number, put_text,
 };
 use crate::short_names::put_short_name;
-use acc_page::{Names, Page};
+use acc_read::{Names, Page};
 use acc_table::Mapped;
 use std::alloc::Global;
 

@@ -8,6 +8,7 @@
 mod arrows;
 mod bars;
 mod births;
+mod device_pictures;
 mod device_rows;
 mod gathering;
 mod host_rows;
@@ -15,7 +16,6 @@ mod links;
 mod pictures;
 mod places;
 mod queues;
-mod scenes;
 mod shapes;
 mod short_names;
 mod styles;

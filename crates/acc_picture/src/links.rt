@@ -1,15 +1,15 @@
 //! Lines between the rows of host memory and of the device, from bytes of the host to their block.
 
+use crate::device_pictures::DevicePicture;
 use crate::device_rows::row_at;
-use crate::gathering::{Entry, Kind, Part};
+use crate::gathering::{Part, Stretch, StretchKind};
 use crate::places::{DEVICE_X, HOST_END, group_size, middle_of};
-use crate::scenes::Scene;
 use crate::shapes::{close_group, close_title, open_titled, put_curve};
-use acc_page::Page;
+use acc_read::Page;
 
 /// Puts a line from the host's row of a number to each row that has a block of one of its parts. Neighbours of one row
 /// whose blocks lie side by side in one row share a line.
-pub fn put_links(page: &mut Page, scene: &Scene, parts: &[Part], nth: usize) {
+pub fn put_links(page: &mut Page, scene: &DevicePicture, parts: &[Part], nth: usize) {
     let mut last = None;
     let mut count = 0;
     for part in parts {
@@ -46,16 +46,16 @@ fn put_between(page: &mut Page, class: &str, nth: usize, to: usize) {
 }
 
 /// Puts a line to each block whose mapping has ended, from the host bytes that were mapped to it.
-pub fn put_kept(page: &mut Page, scene: &Scene) {
-    for entry in &scene.entries {
-        if matches!(entry.kind, Kind::Ended(_)) {
-            put_kept_line(page, scene, *entry);
+pub fn put_kept(page: &mut Page, scene: &DevicePicture) {
+    for stretch in &scene.stretches {
+        if matches!(stretch.kind, StretchKind::Ended(_)) {
+            put_kept_line(page, scene, *stretch);
         }
     }
 }
 
-fn put_kept_line(page: &mut Page, scene: &Scene, entry: Entry) {
-    let (Some(section), Some(to)) = (entry.section, row_at(&scene.rows, entry.place)) else {
+fn put_kept_line(page: &mut Page, scene: &DevicePicture, stretch: Stretch) {
+    let (Some(section), Some(to)) = (stretch.section, row_at(&scene.rows, stretch.place)) else {
         return;
     };
     if let Some(nth) = part_at(&scene.parts, section.start) {

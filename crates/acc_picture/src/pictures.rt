@@ -2,6 +2,7 @@
 
 use crate::arrows::put_arrows;
 use crate::bars::{put_device_bar, put_host_bar};
+use crate::device_pictures::DevicePicture;
 use crate::gathering::Part;
 use crate::host_rows::host_row;
 use crate::links::{put_kept, put_links};
@@ -10,12 +11,11 @@ use crate::places::{
     MARGIN, NAME, ROWS_Y, STRUCTURED, WIDTH, group_size,
 };
 use crate::queues::put_queues;
-use crate::scenes::Scene;
 use crate::shapes::{
     Area, Point, close_group, close_text, close_title, open_text, put_box, put_text,
 };
 use crate::styles::STYLE;
-use acc_page::{Names, Page};
+use acc_read::{Names, Page};
 use acc_table::Table;
 use std::alloc::{AllocError, Global};
 
@@ -58,10 +58,10 @@ fn add_scenes(
     alloc: Global,
     table: &Table,
     names: &Names,
-    scenes: &mut Vec<Scene>,
+    scenes: &mut Vec<DevicePicture>,
 ) -> Result<(), AllocError> {
     for device in 0..table.config().devices() {
-        scenes.push(Scene::new(alloc, table, names, device)?)?;
+        scenes.push(DevicePicture::new(alloc, table, names, device)?)?;
     }
     Ok(())
 }
@@ -72,7 +72,7 @@ fn put_scenes(
     table: &Table,
     names: &Names,
     caption: Caption<'_>,
-    scenes: &[Scene],
+    scenes: &[DevicePicture],
 ) {
     let mut height = 0;
     for scene in scenes {
@@ -95,7 +95,7 @@ fn put_scene(
     table: &Table,
     names: &Names,
     caption: Caption<'_>,
-    scene: &Scene,
+    scene: &DevicePicture,
 ) {
     put_head(page, table, scene.device, caption);
     put_bars(page, table, scene);
@@ -108,7 +108,7 @@ fn put_scene(
     put_arrows(page, table, names, scene);
 }
 
-fn put_device_rows(page: &mut Page, alloc: Global, names: &Names, scene: &Scene) {
+fn put_device_rows(page: &mut Page, alloc: Global, names: &Names, scene: &DevicePicture) {
     for (nth, row) in scene.rows.iter().enumerate() {
         row.put(page, alloc, names, nth);
     }
@@ -197,10 +197,10 @@ fn put_sums(page: &mut Page, table: &Table, device: u64) {
     page.number(table.events());
 }
 
-fn put_bars(page: &mut Page, table: &Table, scene: &Scene) {
+fn put_bars(page: &mut Page, table: &Table, scene: &DevicePicture) {
     let config = table.config();
     put_host_bar(page, 50, config.host(), &scene.parts);
-    put_device_bar(page, 72, config.device(), scene.device, &scene.entries);
+    put_device_bar(page, 72, config.device(), scene.device, &scene.stretches);
 }
 
 /// The heads of the columns of host memory, and how far they stand from the left edge of its rows.
@@ -228,7 +228,7 @@ fn put_heads(page: &mut Page, x: u64, heads: &[(&str, u64)]) {
     }
 }
 
-fn put_host_rows(page: &mut Page, alloc: Global, names: &Names, scene: &Scene) {
+fn put_host_rows(page: &mut Page, alloc: Global, names: &Names, scene: &DevicePicture) {
     let parts = &scene.parts;
     for (nth, group) in parts.chunks(group_size(parts.len())).enumerate() {
         put_host_row(page, alloc, names, scene, group, nth);
@@ -239,7 +239,7 @@ fn put_host_row(
     page: &mut Page,
     alloc: Global,
     names: &Names,
-    scene: &Scene,
+    scene: &DevicePicture,
     group: &[Part],
     nth: usize,
 ) {

@@ -120,7 +120,7 @@ pub fn middle_of(nth: usize, x: u64) -> Point {
     }
 }
 
-/// How many neighbours share a row, where there are so many entries; 1 up to `ROW_LIMIT`.
+/// How many neighbours share a row, where there are so many stretches; 1 up to `ROW_LIMIT`.
 pub fn group_size(count: usize) -> usize
     ensures { 1 ≤ result }
 {

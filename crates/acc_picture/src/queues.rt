@@ -6,7 +6,7 @@ use crate::short_names::put_short_name;
 use acc_base::{
     Did, EnterClause, Event, ExitClause, Item, QUEUE_COUNT, Section, Step, UpdateClause,
 };
-use acc_page::{Names, Page};
+use acc_read::{Names, Page};
 use acc_table::Table;
 use std::alloc::{AllocError, Global};
 
@@ -20,7 +20,7 @@ struct Queued {
 
 /// A queue that is not empty.
 #[derive(Drop)]
-pub struct Queue {
+pub struct QueueLine {
     number: u64,
     /// How many copies wait.
     len: u64,
@@ -40,12 +40,12 @@ pub fn add_queues(
     alloc: Global,
     table: &Table,
     device: u64,
-    queues: &mut Vec<Queue>,
+    queues: &mut Vec<QueueLine>,
 ) -> Result<(), AllocError> {
     for number in 0..QUEUE_COUNT {
         let len = table.queue_len(device, number);
         if len > 0 {
-            queues.push(Queue {
+            queues.push(QueueLine {
                 number,
                 len,
                 copies: Vec::new(alloc),
@@ -55,7 +55,7 @@ pub fn add_queues(
     add_all(table, device, queues)
 }
 
-fn add_all(table: &Table, device: u64, queues: &mut [Queue]) -> Result<(), AllocError> {
+fn add_all(table: &Table, device: u64, queues: &mut [QueueLine]) -> Result<(), AllocError> {
     for queue in queues {
         add_copies(table, device, queue.number, &mut queue.copies)?;
     }
@@ -156,7 +156,7 @@ fn updated(item: Option<&Item<UpdateClause>>, did: Option<&Did>) -> Option<Queue
 }
 
 /// Puts a line for each of some queues, the first one line below a height.
-pub fn put_queues(page: &mut Page, alloc: Global, names: &Names, queues: &[Queue], y: u64) {
+pub fn put_queues(page: &mut Page, alloc: Global, names: &Names, queues: &[QueueLine], y: u64) {
     let mut y = y;
     for queue in queues {
         y = y.saturating_add(LINE_PITCH);
@@ -164,7 +164,7 @@ pub fn put_queues(page: &mut Page, alloc: Global, names: &Names, queues: &[Queue
     }
 }
 
-impl Queue {
+impl QueueLine {
     /// The next copy stands first.
     fn put(&self, page: &mut Page, alloc: Global, names: &Names, y: u64) {
         open_text(page, "name", Point { x: MARGIN, y });

@@ -1,6 +1,6 @@
 //! The shapes of SVG that a picture is made of. Lengths are pixels.
 
-use acc_page::Page;
+use acc_read::Page;
 
 /// Where a box lies, and how large it is.
 #[derive(Clone, Copy)]

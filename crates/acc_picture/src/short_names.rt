@@ -2,7 +2,7 @@
 
 use crate::places::NAME_LIMIT;
 use acc_base::Section;
-use acc_page::{Names, Page};
+use acc_read::{Names, Page};
 use std::alloc::Global;
 
 /// Puts the name of a section, cut to `NAME_LIMIT` letters; nothing where no one array has the section.

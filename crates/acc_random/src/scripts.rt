@@ -2,8 +2,7 @@
 
 use crate::statements::Statements;
 use acc_base::{Config, Fault};
-use acc_page::Page;
-use acc_read::{Trouble, line_at};
+use acc_read::{Page, Trouble, line_at};
 use acc_script::Session;
 use std::sync::Wait;
 use std::thread::Threads;
@@ -29,7 +28,7 @@ pub fn random_script<R: Threads + Wait + Sync + AllocGlobal>(
     seed: u64,
     lines: u64,
 ) -> Result<Page, Fault> {
-    let mut draft = Draft {
+    let mut draft = ScriptDraft {
         session: Session::new(rt.alloc(), config, 1)?,
         statements: Statements::new(rt.alloc(), seed, config.devices()),
         script: Page::new(rt.alloc()),
@@ -45,13 +44,13 @@ pub fn random_script<R: Threads + Wait + Sync + AllocGlobal>(
 
 /// A script so far, and the session in which it ran.
 #[derive(Drop)]
-struct Draft {
+struct ScriptDraft {
     session: Session,
     statements: Statements,
     script: Page,
 }
 
-impl Draft {
+impl ScriptDraft {
     fn add_statements<R: Threads + Wait + Sync + AllocGlobal>(
         &mut self,
         rt: &R,

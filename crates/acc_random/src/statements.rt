@@ -1,7 +1,7 @@
 //! Statements by chance.
 
 use crate::chances::Chance;
-use acc_page::Page;
+use acc_read::{ItemKind, Page};
 use std::alloc::Global;
 
 /// The arrays. The last one has pointers, and nothing else is written there.
@@ -13,48 +13,40 @@ const BYTES: u64 = 4;
 /// How many pointers the last one has.
 const POINTERS: u64 = 4;
 
-/// What stands in the parentheses of a clause.
-#[derive(Clone, Copy)]
-enum Named {
-    /// Sections.
-    Sections,
-    /// Sections, some with a pointer.
-    Items,
-    /// Pointers.
-    Pointers,
-}
-
 /// A clause up to its first item, and what its items are.
-type Clause = (&'static str, Named);
+type ClauseOpening = (&'static str, ItemKind);
 
-const OF_DATA: &[Clause] = &[
-    ("copy(", Named::Items),
-    ("copyin(", Named::Items),
-    ("copyin(readonly: ", Named::Items),
-    ("copyout(", Named::Items),
-    ("copyout(zero: ", Named::Items),
-    ("create(", Named::Items),
-    ("create(zero: ", Named::Items),
-    ("no_create(", Named::Items),
-    ("present(", Named::Items),
-    ("attach(", Named::Pointers),
+const OF_DATA: &[ClauseOpening] = &[
+    ("copy(", ItemKind::Items),
+    ("copyin(", ItemKind::Items),
+    ("copyin(readonly: ", ItemKind::Items),
+    ("copyout(", ItemKind::Items),
+    ("copyout(zero: ", ItemKind::Items),
+    ("create(", ItemKind::Items),
+    ("create(zero: ", ItemKind::Items),
+    ("no_create(", ItemKind::Items),
+    ("present(", ItemKind::Items),
+    ("attach(", ItemKind::Pointers),
 ];
 
-const OF_ENTER_DATA: &[Clause] = &[
-    ("copyin(", Named::Items),
-    ("copyin(readonly: ", Named::Items),
-    ("create(", Named::Items),
-    ("create(zero: ", Named::Items),
-    ("attach(", Named::Pointers),
+const OF_ENTER_DATA: &[ClauseOpening] = &[
+    ("copyin(", ItemKind::Items),
+    ("copyin(readonly: ", ItemKind::Items),
+    ("create(", ItemKind::Items),
+    ("create(zero: ", ItemKind::Items),
+    ("attach(", ItemKind::Pointers),
 ];
 
-const OF_EXIT_DATA: &[Clause] = &[
-    ("copyout(", Named::Items),
-    ("delete(", Named::Items),
-    ("detach(", Named::Pointers),
+const OF_EXIT_DATA: &[ClauseOpening] = &[
+    ("copyout(", ItemKind::Items),
+    ("delete(", ItemKind::Items),
+    ("detach(", ItemKind::Pointers),
 ];
 
-const OF_UPDATE: &[Clause] = &[("self(", Named::Sections), ("device(", Named::Sections)];
+const OF_UPDATE: &[ClauseOpening] = &[
+    ("self(", ItemKind::Sections),
+    ("device(", ItemKind::Sections),
+];
 
 /// Writes statements by chance, over arrays whose sizes are by chance too.
 #[derive(Drop)]
@@ -134,7 +126,13 @@ impl Statements {
     }
 
     /// Writes a directive of one clause or two, with or without its option and a queue.
-    fn put_directive(&mut self, words: &str, clauses: &[Clause], option: &str, has_queue: bool) {
+    fn put_directive(
+        &mut self,
+        words: &str,
+        clauses: &[ClauseOpening],
+        option: &str,
+        has_queue: bool,
+    ) {
         self.page.text(words);
         self.put_clause(clauses);
         if self.chance.once_in(4) {
@@ -149,26 +147,26 @@ impl Statements {
         }
     }
 
-    fn put_clause(&mut self, clauses: &[Clause]) {
+    fn put_clause(&mut self, clauses: &[ClauseOpening]) {
         let nth = self.chance.below(clauses.len().max(1) as u64);
-        let Some((words, named)) = clauses.get(nth as usize).copied() else {
+        let Some((words, kind)) = clauses.get(nth as usize).copied() else {
             return;
         };
         self.page.text(" ");
         self.page.text(words);
-        self.put_named(named);
+        self.put_listed(kind);
         if self.chance.once_in(4) {
             self.page.text(", ");
-            self.put_named(named);
+            self.put_listed(kind);
         }
         self.page.text(")");
     }
 
-    fn put_named(&mut self, named: Named) {
-        match named {
-            Named::Sections => self.put_section(),
-            Named::Items => self.put_item(),
-            Named::Pointers => self.put_pointer(),
+    fn put_listed(&mut self, kind: ItemKind) {
+        match kind {
+            ItemKind::Sections => self.put_section(),
+            ItemKind::Items => self.put_item(),
+            ItemKind::Pointers => self.put_pointer(),
         }
     }
 

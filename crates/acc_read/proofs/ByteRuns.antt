@@ -15,12 +15,6 @@ module _ {X : Type 0} (p : X → Bool) where
   run_passes xs at n run left =
       left ∙ all_split (drop at xs) n ∙ ap (λ b. b && list_all p (drop n (drop at xs))) run ∙ ap (list_all p) (drop-drop n at xs)
 
-  -- a run at a place that does not pass decides
-  pub run_fails : (xs : List X) (at n : ℕ) → list_all p (take n (drop at xs)) ≡ false
-      → list_all p xs ≡ list_all p (drop at xs) → list_all p xs ≡ false
-  run_fails xs at n run left =
-      left ∙ all_split (drop at xs) n ∙ ap (λ b. b && list_all p (drop n (drop at xs))) run
-
   -- what is left may begin before that place
   pub run_overlaps : (xs : List X) (at from : ℕ) → from ≤ at → list_all p xs ≡ list_all p (drop at xs)
       → list_all p xs ≡ list_all p (drop from xs)

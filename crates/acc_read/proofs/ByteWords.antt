@@ -48,11 +48,11 @@ all_values (c ∷ word) e =
 
 -- a word with an even number of digits, and not too many, says bytes
 pub right_word : (word : List ℕ) → list_all is_ascii_hexdigit word ≡ true → length word ≤ 128 → length word % 2 ≢ 1
-    → (bytes : List ℕ) × (bytes_said word ≡ Ok bytes)
+    → IsOk (bytes_said word)
 unfolding bytes_said
 right_word word e few even =
     let bytes = decode_of-digits word (omega arith) (AllPass-from_list_all is_hex_digit word (all_values word e)) in
-    (bytes.0, rw (e, le-ltb 128 (length word) few, bytes.1) refl)
+    rw (e, le-ltb 128 (length word) few, bytes.1) refl
 
 -- the bytes that a right word is decoded to are those that it says
 pub word_decoded : (word bytes : List ℕ) → IsOk (bytes_said word) → decode_of word ≡ Ok bytes

@@ -9,14 +9,14 @@ use Rattle.std.proofs.lemmas.List.Sums.{prefix_len-le-length}
 use Rattle.acc_base.specs.declared.faults.ScriptFault.{ScriptFault}
 use Rattle.acc_base.specs.declared.faults.ScriptFault.TheVariants.{Syntax, UnknownName}
 use Rattle.acc_base.specs.declared.items.Item.{Item}
-use Rattle.acc_read.specs.declared.items.Kind.{Kind}
-use Rattle.acc_read.specs.declared.items.Kind.TheVariants.{Sections, Items, Pointers}
+use Rattle.acc_read.specs.declared.items.ItemKind.{ItemKind}
+use Rattle.acc_read.specs.declared.items.ItemKind.TheVariants.{Sections, Items, Pointers}
 use Rattle.acc_read.specs.Reading.{◌>>=◌}
 use Rattle.acc_read.specs.Repeating.{repeated}
 use Rattle.acc_read.specs.Tokens.{is_word_byte, is_blank, word_len, skip_blanks, word_at, keyword_at, is_word_next, is_name, name_at, number_said, number_at, number_limit, is_mark_next, mark_at, skip_comma, is_word_before, comma, colon, left_bracket, right_bracket, left_parenthesis, right_parenthesis}
 use Rattle.acc_read.specs.Layout.{ArrayLayout, array_of}
 use Rattle.acc_read.specs.Places.{known_at, offset_at, address_at, part_at, section_at}
-use Rattle.acc_read.specs.Items.{via_at, aim_at, named_at}
+use Rattle.acc_read.specs.Items.{via_at, aim_at, one_item_at}
 use Rattle.acc_read.specs.Queues.{enclosed_number_at, async_queue_at}
 use Rattle.acc_read.specs.Grammar.{Grammar}
 use Rattle.acc_read.specs.Clauses.{item_at, items_at, modifier_at, modified_at, group_at, ClausesRead, listed, queued, clause_at, goes_on, all_clauses_at}
@@ -129,12 +129,12 @@ aim_leaves : (layout : ArrayLayout) (text : List ℕ) → LeavesText unread (len
 unfolding aim_at via_at
 aim_leaves layout text = either unread _ (is_word_next (codes "via") text) _ _ (steps alone unread _ _ _ _ (keyword_leaves (codes "via") text) (λ rest l0. steps unread unread _ _ _ _ (address_leaves layout rest) (λ pointer l1. omega arith))) (omega arith)
 
--- what an item names takes a byte at least
-named_leaves : (kind : Kind) (layout : ArrayLayout) (text : List ℕ) → LeavesText unread (length text) (named_at kind layout text)
-unfolding named_at
-named_leaves Sections layout text = steps unread unread _ _ _ _ (section_leaves layout text) (λ section less. less)
-named_leaves Items layout text = steps unread unread _ _ _ _ (section_leaves layout text) (λ section l0. steps unread unread _ _ _ _ (aim_leaves layout section.1) (λ aim l1. omega arith))
-named_leaves Pointers layout text = steps unread unread _ _ _ _ (address_leaves layout text) (λ pointer less. less)
+-- an item takes a byte at least
+item_leaves : {C : Type 0} (kind : ItemKind) (clause : C) (layout : ArrayLayout) (text : List ℕ) → LeavesText unread (length text) (one_item_at kind clause layout text)
+unfolding one_item_at
+item_leaves Sections clause layout text = steps unread unread _ _ _ _ (section_leaves layout text) (λ section less. less)
+item_leaves Items clause layout text = steps unread unread _ _ _ _ (section_leaves layout text) (λ section l0. steps unread unread _ _ _ _ (aim_leaves layout section.1) (λ aim l1. omega arith))
+item_leaves Pointers clause layout text = steps unread unread _ _ _ _ (address_leaves layout text) (λ pointer less. less)
 
 -- ---- queues
 
@@ -194,23 +194,23 @@ module _ {A : Type 0} where
 -- ---- items and clauses
 
 -- no item stands in an empty text
-no_item : (kind : Kind) (layout : ArrayLayout) → named_at kind layout [] ≡ Err Syntax
-unfolding named_at section_at address_at known_at name_at word_at
-no_item Sections layout = refl
-no_item Items layout = refl
-no_item Pointers layout = refl
+no_item : {C : Type 0} (kind : ItemKind) (clause : C) (layout : ArrayLayout) → one_item_at kind clause layout [] ≡ Err Syntax
+unfolding one_item_at section_at address_at known_at name_at word_at
+no_item Sections clause layout = refl
+no_item Items clause layout = refl
+no_item Pointers clause layout = refl
 
 module _ {C : Type 0} where
   -- items take bytes
-  items_take : (kind : Kind) (clause : C) (layout : ArrayLayout) → TakesBytes (item_at kind clause layout)
+  items_take : (kind : ItemKind) (clause : C) (layout : ArrayLayout) → TakesBytes (item_at kind clause layout)
   unfolding item_at
   items_take kind clause layout = record {
-    leaves = λ before text. steps unread unread _ _ _ _ (named_leaves kind layout text) (λ named less. less);
-    none = λ before. rw (no_item kind layout) refl;
+    leaves = λ before text. steps unread unread _ _ _ _ (item_leaves kind clause layout text) (λ item less. less);
+    none = λ before. rw (no_item kind clause layout) refl;
   }
 
   -- as much fuel as the text has bytes is enough for items
-  pub items_enough : (extra : ℕ) (kind : Kind) (clause : C) (layout : ArrayLayout) (before : List (Item C))
+  pub items_enough : (extra : ℕ) (kind : ItemKind) (clause : C) (layout : ArrayLayout) (before : List (Item C))
       (text : List ℕ)
       → repeated (length text + extra) (item_at kind clause layout) (is_mark_next comma) before text
       ≡ items_at kind clause layout before text

@@ -13,7 +13,7 @@ use Rattle.std.specs.BTreeMap.{is_at, insert_entry}
 use Rattle.std.specs.Map.{lookup}
 use Rattle.std.proofs.lemmas.Bool.{and_parts, and_from, cond-true, cond-false}
 use Rattle.acc_read.specs.declared.arrays.Array.{Array}
-use Rattle.acc_read.specs.Layout.{Names}
+use Rattle.acc_read.specs.Layout.{ArraysByName}
 use Rattle.acc_read.specs.Naming.{number_of, name_of, is_short, has_name, named_entry, short_entries, entry_of, long_entries, names_of}
 use Rattle.acc_read.proofs.ShortNames.{name_of-number_of}
 
@@ -145,7 +145,7 @@ put_entry k array (e ∷ entries) =
     ]
 
 -- a map whose look-ups are those of one with an array more is that one
-same_names : (names : Names) (name : List ℕ) (array : Array) (later : Names)
+same_names : (names : ArraysByName) (name : List ℕ) (array : Array) (later : ArraysByName)
     → ((q : List ℕ) → get later q ≡ cond (eq_by_cmp by_name q name) (Some array) (get names q))
     → later ≡ insert names name array
 same_names names name array later is =

@@ -3,26 +3,26 @@ use Rattle.std.specs.Prelude.{ℕ, Bool, true, false, not, List, [], ◌∷◌, 
 use Rattle.acc_base.specs.declared.faults.ScriptFault.{ScriptFault}
 use Rattle.acc_base.specs.declared.faults.ScriptFault.TheVariants.{Syntax}
 use Rattle.acc_base.specs.declared.items.Item.{Item}
-use Rattle.acc_read.specs.declared.items.Kind.{Kind}
+use Rattle.acc_read.specs.declared.items.ItemKind.{ItemKind}
 use Rattle.acc_read.specs.Reading.{◌>>=◌}
 use Rattle.acc_read.specs.Repeating.{one_or_more}
 use Rattle.acc_read.specs.Tokens.{word_at, mark_at, is_mark_next, is_word_before, is_at_end, left_parenthesis, right_parenthesis, colon, comma}
 use Rattle.acc_read.specs.Layout.{ArrayLayout}
-use Rattle.acc_read.specs.Items.{named_at, item_of}
+use Rattle.acc_read.specs.Items.{one_item_at}
 use Rattle.acc_read.specs.Queues.{async_queue_at}
 use Rattle.acc_read.specs.Grammar.{Grammar}
 
 -- ---- the items of a clause
 
 -- an item, behind the items before
-unfoldable pub item_at : {C : Type 0} → Kind → C → ArrayLayout → List (Item C) → List ℕ
+unfoldable pub item_at : {C : Type 0} → ItemKind → C → ArrayLayout → List (Item C) → List ℕ
     → Result (List (Item C) × List ℕ) ScriptFault
 item_at kind clause layout before text = do
-  named ← named_at kind layout text
-  Ok (before ++ item_of clause named.0 ∷ [], named.1)
+  item ← one_item_at kind clause layout text
+  Ok (before ++ item.0 ∷ [], item.1)
 
 -- one item or more, separated by commas, behind the items before
-abbrev pub items_at : {C : Type 0} → Kind → C → ArrayLayout → List (Item C) → List ℕ
+abbrev pub items_at : {C : Type 0} → ItemKind → C → ArrayLayout → List (Item C) → List ℕ
     → Result (List (Item C) × List ℕ) ScriptFault
 items_at kind clause layout before text = one_or_more (item_at kind clause layout) (is_mark_next comma) before text
 

@@ -3,7 +3,7 @@ use Rattle.std.specs.Prelude.{ℕ, refl}
 use Rattle.std.specs.Coded.{Coded, code_by, coded×, coded_ℕ, coded_list}
 use Rattle.std.specs.FinMap as map
 use Rattle.acc_read.specs.declared.arrays.Array.{Array}
-use Rattle.acc_read.specs.Layout.{ArrayLayout, Names}
+use Rattle.acc_read.specs.Layout.{ArrayLayout, ArraysByName}
 
 -- an array, as two numbers
 abbrev pub array_code : Coded Array
@@ -12,11 +12,11 @@ array_code =
     (λ _. refl)
 
 -- arrays by their names, as a stored map
-abbrev pub names_code : Coded Names
+abbrev pub names_code : Coded ArraysByName
 names_code = map.code (coded_list coded_ℕ) array_code
 
 -- a layout, as its names and two numbers
 abbrev pub layout_code : Coded ArrayLayout
 layout_code =
-    code_by (Names × (ℕ × ℕ)) (coded× names_code (coded× coded_ℕ coded_ℕ)) (λ l. (l.names, (l.last_end, l.limit)))
+    code_by (ArraysByName × (ℕ × ℕ)) (coded× names_code (coded× coded_ℕ coded_ℕ)) (λ l. (l.names, (l.last_end, l.limit)))
     (λ p. record { names = p.0; last_end = p.1.0; limit = p.1.1 }) (λ _. refl)

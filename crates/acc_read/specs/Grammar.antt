@@ -9,14 +9,14 @@ use Rattle.acc_base.specs.declared.items.ExitClause.{ExitClause}
 use Rattle.acc_base.specs.declared.items.ExitClause.TheVariants as exit
 use Rattle.acc_base.specs.declared.items.UpdateClause.{UpdateClause}
 use Rattle.acc_base.specs.declared.items.UpdateClause.TheVariants.{ToSelf, ToDevice}
-use Rattle.acc_read.specs.declared.items.Kind.{Kind}
-use Rattle.acc_read.specs.declared.items.Kind.TheVariants.{Sections, Items, Pointers}
+use Rattle.acc_read.specs.declared.items.ItemKind.{ItemKind}
+use Rattle.acc_read.specs.declared.items.ItemKind.TheVariants.{Sections, Items, Pointers}
 
 -- what the words of a directive say: a clause, a clause with a modifier, what a clause lists, the option, and `async`
 pub record Grammar (C : Type 0) : Type 0 where
   pub clause_of : List ℕ → Option C
   pub modified : C → List ℕ → Option C
-  pub lists : C → Kind
+  pub lists : C → ItemKind
   pub is_option : List ℕ → Bool
   pub is_async : List ℕ → Bool
 
@@ -49,7 +49,7 @@ region_modified (region.Create filled) word = if bytes_eq word (codes "zero") th
 region_modified _ word = None
 
 -- what a clause of `data` lists
-abbrev pub region_lists : RegionClause → Kind
+abbrev pub region_lists : RegionClause → ItemKind
 region_lists region.Attach = Pointers
 region_lists _ = Items
 
@@ -79,7 +79,7 @@ enter_modified (enter.Create filled) word = if bytes_eq word (codes "zero") then
 enter_modified enter.Attach word = None
 
 -- what a clause of `enter data` lists
-abbrev pub enter_lists : EnterClause → Kind
+abbrev pub enter_lists : EnterClause → ItemKind
 enter_lists enter.Attach = Pointers
 enter_lists _ = Items
 
@@ -103,7 +103,7 @@ exit_clause_of word = if bytes_eq word (codes "copyout") then Some exit.Copyout
     else None
 
 -- what a clause of `exit data` lists
-abbrev pub exit_lists : ExitClause → Kind
+abbrev pub exit_lists : ExitClause → ItemKind
 exit_lists exit.Detach = Pointers
 exit_lists _ = Items
 

@@ -9,12 +9,12 @@ use Rattle.acc_base.specs.Blocks.{rounded}
 use Rattle.acc_read.specs.declared.arrays.Array.{Array}
 
 -- arrays by their names
-abbrev pub Names : Type 0
-Names = map.FinMap (slice_cmp nat_cmp) Array
+abbrev pub ArraysByName : Type 0
+ArraysByName = map.FinMap (slice_cmp nat_cmp) Array
 
 -- the arrays, the address behind the last one, and the address behind host memory
 pub record ArrayLayout : Type 0 where
-  pub names : Names
+  pub names : ArraysByName
   pub last_end : ℕ
   pub limit : ℕ
 

@@ -1,6 +1,6 @@
 -- What statements and clauses of the code say, without where they lie in memory.
 use Rattle.std.specs.Prelude.{◌≡◌, true, false, List, [], ◌∷◌, Option, Some, None, length, ◌==◌, vec_len, vec_capacity}
-use Rattle.acc_read.specs.declared.kept.Kept.{Kept}
+use Rattle.acc_read.specs.declared.kept.KeptItems.{KeptItems}
 use Rattle.acc_read.specs.declared.kept.Finished.{Finished}
 use Rattle.acc_read.specs.declared.kept.Finished.TheVariants.{Fitted, Single, Refused}
 use Rattle.acc_read.specs.declared.clauses.Clauses.{Clauses}
@@ -36,7 +36,7 @@ IsAll None items all = items ≡ all
 IsAll (Some item) items all = (items ≡ []) × (item ∷ [] ≡ all)
 
 -- what is kept of a list is all of it; or memory was refused for an item of it
-pub record IsKept {A : Type 0} (kept : Kept A) (items : List A) : Type 0 where
+pub record IsKept {A : Type 0} (kept : KeptItems A) (items : List A) : Type 0 where
   pub all : kept.is_wanting ≡ false → IsAll kept.alone kept.items.items items
   pub some : kept.is_wanting ≡ true → (length items == 0) ≡ false
 

@@ -4,7 +4,7 @@ use Rattle.std.specs.Global.{Vec}
 use Rattle.std.specs.List.{list_all}
 use Rattle.std.specs.FinMap as finite
 use Rattle.acc_read.specs.declared.arrays.Array.{Array}
-use Rattle.acc_read.specs.Layout.{Names}
+use Rattle.acc_read.specs.Layout.{ArraysByName}
 
 -- the number that bytes say in base 256
 unfoldable pub number_of : List ℕ → ℕ
@@ -44,5 +44,5 @@ abbrev pub long_entries : List (Vec ℕ × Array) → List (List ℕ × Array)
 long_entries entries = filter (λ e. not (is_short e.0)) (map entry_of entries)
 
 -- arrays by their names, from the entries of both maps
-abbrev pub names_of : List (ℕ × Array) → List (Vec ℕ × Array) → Names
+abbrev pub names_of : List (ℕ × Array) → List (Vec ℕ × Array) → ArraysByName
 names_of short long = finite.from_entries (short_entries short ++ long_entries long)

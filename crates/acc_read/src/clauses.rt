@@ -1,15 +1,15 @@
 //! The clauses and options of a directive.
 
-ghost use Rattle.std.specs.Prelude.{List};
+ghost use Rattle.std.specs.Prelude.{List, MatchResult, IsOk, ◌≡◌};
 ghost use Rattle.acc_base.specs.declared.items.Item.{Item};
-ghost use Rattle.acc_read.specs.Reading.{Reads, Keeps, Gives, always};
+ghost use Rattle.acc_read.specs.Reading.{MatchTrouble};
 ghost use Rattle.acc_read.specs.Clauses.{item_at, items_at, modifier_at, modified_at, group_at, ClausesRead, nothing_read, queued, clause_at, all_clauses_at, with_clause, clauses_at};
 ghost use Rattle.acc_read.specs.Meanings.{IsKept, IsRead, clauses_read};
 
 use crate::arrays::Arrays;
-use crate::grammar::Clause;
-use crate::items::{Kind, item_of, named_at};
-use crate::kept::Kept;
+use crate::grammar::ScriptClause;
+use crate::items::{ItemKind, one_item_at};
+use crate::kept::KeptItems;
 use crate::queues::async_queue_at;
 use crate::tokens::{is_at_end, is_mark_next, is_word_before, mark_at, skip_comma, word_at};
 use crate::troubles::Trouble;
@@ -30,7 +30,7 @@ pub struct Clauses<C> {
 /// The clauses and options of a directive that were read so far.
 #[derive(Drop)]
 struct Unfinished<C> {
-    items: Kept<Item<C>>,
+    items: KeptItems<Item<C>>,
     has_option: bool,
     queue: Option<u64>,
 }
@@ -38,30 +38,32 @@ struct Unfinished<C> {
 /// An item, behind the items before; the text after it.
 #[tactic(auto, unfolding(crate::specs::Clauses::item_at))]
 fn item_at<'a, C: Copy>(
-    kind: Kind,
+    kind: ItemKind,
     clause: C,
     arrays: &Arrays,
-    items: &mut Kept<Item<C>>,
+    items: &mut KeptItems<Item<C>>,
     text: &'a [u8],
 ) -> Result<&'a [u8], ScriptFault>
     ensures { (before : List (Item C)) → IsKept items.old before
-        → Keeps (IsKept items.new) (λ x. x.now) result (item_at kind clause arrays.now before text.now) }
+        → let read = item_at kind clause arrays.now before text.now in MatchResult result
+        (λ rest. (after : List (Item C)) × (read ≡ Ok (after, rest.now)) × IsKept items.new after) (λ fault. read ≡ Err fault) }
 {
-    let (named, rest) = named_at(kind, arrays, text)?;
-    items.push(item_of(clause, named));
+    let (item, rest) = one_item_at(kind, clause, arrays, text)?;
+    items.push(item);
     Ok(rest)
 }
 
 /// One item or more, separated by commas, behind the items before; the text after them.
 fn items_at<'a, C: Copy>(
-    kind: Kind,
+    kind: ItemKind,
     clause: C,
     arrays: &Arrays,
-    items: &mut Kept<Item<C>>,
+    items: &mut KeptItems<Item<C>>,
     text: &'a [u8],
 ) -> Result<&'a [u8], ScriptFault>
     ensures { (before : List (Item C)) → IsKept items.old before
-        → Keeps (IsKept items.new) (λ x. x.now) result (items_at kind clause arrays.now before text.now) }
+        → let read = items_at kind clause arrays.now before text.now in MatchResult result
+        (λ rest. (after : List (Item C)) × (read ≡ Ok (after, rest.now)) × IsKept items.new after) (λ fault. read ≡ Err fault) }
 {
     let mut rest = text;
     for _ in 0..text.len() {
@@ -75,8 +77,9 @@ fn items_at<'a, C: Copy>(
 }
 
 #[tactic(auto, unfolding(crate::specs::Clauses::modifier_at))]
-fn modifier_at<C: Clause>(clause: C, text: &[u8]) -> Result<(C, &[u8]), ScriptFault>
-    ensures { Reads (λ x. (x.0, x.1.now)) result (modifier_at C.grammar clause text.now) }
+fn modifier_at<C: ScriptClause>(clause: C, text: &[u8]) -> Result<(C, &[u8]), ScriptFault>
+    ensures { let read = modifier_at C.grammar clause text.now in
+        MatchResult result (λ x. read ≡ Ok (x.0, x.1.now)) (λ fault. read ≡ Err fault) }
 {
     let (word, rest) = word_at(text)?;
     let rest = mark_at(b':', rest)?;
@@ -87,8 +90,9 @@ fn modifier_at<C: Clause>(clause: C, text: &[u8]) -> Result<(C, &[u8]), ScriptFa
 /// A clause with the modifier that stands next, if one does; the text after it. The first word is a modifier exactly
 /// where a colon follows it.
 #[tactic(auto, unfolding(crate::specs::Clauses::modified_at))]
-fn modified_at<C: Clause>(clause: C, text: &[u8]) -> Result<(C, &[u8]), ScriptFault>
-    ensures { Reads (λ x. (x.0, x.1.now)) result (modified_at C.grammar clause text.now) }
+fn modified_at<C: ScriptClause>(clause: C, text: &[u8]) -> Result<(C, &[u8]), ScriptFault>
+    ensures { let read = modified_at C.grammar clause text.now in
+        MatchResult result (λ x. read ≡ Ok (x.0, x.1.now)) (λ fault. read ≡ Err fault) }
 {
     if is_word_before(b':', text) {
         modifier_at(clause, text)
@@ -98,14 +102,15 @@ fn modified_at<C: Clause>(clause: C, text: &[u8]) -> Result<(C, &[u8]), ScriptFa
 }
 
 #[tactic(auto, unfolding(crate::specs::Clauses::group_at))]
-fn group_at<'a, C: Clause>(
+fn group_at<'a, C: ScriptClause>(
     clause: C,
     arrays: &Arrays,
-    items: &mut Kept<Item<C>>,
+    items: &mut KeptItems<Item<C>>,
     text: &'a [u8],
 ) -> Result<&'a [u8], ScriptFault>
     ensures { (before : List (Item C)) → IsKept items.old before
-        → Keeps (IsKept items.new) (λ x. x.now) result (group_at C.grammar clause arrays.now before text.now) }
+        → let read = group_at C.grammar clause arrays.now before text.now in MatchResult result
+        (λ rest. (after : List (Item C)) × (read ≡ Ok (after, rest.now)) × IsKept items.new after) (λ fault. read ≡ Err fault) }
 {
     let inside = mark_at(b'(', text)?;
     let (modified, inside) = modified_at(clause, inside)?;
@@ -116,7 +121,8 @@ fn group_at<'a, C: Clause>(
 /// The queue of `async`, which stands once at most; the text after it.
 fn queued<'a, C>(unfinished: &mut Unfinished<C>, text: &'a [u8]) -> Result<&'a [u8], ScriptFault>
     ensures { (before : ClausesRead C) → IsRead unfinished.old before
-        → Keeps (IsRead unfinished.new) (λ x. x.now) result (queued before text.now) }
+        → let read = queued before text.now in MatchResult result
+        (λ rest. (after : ClausesRead C) × (read ≡ Ok (after, rest.now)) × IsRead unfinished.new after) (λ fault. read ≡ Err fault) }
 {
     if unfinished.queue.is_some() {
         return Err(ScriptFault::Syntax);
@@ -128,13 +134,14 @@ fn queued<'a, C>(unfinished: &mut Unfinished<C>, text: &'a [u8]) -> Result<&'a [
 
 /// A clause or an option, behind those before; the text after it.
 #[tactic(auto, unfolding(crate::specs::Clauses::clause_at))]
-fn clause_at<'a, C: Clause>(
+fn clause_at<'a, C: ScriptClause>(
     arrays: &Arrays,
     unfinished: &mut Unfinished<C>,
     text: &'a [u8],
 ) -> Result<&'a [u8], ScriptFault>
     ensures { (before : ClausesRead C) → IsRead unfinished.old before
-        → Keeps (IsRead unfinished.new) (λ x. x.now) result (clause_at C.grammar arrays.now before text.now) }
+        → let read = clause_at C.grammar arrays.now before text.now in MatchResult result
+        (λ rest. (after : ClausesRead C) × (read ≡ Ok (after, rest.now)) × IsRead unfinished.new after) (λ fault. read ≡ Err fault) }
 {
     let (word, rest) = word_at(text)?;
     if C::is_option(word) {
@@ -152,13 +159,14 @@ fn clause_at<'a, C: Clause>(
 }
 
 /// The clauses and options up to the end of the line, behind those before; the text after them.
-fn all_clauses_at<'a, C: Clause>(
+fn all_clauses_at<'a, C: ScriptClause>(
     arrays: &Arrays,
     unfinished: &mut Unfinished<C>,
     text: &'a [u8],
 ) -> Result<&'a [u8], ScriptFault>
     ensures { (before : ClausesRead C) → IsRead unfinished.old before
-        → Keeps (IsRead unfinished.new) (λ x. x.now) result (all_clauses_at C.grammar arrays.now before text.now) }
+        → let read = all_clauses_at C.grammar arrays.now before text.now in MatchResult result
+        (λ rest. (after : ClausesRead C) × (read ≡ Ok (after, rest.now)) × IsRead unfinished.new after) (λ fault. read ≡ Err fault) }
 {
     let mut rest = text;
     for _ in 0..text.len() {
@@ -173,7 +181,9 @@ fn all_clauses_at<'a, C: Clause>(
 
 /// What was read, if a clause was among it.
 fn with_clause<C: Copy>(unfinished: Unfinished<C>) -> Result<Clauses<C>, Trouble>
-    ensures { (read : ClausesRead C) → IsRead unfinished read → Gives always clauses_read result (with_clause read) }
+    ensures { (before : ClausesRead C) → IsRead unfinished before → let read = with_clause before in MatchResult result
+        (λ clauses. read ≡ Ok (clauses_read clauses))
+        (λ trouble. MatchTrouble trouble (IsOk read) (λ fault. read ≡ Err fault)) }
 {
     let items = unfinished.items.finish()?;
     if items.as_slice().is_empty() {
@@ -192,15 +202,17 @@ fn with_clause<C: Copy>(unfinished: Unfinished<C>) -> Result<Clauses<C>, Trouble
 ///
 /// The first fault of the text. Lack of memory is returned once all was read, so that a fault comes first.
 #[tactic(auto, unfolding(crate::specs::Clauses::clauses_at))]
-pub fn clauses_at<C: Clause>(
+pub fn clauses_at<C: ScriptClause>(
     alloc: Global,
     arrays: &Arrays,
     text: &[u8],
 ) -> Result<Clauses<C>, Trouble>
-    ensures { Gives always clauses_read result (clauses_at C.grammar arrays.now text.now) }
+    ensures { let read = clauses_at C.grammar arrays.now text.now in MatchResult result
+        (λ clauses. read ≡ Ok (clauses_read clauses))
+        (λ trouble. MatchTrouble trouble (IsOk read) (λ fault. read ≡ Err fault)) }
 {
     let mut unfinished = Unfinished {
-        items: Kept::new(alloc),
+        items: KeptItems::new(alloc),
         has_option: false,
         queue: None,
     };

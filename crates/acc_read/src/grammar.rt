@@ -3,12 +3,12 @@
 ghost use Rattle.std.specs.Prelude.{◌≡◌};
 ghost use Rattle.acc_read.specs.Grammar.{Grammar, region_grammar, enter_grammar, exit_grammar, update_grammar};
 
-use crate::items::Kind;
+use crate::items::ItemKind;
 use crate::tokens::is_text;
 use acc_base::{EnterClause, ExitClause, RegionClause, UpdateClause};
 
 /// The clauses of a directive, by their words.
-pub trait Clause: Copy {
+pub trait ScriptClause: Copy {
     /// The words of the clauses, their modifiers, what each lists, the option, and `async`.
     ghost grammar: { Grammar Self };
 
@@ -21,7 +21,7 @@ pub trait Clause: Copy {
         ensures { result ≡ grammar.modified self word.now };
 
     /// What the clause lists.
-    fn lists(self) -> Kind
+    fn lists(self) -> ItemKind
         ensures { result ≡ grammar.lists self };
 
     /// The word is the option of the directive, where it has one.
@@ -33,7 +33,7 @@ pub trait Clause: Copy {
         ensures { result ≡ grammar.is_async word.now };
 }
 
-impl Clause for RegionClause {
+impl ScriptClause for RegionClause {
     ghost grammar = { region_grammar };
 
     fn from_word(word: &[u8]) -> Option<RegionClause> {
@@ -69,10 +69,10 @@ impl Clause for RegionClause {
         }
     }
 
-    fn lists(self) -> Kind {
+    fn lists(self) -> ItemKind {
         match self {
-            RegionClause::Attach => Kind::Pointers,
-            _ => Kind::Items,
+            RegionClause::Attach => ItemKind::Pointers,
+            _ => ItemKind::Items,
         }
     }
 
@@ -85,7 +85,7 @@ impl Clause for RegionClause {
     }
 }
 
-impl Clause for EnterClause {
+impl ScriptClause for EnterClause {
     ghost grammar = { enter_grammar };
 
     fn from_word(word: &[u8]) -> Option<EnterClause> {
@@ -110,10 +110,10 @@ impl Clause for EnterClause {
         }
     }
 
-    fn lists(self) -> Kind {
+    fn lists(self) -> ItemKind {
         match self {
-            EnterClause::Attach => Kind::Pointers,
-            _ => Kind::Items,
+            EnterClause::Attach => ItemKind::Pointers,
+            _ => ItemKind::Items,
         }
     }
 
@@ -126,7 +126,7 @@ impl Clause for EnterClause {
     }
 }
 
-impl Clause for ExitClause {
+impl ScriptClause for ExitClause {
     ghost grammar = { exit_grammar };
 
     fn from_word(word: &[u8]) -> Option<ExitClause> {
@@ -145,10 +145,10 @@ impl Clause for ExitClause {
         None
     }
 
-    fn lists(self) -> Kind {
+    fn lists(self) -> ItemKind {
         match self {
-            ExitClause::Detach => Kind::Pointers,
-            _ => Kind::Items,
+            ExitClause::Detach => ItemKind::Pointers,
+            _ => ItemKind::Items,
         }
     }
 
@@ -161,7 +161,7 @@ impl Clause for ExitClause {
     }
 }
 
-impl Clause for UpdateClause {
+impl ScriptClause for UpdateClause {
     ghost grammar = { update_grammar };
 
     fn from_word(word: &[u8]) -> Option<UpdateClause> {
@@ -178,8 +178,8 @@ impl Clause for UpdateClause {
         None
     }
 
-    fn lists(self) -> Kind {
-        Kind::Sections
+    fn lists(self) -> ItemKind {
+        ItemKind::Sections
     }
 
     fn is_option(word: &[u8]) -> bool {

@@ -1,8 +1,7 @@
-//! What the items of a clause name.
+//! The items of a clause.
 
-ghost use Rattle.std.specs.Prelude.{◌≡◌};
-ghost use Rattle.acc_read.specs.Reading.{Reads};
-ghost use Rattle.acc_read.specs.Items.{via_at, aim_at, named_at, item_of};
+ghost use Rattle.std.specs.Prelude.{◌≡◌, MatchResult};
+ghost use Rattle.acc_read.specs.Items.{via_at, aim_at, one_item_at};
 
 use crate::arrays::Arrays;
 use crate::places::{address_at, section_at};
@@ -11,7 +10,7 @@ use acc_base::{Item, ScriptFault, Section};
 
 /// What a clause lists.
 #[derive(Clone, Copy)]
-pub enum Kind {
+pub enum ItemKind {
     /// Sections alone, as in `update`.
     Sections,
     /// Sections, each with the pointer to it where one is named.
@@ -20,18 +19,10 @@ pub enum Kind {
     Pointers,
 }
 
-/// What an item names.
-#[derive(Clone, Copy)]
-pub struct Named {
-    /// The section, or the eight bytes of a pointer that stands alone.
-    pub section: Section,
-    /// The host address of the pointer to the section, if one is named.
-    pub pointer: Option<u64>,
-}
-
 #[tactic(auto, unfolding(crate::specs::Items::via_at))]
 fn via_at<'a>(arrays: &Arrays, text: &'a [u8]) -> Result<(Option<u64>, &'a [u8]), ScriptFault>
-    ensures { Reads (λ x. (x.0, x.1.now)) result (via_at arrays.now text.now) }
+    ensures { let read = via_at arrays.now text.now in
+        MatchResult result (λ x. read ≡ Ok (x.0, x.1.now)) (λ fault. read ≡ Err fault) }
 {
     let rest = keyword_at("via", text)?;
     let (pointer, rest) = address_at(arrays, rest)?;
@@ -41,7 +32,8 @@ fn via_at<'a>(arrays: &Arrays, text: &'a [u8]) -> Result<(Option<u64>, &'a [u8])
 /// The pointer to a section, where the word `via` stands next, and the text after it.
 #[tactic(auto, unfolding(crate::specs::Items::aim_at))]
 fn aim_at<'a>(arrays: &Arrays, text: &'a [u8]) -> Result<(Option<u64>, &'a [u8]), ScriptFault>
-    ensures { Reads (λ x. (x.0, x.1.now)) result (aim_at arrays.now text.now) }
+    ensures { let read = aim_at arrays.now text.now in
+        MatchResult result (λ x. read ≡ Ok (x.0, x.1.now)) (λ fault. read ≡ Err fault) }
 {
     if is_word_next("via", text) {
         via_at(arrays, text)
@@ -50,42 +42,54 @@ fn aim_at<'a>(arrays: &Arrays, text: &'a [u8]) -> Result<(Option<u64>, &'a [u8])
     }
 }
 
-/// What the next item names in a clause that lists such, and the text after it.
-#[tactic(auto, unfolding(crate::specs::Items::named_at))]
-pub fn named_at<'a>(
-    kind: Kind,
+/// The next item of a clause that lists such, and the text after it.
+#[tactic(auto, unfolding(crate::specs::Items::one_item_at))]
+pub fn one_item_at<'a, C: Copy>(
+    kind: ItemKind,
+    clause: C,
     arrays: &Arrays,
     text: &'a [u8],
-) -> Result<(Named, &'a [u8]), ScriptFault>
-    ensures { Reads (λ x. (x.0, x.1.now)) result (named_at kind arrays.now text.now) }
+) -> Result<(Item<C>, &'a [u8]), ScriptFault>
+    ensures { let read = one_item_at kind clause arrays.now text.now in
+        MatchResult result (λ x. read ≡ Ok (x.0, x.1.now)) (λ fault. read ≡ Err fault) }
 {
     match kind {
-        Kind::Sections => {
+        ItemKind::Sections => {
             let (section, rest) = section_at(arrays, text)?;
             let pointer = None;
-            Ok((Named { section, pointer }, rest))
+            Ok((
+                Item {
+                    clause,
+                    section,
+                    pointer,
+                },
+                rest,
+            ))
         }
-        Kind::Items => {
+        ItemKind::Items => {
             let (section, rest) = section_at(arrays, text)?;
             let (pointer, rest) = aim_at(arrays, rest)?;
-            Ok((Named { section, pointer }, rest))
+            Ok((
+                Item {
+                    clause,
+                    section,
+                    pointer,
+                },
+                rest,
+            ))
         }
-        Kind::Pointers => {
+        ItemKind::Pointers => {
             let (start, rest) = address_at(arrays, text)?;
             let section = Section { start, len: 8 };
             let pointer = None;
-            Ok((Named { section, pointer }, rest))
+            Ok((
+                Item {
+                    clause,
+                    section,
+                    pointer,
+                },
+                rest,
+            ))
         }
-    }
-}
-
-/// What was named under a clause, as an item.
-pub fn item_of<C: Copy>(clause: C, named: Named) -> Item<C>
-    ensures { result ≡ item_of clause named }
-{
-    Item {
-        clause,
-        section: named.section,
-        pointer: named.pointer,
     }
 }

@@ -37,7 +37,7 @@ enum Finished<T> {
 /// What is kept of the items of a line. One alone takes no memory. Once memory was refused for one of them no more are
 /// kept, and the rest of the line can still be read for its faults.
 #[derive(Drop)]
-pub struct Kept<T> {
+pub struct KeptItems<T> {
     // All items but the one that stands alone.
     items: Vec<T>,
     // The first item, as long as no other follows it.
@@ -45,12 +45,12 @@ pub struct Kept<T> {
     is_wanting: bool,
 }
 
-impl<T: Copy> Kept<T> {
+impl<T: Copy> KeptItems<T> {
     /// No item is kept yet.
-    pub fn new(alloc: Global) -> Kept<T>
+    pub fn new(alloc: Global) -> KeptItems<T>
         ensures { IsKept result [] }
     {
-        Kept {
+        KeptItems {
             items: Vec::new(alloc),
             alone: None,
             is_wanting: false,

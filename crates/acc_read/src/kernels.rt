@@ -1,6 +1,6 @@
 //! Kernels, and the sections that they work on.
 
-ghost use Rattle.acc_read.specs.Reading.{Reads};
+ghost use Rattle.std.specs.Prelude.{MatchResult, ◌≡◌};
 ghost use Rattle.acc_read.specs.Kernels.{last_number_at, last_source_at, named_kernel_at, last_kernel_at};
 ghost use Rattle.acc_read.specs.Statements.{kernel_at};
 ghost use Rattle.acc_read.specs.Meanings.{meaning_of};
@@ -27,7 +27,7 @@ pub enum ScriptKernel {
 /// A number up to 255 and a section, up to the end of the line.
 #[tactic(auto, unfolding(crate::specs::Kernels::last_number_at))]
 fn last_number_at(arrays: &Arrays, text: &[u8]) -> Result<(u8, Section), ScriptFault>
-    ensures { Reads (λ x. x) result (last_number_at arrays.now text.now) }
+    ensures { result ≡ last_number_at arrays.now text.now }
 {
     let (number, rest) = number_at(255, text)?;
     let section = last_section_at(arrays, rest)?;
@@ -37,7 +37,7 @@ fn last_number_at(arrays: &Arrays, text: &[u8]) -> Result<(u8, Section), ScriptF
 /// A source and a section, up to the end of the line.
 #[tactic(auto, unfolding(crate::specs::Kernels::last_source_at))]
 fn last_source_at(arrays: &Arrays, text: &[u8]) -> Result<(Section, Section), ScriptFault>
-    ensures { Reads (λ x. x) result (last_source_at arrays.now text.now) }
+    ensures { result ≡ last_source_at arrays.now text.now }
 {
     let (source, rest) = section_at(arrays, text)?;
     let section = last_section_at(arrays, rest)?;
@@ -51,7 +51,7 @@ fn named_kernel_at(
     arrays: &Arrays,
     text: &[u8],
 ) -> Result<(ScriptKernel, Section), ScriptFault>
-    ensures { Reads (λ x. x) result (named_kernel_at word.now arrays.now text.now) }
+    ensures { result ≡ named_kernel_at word.now arrays.now text.now }
 {
     if is_text(word, "add") {
         let (number, section) = last_number_at(arrays, text)?;
@@ -73,7 +73,7 @@ fn named_kernel_at(
 /// A kernel and its section, up to the end of the line.
 #[tactic(auto, unfolding(crate::specs::Kernels::last_kernel_at))]
 fn last_kernel_at(arrays: &Arrays, text: &[u8]) -> Result<(ScriptKernel, Section), ScriptFault>
-    ensures { Reads (λ x. x) result (last_kernel_at arrays.now text.now) }
+    ensures { result ≡ last_kernel_at arrays.now text.now }
 {
     let (word, rest) = word_at(text)?;
     named_kernel_at(word, arrays, rest)
@@ -90,7 +90,8 @@ pub fn kernel_at(
     innermost: Option<u64>,
     text: &[u8],
 ) -> Result<Statement<'static>, ScriptFault>
-    ensures { Reads meaning_of result (kernel_at arrays.now innermost text.now) }
+    ensures { let read = kernel_at arrays.now innermost text.now in
+        MatchResult result (λ statement. read ≡ Ok (meaning_of statement)) (λ fault. read ≡ Err fault) }
 {
     let (kernel, section) = last_kernel_at(arrays, text)?;
     let region = innermost.ok_or(ScriptFault::NoOpenRegion)?;

@@ -1,6 +1,6 @@
 //! Addresses and sections of host memory, said by the names of arrays.
 
-ghost use Rattle.acc_read.specs.Reading.{Reads};
+ghost use Rattle.std.specs.Prelude.{MatchResult, ◌≡◌};
 ghost use Rattle.acc_read.specs.Places.{known_at, offset_at, address_at, last_address_at, part_at, section_at, last_section_at};
 
 use crate::arrays::{Array, Arrays};
@@ -10,7 +10,8 @@ use acc_base::{ScriptFault, Section};
 /// The next word, which is the name of an array, and the text after it.
 #[tactic(auto, unfolding(crate::specs::Places::known_at))]
 fn known_at<'a>(arrays: &Arrays, text: &'a [u8]) -> Result<(Array, &'a [u8]), ScriptFault>
-    ensures { Reads (λ x. (x.0, x.1.now)) result (known_at arrays.now text.now) }
+    ensures { let read = known_at arrays.now text.now in
+        MatchResult result (λ x. read ≡ Ok (x.0, x.1.now)) (λ fault. read ≡ Err fault) }
 {
     let (name, rest) = name_at(text)?;
     let array = arrays.get(name).ok_or(ScriptFault::UnknownName)?;
@@ -20,7 +21,8 @@ fn known_at<'a>(arrays: &Arrays, text: &'a [u8]) -> Result<(Array, &'a [u8]), Sc
 /// An offset of an array in brackets, as an address, and the text after it.
 #[tactic(auto, unfolding(crate::specs::Places::offset_at))]
 fn offset_at(array: Array, text: &[u8]) -> Result<(u64, &[u8]), ScriptFault>
-    ensures { Reads (λ x. (x.0, x.1.now)) result (offset_at array text.now) }
+    ensures { let read = offset_at array text.now in
+        MatchResult result (λ x. read ≡ Ok (x.0, x.1.now)) (λ fault. read ≡ Err fault) }
 {
     let rest = mark_at(b'[', text)?;
     let (from, rest) = number_at(u32::MAX, rest)?;
@@ -31,7 +33,8 @@ fn offset_at(array: Array, text: &[u8]) -> Result<(u64, &[u8]), ScriptFault>
 /// The host address of a byte of an array, and the text after it.
 #[tactic(auto, unfolding(crate::specs::Places::address_at))]
 pub fn address_at<'a>(arrays: &Arrays, text: &'a [u8]) -> Result<(u64, &'a [u8]), ScriptFault>
-    ensures { Reads (λ x. (x.0, x.1.now)) result (address_at arrays.now text.now) }
+    ensures { let read = address_at arrays.now text.now in
+        MatchResult result (λ x. read ≡ Ok (x.0, x.1.now)) (λ fault. read ≡ Err fault) }
 {
     let (array, rest) = known_at(arrays, text)?;
     offset_at(array, rest)
@@ -40,7 +43,7 @@ pub fn address_at<'a>(arrays: &Arrays, text: &'a [u8]) -> Result<(u64, &'a [u8])
 /// A host address, up to the end of the line.
 #[tactic(auto, unfolding(crate::specs::Places::last_address_at))]
 pub fn last_address_at(arrays: &Arrays, text: &[u8]) -> Result<u64, ScriptFault>
-    ensures { Reads (λ x. x) result (last_address_at arrays.now text.now) }
+    ensures { result ≡ last_address_at arrays.now text.now }
 {
     let (addr, rest) = address_at(arrays, text)?;
     if !is_at_end(rest) {
@@ -52,7 +55,8 @@ pub fn last_address_at(arrays: &Arrays, text: &[u8]) -> Result<u64, ScriptFault>
 /// A part of an array in brackets, and the text after it.
 #[tactic(auto, unfolding(crate::specs::Places::part_at))]
 fn part_at(array: Array, text: &[u8]) -> Result<(Section, &[u8]), ScriptFault>
-    ensures { Reads (λ x. (x.0, x.1.now)) result (part_at array text.now) }
+    ensures { let read = part_at array text.now in
+        MatchResult result (λ x. read ≡ Ok (x.0, x.1.now)) (λ fault. read ≡ Err fault) }
 {
     let rest = mark_at(b'[', text)?;
     let (from, rest) = number_at(u32::MAX, rest)?;
@@ -65,7 +69,8 @@ fn part_at(array: Array, text: &[u8]) -> Result<(Section, &[u8]), ScriptFault>
 /// A section of host memory, which is an array or a part of one, and the text after it.
 #[tactic(auto, unfolding(crate::specs::Places::section_at))]
 pub fn section_at<'a>(arrays: &Arrays, text: &'a [u8]) -> Result<(Section, &'a [u8]), ScriptFault>
-    ensures { Reads (λ x. (x.0, x.1.now)) result (section_at arrays.now text.now) }
+    ensures { let read = section_at arrays.now text.now in
+        MatchResult result (λ x. read ≡ Ok (x.0, x.1.now)) (λ fault. read ≡ Err fault) }
 {
     let (array, rest) = known_at(arrays, text)?;
     if is_mark_next(b'[', rest) {
@@ -78,7 +83,7 @@ pub fn section_at<'a>(arrays: &Arrays, text: &'a [u8]) -> Result<(Section, &'a [
 /// A section of host memory, up to the end of the line.
 #[tactic(auto, unfolding(crate::specs::Places::last_section_at))]
 pub fn last_section_at(arrays: &Arrays, text: &[u8]) -> Result<Section, ScriptFault>
-    ensures { Reads (λ x. x) result (last_section_at arrays.now text.now) }
+    ensures { result ≡ last_section_at arrays.now text.now }
 {
     let (section, rest) = section_at(arrays, text)?;
     if !is_at_end(rest) {

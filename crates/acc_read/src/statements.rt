@@ -1,8 +1,8 @@
 //! What a line of a script says.
 
-ghost use Rattle.std.specs.Prelude.{◌≡◌, ◌≤◌, ◌==◌, not, length};
+ghost use Rattle.std.specs.Prelude.{◌≡◌, ◌≤◌, ◌==◌, not, length, MatchResult, IsOkAnd, IsTrue};
 ghost use Rattle.std.specs.List.{list_all, prefix_len};
-ghost use Rattle.acc_read.specs.Reading.{Reads, Gives};
+ghost use Rattle.acc_read.specs.Reading.{MatchTrouble};
 ghost use Rattle.acc_read.specs.Statements.{length_at, array_at, question_at, short_at, statement_at, takes_memory, is_text_byte, hash, before_comment, line_at};
 ghost use Rattle.acc_read.specs.Meanings.{meaning_of};
 ghost use Rattle.acc_read.specs.PlainLines.{is_plain_byte, text_of};
@@ -81,7 +81,9 @@ pub fn line_at<'a>(
     innermost: Option<u64>,
     line: &'a [u8],
 ) -> Result<Statement<'a>, Trouble>
-    ensures { Gives takes_memory meaning_of result (line_at arrays.now device innermost line.now) }
+    ensures { let read = line_at arrays.now device innermost line.now in MatchResult result
+        (λ statement. read ≡ Ok (meaning_of statement))
+        (λ trouble. MatchTrouble trouble (IsOkAnd read (λ meaning. IsTrue (takes_memory meaning))) (λ fault. read ≡ Err fault)) }
 {
     if line.len() > LINE_LIMIT {
         return Err(Trouble::Line(ScriptFault::TooLong));
@@ -97,7 +99,7 @@ pub fn line_at<'a>(
 /// once.
 #[tactic(auto, using(crate::proofs::PlainLines::plain_laws))]
 fn text_of(line: &[u8]) -> Result<&[u8], ScriptFault>
-    ensures { Reads (λ x. x.now) result (text_of line.now) }
+    ensures { MatchResult result (λ rest. text_of line.now ≡ Ok rest.now) (λ fault. text_of line.now ≡ Err fault) }
 {
     if all_pass::<PlainByte>(line) {
         return Ok(line);
@@ -120,8 +122,13 @@ impl ByteTest for PlainByte {
     }
 }
 
+/// What stands in a line before a comment, without the blanks around it.
+pub fn statement_text(line: &[u8]) -> &[u8] {
+    before_comment(line).trim_ascii()
+}
+
 /// What stands before a comment.
-fn before_comment(line: &[u8]) -> &[u8]
+pub fn before_comment(line: &[u8]) -> &[u8]
     ensures { result.now ≡ before_comment line.now }
 {
     let (text, _) = line.split_at(comment_place(line));
@@ -135,7 +142,8 @@ fn comment_place(line: &[u8]) -> usize
     line.iter().take_while(|b| **b != b'#').count()
 }
 
-fn is_text_byte(b: u8) -> bool
+/// The byte may stand before a comment: a tab, or from a blank to `~`.
+pub fn is_text_byte(b: u8) -> bool
     ensures { result ≡ is_text_byte b }
 {
     b == b'\t' || (b' ' <= b && b <= b'~')
@@ -156,7 +164,9 @@ fn statement_at<'a>(
     innermost: Option<u64>,
     text: &'a [u8],
 ) -> Result<Statement<'a>, Trouble>
-    ensures { Gives takes_memory meaning_of result (statement_at arrays.now device innermost text.now) }
+    ensures { let read = statement_at arrays.now device innermost text.now in MatchResult result
+        (λ statement. read ≡ Ok (meaning_of statement))
+        (λ trouble. MatchTrouble trouble (IsOkAnd read (λ meaning. IsTrue (takes_memory meaning))) (λ fault. read ≡ Err fault)) }
 {
     let (word, rest) = word_at(text)?;
     if is_text(word, "data") {
@@ -185,7 +195,8 @@ fn short_at<'a>(
     innermost: Option<u64>,
     text: &'a [u8],
 ) -> Result<Statement<'a>, ScriptFault>
-    ensures { Reads meaning_of result (short_at word.now arrays.now device innermost text.now) }
+    ensures { let read = short_at word.now arrays.now device innermost text.now in
+        MatchResult result (λ statement. read ≡ Ok (meaning_of statement)) (λ fault. read ≡ Err fault) }
 {
     if is_text(word, "array") {
         array_at(arrays, text)
@@ -207,7 +218,8 @@ fn short_at<'a>(
 /// The statement that begins with this word: `show`, `peek`, `present`, `address` or `report`.
 #[tactic(auto, unfolding(crate::specs::Statements::question_at))]
 fn question_at(word: &[u8], arrays: &Arrays, text: &[u8]) -> Result<Statement<'static>, ScriptFault>
-    ensures { Reads meaning_of result (question_at word.now arrays.now text.now) }
+    ensures { let read = question_at word.now arrays.now text.now in
+        MatchResult result (λ statement. read ≡ Ok (meaning_of statement)) (λ fault. read ≡ Err fault) }
 {
     if is_text(word, "show") {
         Ok(Statement::Show(last_section_at(arrays, text)?))
@@ -227,7 +239,8 @@ fn question_at(word: &[u8], arrays: &Arrays, text: &[u8]) -> Result<Statement<'s
 /// The name and the length of a new array.
 #[tactic(auto, unfolding(crate::specs::Statements::array_at))]
 fn array_at<'a>(arrays: &Arrays, text: &'a [u8]) -> Result<Statement<'a>, ScriptFault>
-    ensures { Reads meaning_of result (array_at arrays.now text.now) }
+    ensures { let read = array_at arrays.now text.now in
+        MatchResult result (λ statement. read ≡ Ok (meaning_of statement)) (λ fault. read ≡ Err fault) }
 {
     let (name, rest) = name_at(text)?;
     if arrays.get(name).is_some() {
@@ -239,7 +252,8 @@ fn array_at<'a>(arrays: &Arrays, text: &'a [u8]) -> Result<Statement<'a>, Script
 /// The length of a new array, up to the end of the line.
 #[tactic(auto, unfolding(crate::specs::Statements::length_at))]
 fn length_at<'a>(name: &'a [u8], arrays: &Arrays, text: &[u8]) -> Result<Statement<'a>, ScriptFault>
-    ensures { Reads meaning_of result (length_at name.now arrays.now text.now) }
+    ensures { let read = length_at name.now arrays.now text.now in
+        MatchResult result (λ statement. read ≡ Ok (meaning_of statement)) (λ fault. read ≡ Err fault) }
 {
     let (len, rest) = number_at(u32::MAX, text)?;
     if len == 0 {

@@ -1,10 +1,9 @@
 //! Words, marks, numbers, names and bytes at the front of a text.
 
-ghost use Rattle.std.specs.Prelude.{◌≡◌, ◌≤◌, ◌<◌, ◌+◌, ◌*◌, true, Some, min, length, IfOk, IsOk};
+ghost use Rattle.std.specs.Prelude.{◌≡◌, ◌≤◌, ◌<◌, ◌+◌, ◌*◌, true, Some, min, length, IfOk, IsOk, MatchResult};
 ghost use Rattle.std.specs.List.{list_all, prefix_len};
 ghost use Rattle.std.specs.Char.{is_ascii_digit, is_ascii_hexdigit};
 ghost use Rattle.std.specs.Str.{bytes_eq};
-ghost use Rattle.acc_read.specs.Reading.{Reads, Checks};
 ghost use Rattle.acc_read.specs.Tokens.{is_blank, is_word_byte, word_len, skip_blanks, is_at_end, word_at, keyword_at, is_word_next, is_mark_next, mark_at, skip_comma, is_word_before, number_said, number_at, is_name_byte, begins_lower, is_name, value_of, name_at};
 ghost use Rattle.acc_read.specs.Bytes.{bytes_said};
 ghost use Rattle.hex.specs.Hex.{decode_of, hex_digit_value};
@@ -14,13 +13,14 @@ use acc_base::{List, ScriptFault};
 use std::alloc::{AllocError, Global};
 
 /// The byte is a space or a tab.
-fn is_blank(b: u8) -> bool
+pub fn is_blank(b: u8) -> bool
     ensures { result ≡ is_blank b }
 {
     b == b' ' || b == b'\t'
 }
 
-fn is_word_byte(b: u8) -> bool
+/// The byte may stand in a word: a letter, a digit or `_`.
+pub fn is_word_byte(b: u8) -> bool
     ensures { result ≡ is_word_byte b }
 {
     b.is_ascii_alphanumeric() || b == b'_'
@@ -67,7 +67,8 @@ pub fn is_text(word: &[u8], text: &str) -> bool
 /// The next word, which has letters, digits and `_`, and the text after it.
 #[tactic(auto, unfolding(crate::specs::Tokens::word_at))]
 pub fn word_at(text: &[u8]) -> Result<(&[u8], &[u8]), ScriptFault>
-    ensures { Reads (λ x. (x.0.now, x.1.now)) result (word_at text.now) }
+    ensures { let read = word_at text.now in
+        MatchResult result (λ x. read ≡ Ok (x.0.now, x.1.now)) (λ fault. read ≡ Err fault) }
 {
     let token = skip_blanks(text);
     let len = word_len(token);
@@ -94,7 +95,8 @@ impl ByteTest for WordByte {
 /// The next word and the text after it, as [`word_at`] gives them. It is made for a word of tens of bytes.
 #[tactic(auto, unfolding(crate::specs::Tokens::word_at))]
 pub fn long_word_at(text: &[u8]) -> Result<(&[u8], &[u8]), ScriptFault>
-    ensures { Reads (λ x. (x.0.now, x.1.now)) result (word_at text.now) }
+    ensures { let read = word_at text.now in
+        MatchResult result (λ x. read ≡ Ok (x.0.now, x.1.now)) (λ fault. read ≡ Err fault) }
 {
     let token = skip_blanks(text);
     let len = passing_len::<WordByte>(token);
@@ -107,7 +109,8 @@ pub fn long_word_at(text: &[u8]) -> Result<(&[u8], &[u8]), ScriptFault>
 /// The text after this keyword, which has to stand next.
 #[tactic(auto, unfolding(crate::specs::Tokens::keyword_at))]
 pub fn keyword_at<'a>(keyword: &str, text: &'a [u8]) -> Result<&'a [u8], ScriptFault>
-    ensures { Reads (λ x. x.now) result (keyword_at keyword.now text.now) }
+    ensures { let read = keyword_at keyword.now text.now in
+        MatchResult result (λ rest. read ≡ Ok rest.now) (λ fault. read ≡ Err fault) }
 {
     let (word, rest) = word_at(text)?;
     if is_text(word, keyword) {
@@ -139,7 +142,8 @@ pub fn is_mark_next(mark: u8, text: &[u8]) -> bool
 /// The text after this mark, which has to stand next.
 #[tactic(auto, unfolding(crate::specs::Tokens::mark_at))]
 pub fn mark_at(mark: u8, text: &[u8]) -> Result<&[u8], ScriptFault>
-    ensures { Reads (λ x. x.now) result (mark_at mark text.now) }
+    ensures { let read = mark_at mark text.now in
+        MatchResult result (λ rest. read ≡ Ok rest.now) (λ fault. read ≡ Err fault) }
 {
     match skip_blanks(text) {
         [first, rest @ ..] if *first == mark => Ok(rest),
@@ -187,7 +191,7 @@ fn capped_value(limit: u32, digits: &[u8]) -> u64
 /// The number that a word says, up to a limit.
 #[tactic(auto, using(crate::proofs::Numbers::number_laws), unfolding(crate::specs::Tokens::number_said))]
 fn number_said(limit: u32, word: &[u8]) -> Result<u32, ScriptFault>
-    ensures read { Reads (λ n. n) result (number_said limit word.now) }
+    ensures read { result ≡ number_said limit word.now }
     ensures bound { IfOk result (λ n. n ≤ limit) }
 {
     if !has_digits(word) {
@@ -203,7 +207,8 @@ fn number_said(limit: u32, word: &[u8]) -> Result<u32, ScriptFault>
 /// The next word, which is a number up to a limit, and the text after it.
 #[tactic(auto, unfolding(crate::specs::Tokens::number_at))]
 pub fn number_at(limit: u32, text: &[u8]) -> Result<(u32, &[u8]), ScriptFault>
-    ensures read { Reads (λ x. (x.0, x.1.now)) result (number_at limit text.now) }
+    ensures read { let read = number_at limit text.now in
+        MatchResult result (λ x. read ≡ Ok (x.0, x.1.now)) (λ fault. read ≡ Err fault) }
     ensures bound { IfOk result (λ x. x.0 ≤ limit) }
 {
     let (word, rest) = word_at(text)?;
@@ -242,7 +247,8 @@ fn is_name(word: &[u8]) -> bool
 /// The next word, which may name an array, and the text after it.
 #[tactic(auto, unfolding(crate::specs::Tokens::name_at))]
 pub fn name_at(text: &[u8]) -> Result<(&[u8], &[u8]), ScriptFault>
-    ensures { Reads (λ x. (x.0.now, x.1.now)) result (name_at text.now) }
+    ensures { let read = name_at text.now in
+        MatchResult result (λ x. read ≡ Ok (x.0.now, x.1.now)) (λ fault. read ≡ Err fault) }
 {
     let (word, rest) = word_at(text)?;
     if !is_name(word) {
@@ -281,7 +287,7 @@ fn has_hex_digits(word: &[u8]) -> bool
 /// The fault of a word that does not.
 #[tactic(auto, using(crate::proofs::ByteWords::word_laws))]
 pub fn check_bytes(word: &[u8]) -> Result<(), ScriptFault>
-    ensures { Checks result (bytes_said word.now) }
+    ensures { MatchResult result (λ _. IsOk (bytes_said word.now)) (λ fault. bytes_said word.now ≡ Err fault) }
 {
     if !has_hex_digits(word) {
         return Err(ScriptFault::Syntax);

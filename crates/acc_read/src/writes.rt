@@ -1,7 +1,7 @@
 //! The statements that write host memory.
 
-ghost use Rattle.std.specs.Prelude.{◌≡◌};
-ghost use Rattle.acc_read.specs.Reading.{Gives};
+ghost use Rattle.std.specs.Prelude.{◌≡◌, MatchResult, IsOkAnd, IsTrue};
+ghost use Rattle.acc_read.specs.Reading.{MatchTrouble};
 ghost use Rattle.acc_read.specs.Statements.{write_at, point_at, takes_memory};
 ghost use Rattle.acc_read.specs.Meanings.{meaning_of};
 
@@ -16,7 +16,9 @@ use std::alloc::Global;
 /// The host address and the bytes of a `write`.
 #[tactic(auto, unfolding(crate::specs::Statements::write_at))]
 pub fn write_at(alloc: Global, arrays: &Arrays, text: &[u8]) -> Result<Statement<'static>, Trouble>
-    ensures { Gives takes_memory meaning_of result (write_at arrays.now text.now) }
+    ensures { let read = write_at arrays.now text.now in MatchResult result
+        (λ statement. read ≡ Ok (meaning_of statement))
+        (λ trouble. MatchTrouble trouble (IsOkAnd read (λ meaning. IsTrue (takes_memory meaning))) (λ fault. read ≡ Err fault)) }
 {
     let (addr, rest) = address_at(arrays, text)?;
     let (word, rest) = long_word_at(rest)?;
@@ -31,7 +33,9 @@ pub fn write_at(alloc: Global, arrays: &Arrays, text: &[u8]) -> Result<Statement
 /// The pointer of a `point`, and the host address that is written into it as eight bytes, the lowest first.
 #[tactic(auto, unfolding(crate::specs::Statements::point_at))]
 pub fn point_at(alloc: Global, arrays: &Arrays, text: &[u8]) -> Result<Statement<'static>, Trouble>
-    ensures { Gives takes_memory meaning_of result (point_at arrays.now text.now) }
+    ensures { let read = point_at arrays.now text.now in MatchResult result
+        (λ statement. read ≡ Ok (meaning_of statement))
+        (λ trouble. MatchTrouble trouble (IsOkAnd read (λ meaning. IsTrue (takes_memory meaning))) (λ fault. read ≡ Err fault)) }
 {
     let (addr, rest) = address_at(arrays, text)?;
     let rest = keyword_at("to", rest)?;

@@ -1,6 +1,6 @@
 -- One more line of a script.
 use Rattle.std.proofs.Common.{◌≡◌, ℕ, suc, ◌+◌, ◌<◌, Bool, true, false, List, [], ◌∷◌, length, take, Option, Result, Ok, Err, refl, sym, ap, subst}
-use Rattle.std.specs.Prelude.{◌||◌}
+use Rattle.std.specs.Prelude.{◌||◌, IsOkAnd, IsTrue}
 use Rattle.std.specs.List.{concat}
 use Rattle.std.proofs.lemmas.List.{nil_from_length}
 use Rattle.acc_base.specs.declared.faults.Fault.{Fault}
@@ -12,10 +12,10 @@ use Rattle.acc_script.specs.declared.print.effects.Effect.{Effect}
 use Rattle.acc_script.specs.declared.runs.Status.{Status}
 use Rattle.acc_script.specs.Told.{Taken, Took, TookFront}
 use Rattle.acc_read.specs.Lines.{lines_of}
-use Rattle.acc_read.specs.Reading.{◌>>=◌, wants}
+use Rattle.acc_read.specs.Reading.{◌>>=◌}
 use Rattle.acc_read.specs.Statements.{Meaning, takes_memory}
 use Rattle.acc_script.specs.Sessions.{MayWant}
-use Rattle.acc_script.specs.Scripts.{SessionState, Turned, turned, is_refused, meaning_in, line_turned, needs_memory, line_wants, line_text, Transcript, Faulty, noted, transcript_from, status_of}
+use Rattle.acc_script.specs.Scripts.{SessionState, Turned, turned, is_refused, meaning_in, line_turned, meaning_wants, line_wants, line_text, Transcript, Faulty, noted, transcript_from, status_of}
 use Rattle.acc_script.specs.Runs.{RanLine, LostLine, LineRuns, LinesPlayed}
 use Rattle.acc_script.proofs.Takes.{not_zero}
 use Rattle.acc_script.proofs.Fronts.{Took_then, took_on, front_more, front_then, took_nothing}
@@ -64,19 +64,19 @@ line_wanted number s after left line old meaning fault said h =
 
 -- a line that could not be read, since there was no memory for it
 pub line_unread : (number : ℕ) (s after : SessionState) (line : List ℕ) (old : Option Taken)
-    → wants takes_memory (meaning_in s line) ≡ true → LineRuns number s line old old after (Err Memory)
+    → IsOkAnd (meaning_in s line) (λ meaning. IsTrue (takes_memory meaning)) → LineRuns number s line old old after (Err Memory)
 line_unread number s after line old h = (by (meaning_in s line) h, refl)
   where
-    by : (r : Result Meaning ScriptFault) → wants takes_memory r ≡ true → wants (needs_memory s) r ≡ true
+    by : (r : Result Meaning ScriptFault) → IsOkAnd r (λ meaning. IsTrue (takes_memory meaning)) → meaning_wants s r ≡ true
     by (Ok meaning) k = rw k refl
-    by (Err kind) k = absurd cc
+    by (Err kind) k = absurd k
 
 -- a line that needs memory is one that runs
 wanting_runs : (s : SessionState) (line : List ℕ) → line_wants s line ≡ true → (turn : Turned) × (line_turned s line ≡ Ok turn)
 unfolding line_turned
 wanting_runs s line h = by (meaning_in s line) h
   where
-    by : (r : Result Meaning ScriptFault) → wants (needs_memory s) r ≡ true
+    by : (r : Result Meaning ScriptFault) → meaning_wants s r ≡ true
         → (turn : Turned) × ((r >>= (λ meaning. Ok (turned s meaning))) ≡ Ok turn)
     by (Ok meaning) k = (turned s meaning, refl)
     by (Err kind) k = absurd cc

@@ -24,7 +24,7 @@ use Rattle.acc_script.specs.declared.print.effects.Effect.{Effect}
 use Rattle.acc_script.specs.declared.print.effects.Effect.TheVariants.{Nothing, EmptyQueue, Refused, HostBytes, DeviceBytes, Presence, Place, Reported}
 use Rattle.acc_script.specs.declared.runs.Status.{Status}
 use Rattle.acc_script.specs.declared.runs.Status.TheVariants as statuses
-use Rattle.acc_read.specs.Reading.{◌>>=◌, wants}
+use Rattle.acc_read.specs.Reading.{◌>>=◌}
 use Rattle.acc_read.specs.Lines.{lines_of}
 use Rattle.acc_read.specs.Layout.{ArrayLayout, no_arrays, with_array}
 use Rattle.acc_read.specs.declared.kernels.ScriptKernel.{ScriptKernel}
@@ -170,8 +170,12 @@ abbrev pub needs_memory : SessionState → Meaning → Bool
 needs_memory s meaning = takes_memory meaning || run_takes_memory s meaning
 
 -- the line is not at fault, and what it asks for needs memory
+abbrev pub meaning_wants : SessionState → Result Meaning ScriptFault → Bool
+meaning_wants s (Ok meaning) = needs_memory s meaning
+meaning_wants s (Err kind) = false
+
 abbrev pub line_wants : SessionState → List ℕ → Bool
-line_wants s line = wants (needs_memory s) (meaning_in s line)
+line_wants s line = meaning_wants s (meaning_in s line)
 
 -- what the line of a number prints, once it was run
 abbrev pub line_text : ℕ → Turned → List ℕ

@@ -2,7 +2,6 @@
 use Rattle.std.specs.Prelude.{◌≡◌, ◌⊎◌, true, Result, Ok, Err}
 use Rattle.acc_base.specs.declared.faults.Fault.{Fault}
 use Rattle.acc_base.specs.declared.faults.Fault.TheVariants.{Memory}
-use Rattle.acc_base.specs.Limits.{Limits}
 use Rattle.acc_base.specs.declared.calls.Call.{Call}
 use Rattle.acc_base.specs.Loans.{Leased}
 use Rattle.acc_base.specs.Calls.{judge}
@@ -12,16 +11,11 @@ use Rattle.acc_script.specs.declared.print.effects.Effect.{Effect}
 use Rattle.acc_script.specs.declared.print.effects.Effect.TheVariants.{Nothing, EmptyQueue, Refused}
 use Rattle.acc_script.specs.declared.sessions.Session.{Session}
 use Rattle.acc_read.specs.Statements.{Meaning, Kernel}
-use Rattle.acc_script.specs.Scripts.{SessionState, new_session, called, IsLentFrom, turned, makes_event, run_takes_memory}
+use Rattle.acc_script.specs.Scripts.{SessionState, called, IsLentFrom, turned, makes_event, run_takes_memory}
 
 -- a session as its table's world, its arrays and its current device
 abbrev pub session_state : Session → SessionState
 session_state session = record { world = session.table; layout = session.arrays; device = session.device }
-
--- a new session, or no memory for it
-abbrev pub Opens : Limits → Result Session Fault → Type 0
-Opens limits (Ok session) = session_state session ≡ new_session limits
-Opens limits (Err fault) = fault ≡ Memory
 
 -- nothing changed, but the block of a kernel may be lent
 abbrev pub IsStateLeft : SessionState → Meaning → SessionState → Type 0

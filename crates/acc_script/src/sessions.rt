@@ -1,12 +1,13 @@
 //! A table and the arrays of a script, and what statements do to them.
 
-ghost use Rattle.std.specs.Prelude.{◌≡◌, IfSome};
+ghost use Rattle.std.specs.Prelude.{◌≡◌, IfSome, MatchResult};
+ghost use Rattle.acc_base.specs.declared.faults.Fault.TheVariants.{Memory};
 ghost use Rattle.acc_read.specs.Meanings.{meaning_of};
 ghost use Rattle.acc_read.specs.Statements.{Kernel};
 ghost use Rattle.acc_script.specs.Kernels.{source_of};
-ghost use Rattle.acc_script.specs.Sessions.{session_state, Opens, Performs, CallsFor, effect_of, refusal_of};
+ghost use Rattle.acc_script.specs.Sessions.{session_state, Performs, CallsFor, effect_of, refusal_of};
 ghost use Rattle.acc_base.specs.Calls.{device_there};
-ghost use Rattle.acc_script.specs.Scripts.{back_from, shown, selected};
+ghost use Rattle.acc_script.specs.Scripts.{new_session, back_from, shown, selected};
 ghost use Rattle.acc_table.specs.Queries.{host_read_of, newest_of};
 
 use crate::kernels::{run_kernel, source_of};
@@ -40,7 +41,7 @@ impl Session {
     ///
     /// [`Fault::Memory`] alone.
     pub fn new(alloc: Global, config: Config, parts: usize) -> Result<Session, Fault>
-        ensures { Opens config result }
+        ensures { MatchResult result (λ session. session_state session ≡ new_session config) (λ fault. fault ≡ Memory) }
     {
         Ok(Session {
             table: Table::new(alloc, config)?,

@@ -2,7 +2,7 @@
 
 use super::{DeviceView, TOLD, meets, put_others, put_range, put_ranges, range_of};
 use acc_base::{Config, Directive, EnterClause, Fault, HOST_BASE, Item, List, Section};
-use acc_page::{Names, Page};
+use acc_read::{Names, Page};
 use acc_table::{Call, Table, abandon};
 use std::alloc::Global;
 use std::test::Fail;

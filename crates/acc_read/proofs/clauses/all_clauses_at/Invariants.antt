@@ -6,4 +6,4 @@ use Rattle.acc_read.proofs.clauses.all_clauses_at.Given as goal
 
 -- what is left reads, behind what was kept, as all of the text does
 abbrev pub invariant-loop : goal.invariant-loop
-invariant-loop g l = IsLeft (clause_at g.C.Clause.grammar l.arrays) goes_on (IsRead l.fn.unfinished) (IsRead l.unfinished) (length l.text) l.counter l.text l.rest
+invariant-loop g l = IsLeft (clause_at g.C.ScriptClause.grammar l.arrays) goes_on (IsRead l.fn.unfinished) (IsRead l.unfinished) (length l.text) l.counter l.text l.rest

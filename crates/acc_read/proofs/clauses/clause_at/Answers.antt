@@ -17,4 +17,4 @@ returns-then-is_async g c = λ before h. rw (c.in_ok-word.ensures, ← c.is_opti
 
 pub returns : goal.returns
 unfolding clause_at
-returns g c = λ before h. rw (c.in_ok-word.ensures, ← c.is_option.ensures, c.if-is_option.false, ← c.is_async.ensures, c.if-is_async.false, ← c.from_word.ensures, ← c.ok_or.ensures.value, c.in_ok-clause.was) (lists c.args.unfinished.now c.group_at.new.items (λ x. x.now) g.C.Clause.grammar c.in_ok-clause.clause c.args.arrays.now before c.in_ok-word.rest.now c.group_at.result h (c.group_at.ensures before.items h.items))
+returns g c = λ before h. rw (c.in_ok-word.ensures, ← c.is_option.ensures, c.if-is_option.false, ← c.is_async.ensures, c.if-is_async.false, ← c.from_word.ensures, ← c.ok_or.ensures.value, c.in_ok-clause.was) (lists c.args.unfinished.now c.group_at.new.items (λ x. x.now) g.C.ScriptClause.grammar c.in_ok-clause.clause c.args.arrays.now before c.in_ok-word.rest.now c.group_at.result h (c.group_at.ensures before.items h.items))

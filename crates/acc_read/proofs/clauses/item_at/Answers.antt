@@ -5,7 +5,7 @@ use Rattle.acc_read.proofs.clauses.item_at.Goals as goal
 pub returns : goal.returns
 unfolding item_at
 returns g c = λ before h. (
-  before ++ c.item_of.result ∷ [],
-  rw (c.in_ok-named.ensures, c.item_of.ensures) refl,
+  before ++ c.in_ok-item.item ∷ [],
+  rw c.in_ok-item.ensures refl,
   c.push.ensures before h,
 )

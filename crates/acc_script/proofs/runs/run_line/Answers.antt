@@ -1,6 +1,6 @@
 use Rattle.std.proofs.Common.{rules, ◌≡◌, true, Ok}
 use Rattle.acc_read.specs.Meanings.{meaning_of}
-use Rattle.acc_read.specs.Reading.{wants}
+use Rattle.std.specs.Prelude.{IsOkAnd, IsTrue}
 use Rattle.acc_read.specs.Statements.{takes_memory}
 use Rattle.acc_script.specs.Sessions.{session_state}
 use Rattle.acc_script.specs.Scripts.{meaning_in}
@@ -34,5 +34,5 @@ pub returns-in-Err-Memory : goal.returns-in-Err-Memory
 returns-in-Err-Memory g c =
     let told = g.W.Sink.told in
     let s = session_state c.args.session.now in
-    let wanted : wants takes_memory (meaning_in s c.args.line.now) ≡ true = search rules in
+    let wanted : IsOkAnd (meaning_in s c.args.line.now) (λ meaning. IsTrue (takes_memory meaning)) = search rules in
     line_unread c.args.number s s c.args.line.now (told c.args.writer.now) wanted

@@ -3,14 +3,14 @@ use Rattle.std.specs.BTreeMap.{is_at}
 use Rattle.std.specs.Map.{lookup}
 use Rattle.std.specs.FinMap as map
 use Rattle.acc_read.specs.declared.arrays.Arrays.TheInside.{Inside}
-use Rattle.acc_read.specs.Layout.{ArrayLayout, Names, with_array}
+use Rattle.acc_read.specs.Layout.{ArrayLayout, ArraysByName, with_array}
 use Rattle.acc_read.specs.Naming.{is_short, names_of}
 use Rattle.acc_read.proofs.NameEntries.{names_of-short, names_of-long}
 use Rattle.acc_read.proofs.arrays.Arrays.insert.Goals as goal
 use Rattle.acc_read.proofs.arrays.Arrays.insert.Goals.{then-is_short+in_ok-insert, else-is_short+in_ok-from_slice+in_ok-insert-2}
 
 -- the arrays by their names
-abbrev names_in : Inside → Names
+abbrev names_in : Inside → ArraysByName
 names_in fields = names_of fields.short.entries fields.long.entries
 
 pub returns-clause-ok : goal.returns-clause-ok
@@ -34,6 +34,6 @@ returns-clause-ok c =
       | then-is_short+in_ok-insert w ↦ ap (λ (fields : Inside). fields.limit) w.self-inside-is
       | else-is_short+in_ok-from_slice+in_ok-insert-2 w ↦ ap (λ (fields : Inside). fields.limit) w.self-inside-is
     ] in
-    let layout_of : Names → ℕ → ArrayLayout = λ names limit. record { names = names; last_end = array.end; limit = limit } in
-    ap (λ (names : Names). layout_of names new.limit) names_are ∙ ap (layout_of (map.insert (names_in old) name array)) limit_is
+    let layout_of : ArraysByName → ℕ → ArrayLayout = λ names limit. record { names = names; last_end = array.end; limit = limit } in
+    ap (λ (names : ArraysByName). layout_of names new.limit) names_are ∙ ap (layout_of (map.insert (names_in old) name array)) limit_is
     ∙ ap (with_array name array) c.self.view_is

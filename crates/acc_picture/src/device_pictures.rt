@@ -1,32 +1,32 @@
 //! What a device has, as a picture shows it.
 
 use crate::device_rows::{DeviceRow, device_row, row_at};
-use crate::gathering::{Entry, Part, add_attached, add_entries, add_parts};
+use crate::gathering::{Part, Stretch, add_attached, add_parts, add_stretches};
 use crate::places::{LINE_PITCH, MARGIN, group_size, row_y};
-use crate::queues::{Queue, add_queues};
+use crate::queues::{QueueLine, add_queues};
 use acc_base::Attachment;
-use acc_page::Names;
+use acc_read::Names;
 use acc_table::Table;
 use std::alloc::{AllocError, Global};
 
 /// What a device has.
 #[derive(Drop)]
-pub struct Scene {
+pub struct DevicePicture {
     /// The number of the device.
     pub device: u64,
     /// Mapped ranges and other bytes of arrays, by rising host address.
     pub parts: Vec<Part>,
     /// Its blocks and holes, by rising device address.
-    pub entries: Vec<Entry>,
+    pub stretches: Vec<Stretch>,
     /// The rows of these.
     pub rows: Vec<DeviceRow>,
     /// Its attached pointers.
     pub attached: Vec<Attachment>,
     /// Its queues that are not empty.
-    pub queues: Vec<Queue>,
+    pub queues: Vec<QueueLine>,
 }
 
-impl Scene {
+impl DevicePicture {
     /// What a device of a table has.
     ///
     /// # Errors
@@ -37,11 +37,11 @@ impl Scene {
         table: &Table,
         names: &Names,
         device: u64,
-    ) -> Result<Scene, AllocError> {
-        let mut scene = Scene {
+    ) -> Result<DevicePicture, AllocError> {
+        let mut scene = DevicePicture {
             device,
             parts: Vec::new(alloc),
-            entries: Vec::new(alloc),
+            stretches: Vec::new(alloc),
             rows: Vec::new(alloc),
             attached: Vec::new(alloc),
             queues: Vec::new(alloc),
@@ -53,8 +53,8 @@ impl Scene {
     fn gather(&mut self, alloc: Global, table: &Table, names: &Names) -> Result<(), AllocError> {
         let device = self.device;
         add_parts(table, names, device, &mut self.parts)?;
-        add_entries(alloc, table, device, &self.parts, &mut self.entries)?;
-        add_rows(&self.entries, &mut self.rows)?;
+        add_stretches(alloc, table, device, &self.parts, &mut self.stretches)?;
+        add_rows(&self.stretches, &mut self.rows)?;
         add_attached(table, device, &self.parts, &mut self.attached)?;
         add_queues(alloc, table, device, &mut self.queues)?;
         attach_all(&mut self.rows, table, device, &self.attached);
@@ -75,8 +75,8 @@ impl Scene {
     }
 }
 
-fn add_rows(entries: &[Entry], rows: &mut Vec<DeviceRow>) -> Result<(), AllocError> {
-    for group in entries.chunks(group_size(entries.len())) {
+fn add_rows(stretches: &[Stretch], rows: &mut Vec<DeviceRow>) -> Result<(), AllocError> {
+    for group in stretches.chunks(group_size(stretches.len())) {
         if let Some(row) = device_row(group) {
             rows.push(row)?;
         }

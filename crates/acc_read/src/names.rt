@@ -1,13 +1,13 @@
 //! The arrays of a script by their addresses.
 
+use crate::arrays::Array;
 use crate::pages::Page;
 use acc_base::Section;
-use acc_read::Array;
 use std::alloc::{AllocError, Global};
 use std::collections::BTreeMap;
 
 #[derive(Drop)]
-struct Named {
+struct NamedArray {
     name: Vec<u8>,
     array: Array,
 }
@@ -49,7 +49,7 @@ impl Spot<'_> {
 /// The arrays that a script has declared, by their first addresses.
 #[derive(Drop)]
 pub struct Names {
-    all: BTreeMap<u32, Named>,
+    all: BTreeMap<u32, NamedArray>,
 }
 
 impl Names {
@@ -67,7 +67,7 @@ impl Names {
     /// [`AllocError`] where there is no memory. Nothing is added then.
     pub fn insert(&mut self, alloc: Global, name: &[u8], array: Array) -> Result<(), AllocError> {
         let name = Vec::from_slice(alloc, name)?;
-        self.all.insert(array.start, Named { name, array })?;
+        self.all.insert(array.start, NamedArray { name, array })?;
         Ok(())
     }
 
@@ -86,7 +86,7 @@ impl Names {
     }
 }
 
-fn spot_in(named: &Named, address: u64) -> Option<Spot<'_>> {
+fn spot_in(named: &NamedArray, address: u64) -> Option<Spot<'_>> {
     let array = named.array;
     if address < u64::from(array.start) || u64::from(array.end) <= address {
         return None;

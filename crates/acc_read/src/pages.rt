@@ -55,15 +55,7 @@ impl Page {
     /// Adds each of some bytes as two hexadecimal digits in lower case.
     pub fn digits(&mut self, bytes: &[u8]) {
         for byte in bytes {
-            self.digit(*byte / 16);
-            self.digit(*byte % 16);
-        }
-    }
-
-    /// Adds a hexadecimal digit; nothing where the value is above 15.
-    fn digit(&mut self, value: u8) {
-        if let Some(digit) = b"0123456789abcdef".get(usize::from(value)) {
-            self.bytes(&[*digit]);
+            let _ = write!(self, "{byte:02x}");
         }
     }
 

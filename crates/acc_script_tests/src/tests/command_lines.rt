@@ -1,133 +1,100 @@
 //! Command lines: which are accepted, what is printed for the others, what the help has.
 
-use super::{pictures_with, run_tool, same};
-use acc_command::{WordsFault, read_words, tell_words};
+use super::{run_script, same};
 use acc_script::MemorySink;
-use std::alloc::AllocError;
-use std::env::{Env, FillError};
 use std::process::Abort;
-use std::str::Utf8Error;
 use std::sync::Wait;
 use std::test::Fail;
 use std::thread::Threads;
 
-/// Command lines with an empty script, and their status. The words follow that the text on standard output and on
-/// standard error has to have; an empty one is no text.
-const COMMAND_LINES: [(&str, u8, &str, &str); 33] = [
-    ("--help", 0, "Usage: accrun [OPTIONS] [FILE]", ""),
-    (
-        "--host 15",
-        2,
-        "",
-        "'15' for '--host <BYTES>': 15 is not in 16..=67108864",
-    ),
-    (
-        "--device 67108865",
-        2,
-        "",
-        "'67108865' for '--device <BYTES>'",
-    ),
-    ("--device 99999999999", 2, "", "is not in 16..=67108864"),
-    ("--host many", 2, "", "'many' for '--host <BYTES>'"),
-    (
-        "--devices 0",
-        2,
-        "",
-        "'0' for '--devices <N>': 0 is not in 1..=4",
-    ),
-    ("--devices 5", 2, "", "'5' for '--devices <N>'"),
-    (
-        "--threads 0",
-        2,
-        "",
-        "'0' for '--threads <N>': 0 is not in 1..=64",
-    ),
-    ("--threads 65", 2, "", "'65' for '--threads <N>'"),
-    (
-        "--drill 0",
-        2,
-        "",
-        "'0' for '--drill <ROUNDS>': 0 is not in 1..=1000",
-    ),
-    ("--drill 1001", 2, "", "'1001' for '--drill <ROUNDS>'"),
-    ("--trace most", 2, "", "'most' for '--trace <WHAT>'"),
-    ("--trace", 2, "", "'--trace <WHAT>'"),
-    ("--nothing", 2, "", "'--nothing'"),
-    ("--expect", 2, "", "'--expect <OUTPUT>'"),
-    ("--emit", 2, "", "'--emit <LANGUAGE>'"),
-    ("--emit d", 2, "", "'d' for '--emit <LANGUAGE>'"),
-    ("--until-refusal", 2, "", "--emit <LANGUAGE>"),
-    (
-        "--emit c --log",
-        2,
-        "",
-        "'--emit <LANGUAGE>' cannot be used with '--log'",
-    ),
-    ("--svg wall.svg --emit c", 2, "", "'--svg <PICTURE>'"),
-    ("--emit c --drill 1", 2, "", "'--drill <ROUNDS>'"),
-    ("--emit c --threads 2 --host 64", 0, "int main(", ""),
-    ("--svg", 2, "", "'--svg <PICTURE>'"),
-    ("life.acc life.acc", 2, "", "'life.acc'"),
-    ("--host", 2, "", "'--host <BYTES>'"),
-    ("--rows", 2, "", "'--rows <FILE>...'"),
-    ("--rows life.acc", 2, "", "accrun: cannot read life.acc"),
-    (
-        "--rows life.acc --echo",
-        2,
-        "",
-        "'--rows <FILE>...' cannot be used with '--echo'",
-    ),
-    ("--random most", 2, "", "'most' for '--random <SEED>'"),
-    (
-        "--random 1 --rows life.acc",
-        2,
-        "",
-        "'--random <SEED>' cannot be used with '--rows <FILE>...'",
-    ),
-    ("--lines 3", 2, "", "--random <SEED>"),
-    ("--random 1 --lines 0", 2, "", "'0' for '--lines <N>'"),
-    ("--random 1 --lines 1", 0, "wait\nshow a\n", ""),
+/// Command lines that are accepted, and a text that standard output has then for an empty script.
+const ACCEPTED: [(&str, &str); 3] = [
+    ("--help", "Usage: accrun [OPTIONS] [FILE]"),
+    ("--emit c --threads 2 --host 64", "int main("),
+    ("--random 1 --lines 1", "wait\nshow a\n"),
 ];
 
-/// Checks that the text has these words, or that there is none where they are empty.
-fn check_text<R: Abort>(rt: &R, text: &[u8], part: &str, place: &str) -> Result<(), Utf8Error> {
-    let text = str::from_utf8(text)?;
-    same(rt, text.is_empty(), part.is_empty(), place);
-    same(rt, text.contains(part), true, place);
-    Ok(())
-}
+/// Command lines that are refused, and a text that standard error has then.
+const REFUSED: [(&str, &str); 30] = [
+    (
+        "--host 15",
+        "'15' for '--host <BYTES>': 15 is not in 16..=67108864",
+    ),
+    ("--device 67108865", "'67108865' for '--device <BYTES>'"),
+    ("--device 99999999999", "is not in 16..=67108864"),
+    ("--host many", "'many' for '--host <BYTES>'"),
+    ("--devices 0", "'0' for '--devices <N>': 0 is not in 1..=4"),
+    ("--devices 5", "'5' for '--devices <N>'"),
+    ("--threads 0", "'0' for '--threads <N>': 0 is not in 1..=64"),
+    ("--threads 65", "'65' for '--threads <N>'"),
+    (
+        "--drill 0",
+        "'0' for '--drill <ROUNDS>': 0 is not in 1..=1000",
+    ),
+    ("--drill 1001", "'1001' for '--drill <ROUNDS>'"),
+    ("--trace most", "'most' for '--trace <WHAT>'"),
+    ("--trace", "'--trace <WHAT>'"),
+    ("--nothing", "'--nothing'"),
+    ("--expect", "'--expect <OUTPUT>'"),
+    ("--emit", "'--emit <LANGUAGE>'"),
+    ("--emit d", "'d' for '--emit <LANGUAGE>'"),
+    ("--until-refusal", "--emit <LANGUAGE>"),
+    (
+        "--emit c --log",
+        "'--emit <LANGUAGE>' cannot be used with '--log'",
+    ),
+    ("--svg wall.svg --emit c", "'--svg <PICTURE>'"),
+    ("--emit c --drill 1", "'--drill <ROUNDS>'"),
+    ("--svg", "'--svg <PICTURE>'"),
+    ("life.acc life.acc", "'life.acc'"),
+    ("--host", "'--host <BYTES>'"),
+    ("--rows", "'--rows <FILE>...'"),
+    ("--rows life.acc", "accrun: cannot read life.acc"),
+    (
+        "--rows life.acc --echo",
+        "'--rows <FILE>...' cannot be used with '--echo'",
+    ),
+    ("--random most", "'most' for '--random <SEED>'"),
+    (
+        "--random 1 --rows life.acc",
+        "'--random <SEED>' cannot be used with '--rows <FILE>...'",
+    ),
+    ("--lines 3", "--random <SEED>"),
+    ("--random 1 --lines 0", "'0' for '--lines <N>'"),
+];
 
-/// Runs an empty script with options; compares the status.
-fn check_command_line_over<R: Threads + Wait + Sync + AllocGlobal + Abort>(
-    rt: &R,
-    options: &str,
-    status: u8,
-    out: &mut MemorySink,
-    err: &mut MemorySink,
-) -> Result<(), AllocError> {
-    let found = run_tool(rt, options, b"", out, err, &pictures_with(&[]))?;
-    same(rt, found, status, options);
-    Ok(())
-}
-
-/// Runs an empty script with options; compares the status and what both streams get.
+/// Runs an empty script with options. Compares the status, and that one stream has a text and the other has none.
 fn check_command_line<R: Threads + Wait + Sync + AllocGlobal + Abort>(
     rt: &R,
-    row: (&str, u8, &str, &str),
+    (options, part): (&str, &str),
+    wanted: u8,
 ) -> Result<(), Fail> {
-    let (options, status, output, told) = row;
     let mut out = MemorySink::new(rt.alloc());
     let mut err = MemorySink::new(rt.alloc());
-    check_command_line_over(rt, options, status, &mut out, &mut err)?;
-    check_text(rt, out.as_slice(), output, options)?;
-    check_text(rt, err.as_slice(), told, options)?;
+    let status = run_script(rt, options, "", &mut out, &mut err)?;
+    same(rt, status, wanted, options);
+    let (text, other) = if wanted == 0 {
+        (&out, &err)
+    } else {
+        (&err, &out)
+    };
+    same(
+        rt,
+        str::from_utf8(text.as_slice())?.contains(part),
+        true,
+        options,
+    );
+    same(rt, other.as_slice(), b"".as_slice(), options);
     Ok(())
 }
 
 #[test]
 fn command_lines_are_read(rt: HostRuntime) -> Result<(), Fail> {
-    for row in &COMMAND_LINES {
-        check_command_line(&rt, *row)?;
+    for row in &ACCEPTED {
+        check_command_line(&rt, *row, 0)?;
+    }
+    for row in &REFUSED {
+        check_command_line(&rt, *row, 2)?;
     }
     Ok(())
 }
@@ -162,43 +129,9 @@ fn check_words<R: Abort>(rt: &R, text: &str) {
 fn the_help_names_each_statement(rt: HostRuntime) -> Result<(), Fail> {
     let mut out = MemorySink::new(rt.alloc());
     let mut err = MemorySink::new(rt.alloc());
-    run_tool(&rt, "--help", b"", &mut out, &mut err, &pictures_with(&[]))?;
+    run_script(&rt, "--help", "", &mut out, &mut err)?;
     let text = str::from_utf8(out.as_slice())?;
     check_width(&rt, text);
     check_words(&rt, text);
     Ok(())
-}
-
-/// A command line whose second word is a byte that is no UTF-8.
-#[derive(Drop)]
-struct BadWord;
-
-impl Env for BadWord {
-    fn arg(&self, i: usize, buf: &mut [u8]) -> Result<usize, FillError> {
-        if i > 1 {
-            return Err(FillError::NotPresent);
-        }
-        let Some(first) = buf.first_mut() else {
-            return Err(FillError::TooLong);
-        };
-        *first = if i == 0 { b'a' } else { 0xff };
-        Ok(1)
-    }
-
-    fn var(&self, _name: &str, _buf: &mut [u8]) -> Result<usize, FillError> {
-        Err(FillError::NotPresent)
-    }
-
-    fn var_at(&self, _i: usize, _buf: &mut [u8]) -> Result<usize, FillError> {
-        Err(FillError::NotPresent)
-    }
-}
-
-#[test]
-fn a_word_that_is_no_text_is_not_want_of_memory(rt: HostRuntime) {
-    let fault = read_words(&(BadWord, rt.alloc())).err();
-    assert_eq!(rt; fault, Some(WordsFault::NotText));
-    let mut err = MemorySink::new(rt.alloc());
-    assert_eq!(rt; tell_words(&mut err, WordsFault::NotText), 2);
-    assert!(rt; err.as_slice().starts_with(b"error: "));
 }

@@ -3,7 +3,7 @@ use Rattle.acc_ordered.specs.Listing.{last_before}
 use Rattle.acc_ordered.specs.Nodes.{entries_in}
 use Rattle.acc_ordered.proofs.Avl.{alone_same}
 use Rattle.acc_ordered.proofs.Rewritten.{rise_walked}
-use Rattle.acc_ordered.proofs.tree.Tree.rewrite_before.Goals as goal
+use Rattle.acc_ordered.proofs.tree.OrderedTree.rewrite_before.Goals as goal
 
 pub invariant_of-self : goal.invariant_of-self
 invariant_of-self g c =

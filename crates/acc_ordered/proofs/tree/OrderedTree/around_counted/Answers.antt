@@ -2,7 +2,7 @@ use Rattle.std.proofs.Common.{◌≡◌, ◌≤◌, arith, ap, length}
 use Rattle.acc_ordered.specs.Listing.{Listing}
 use Rattle.acc_ordered.specs.Nodes.{entries_in, height_of, nodes_in}
 use Rattle.acc_ordered.proofs.Tall.{height_le, low}
-use Rattle.acc_ordered.proofs.tree.Tree.around_counted.Goals as goal
+use Rattle.acc_ordered.proofs.tree.OrderedTree.around_counted.Goals as goal
 
 pub find_around-requires-clause-limit : goal.find_around-requires-clause-limit
 find_around-requires-clause-limit g c =

@@ -3,7 +3,7 @@ use Rattle.acc_tree.specs.Listing.{Listing, at_key, with_entry}
 use Rattle.acc_rows.specs.Laid.{side_by_side}
 use Rattle.acc_rows.specs.Spots.{index_of}
 use Rattle.acc_rows.proofs.Searched.{with_split, rise_split}
-use Rattle.acc_rows.proofs.rows.Rows.insert_near.Goals as goal
+use Rattle.acc_rows.proofs.rows.Rows.insert.Goals as goal
 
 pub put-requires-clause-rising : goal.put-requires-clause-rising
 put-requires-clause-rising g c =

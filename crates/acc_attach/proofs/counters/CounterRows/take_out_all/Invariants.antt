@@ -1,6 +1,6 @@
 use Rattle.std.proofs.Common.{◌≡◌, ◌≤◌, length}
 use Rattle.acc_base.specs.Attachments.{without_attachments}
-use Rattle.acc_attach.proofs.counters.Counters.take_out_all.Given as goal
+use Rattle.acc_attach.proofs.counters.CounterRows.take_out_all.Given as goal
 
 -- what is to be left is the same
 abbrev pub invariant-loop-pointer : goal.invariant-loop-pointer

@@ -4,7 +4,7 @@ use Rattle.acc_tree.specs.Listing.{with_value}
 use Rattle.acc_base.specs.Attachments.{is_of, with_count}
 use Rattle.acc_attach.specs.Kept.{CountersState, counters_in}
 use Rattle.acc_attach.proofs.Keyed.{key_there, written-counters}
-use Rattle.acc_attach.proofs.counters.Counters.set.Goals as goal
+use Rattle.acc_attach.proofs.counters.CounterRows.set.Goals as goal
 
 pub set-requires : goal.set-requires
 set-requires c =

@@ -1,6 +1,6 @@
 use Rattle.std.proofs.Common.{sym, ◌∙◌}
 use Rattle.acc_attach.proofs.Placed.{next_there, next_not, next_past}
-use Rattle.acc_attach.proofs.counters.Counters.next_near.Goals as goal
+use Rattle.acc_attach.proofs.counters.CounterRows.next_near.Goals as goal
 
 pub returns-in_default : goal.returns-in_default
 returns-in_default c = next_past c.args.block c.args.from c.args.self.now.counters c.first_near-first.ensures.rising (sym c.in_default.is ∙ c.first_near-first.ensures.found)

@@ -4,7 +4,7 @@ use Rattle.acc_base.specs.Accounts.{EachPair}
 use Rattle.acc_base.specs.Attachments.{IsBefore}
 use Rattle.acc_attach.specs.Kept.{CountersState, counter_in, is_from}
 use Rattle.acc_attach.proofs.Keyed.{rising_counters, first-counters}
-use Rattle.acc_attach.proofs.counters.Counters.first_from.Goals as goal
+use Rattle.acc_attach.proofs.counters.CounterRows.first_from.Goals as goal
 
 pub returns-in-Some-clause-found : goal.returns-in-Some-clause-found
 returns-in-Some-clause-found c =

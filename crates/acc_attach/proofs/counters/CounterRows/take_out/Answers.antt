@@ -4,7 +4,7 @@ use Rattle.acc_tree.specs.Listing.{without_key}
 use Rattle.acc_base.specs.Attachments.{is_of, without_attachment}
 use Rattle.acc_attach.specs.Kept.{CountersState, counters_in}
 use Rattle.acc_attach.proofs.Keyed.{key_there, without_key-counters}
-use Rattle.acc_attach.proofs.counters.Counters.take_out.Goals as goal
+use Rattle.acc_attach.proofs.counters.CounterRows.take_out.Goals as goal
 
 pub remove-requires : goal.remove-requires
 remove-requires c =

@@ -1,7 +1,7 @@
 use Rattle.std.proofs.Common.{◌≡◌, Some, sym, ap, ◌∙◌, arith}
 use Rattle.acc_base.specs.Attachments.{without_attachments, next_pointer}
 use Rattle.acc_attach.proofs.Keyed.{next_attached, none_left, forgotten_first, shorter}
-use Rattle.acc_attach.proofs.counters.Counters.take_out_all.Goals as goal
+use Rattle.acc_attach.proofs.counters.CounterRows.take_out_all.Goals as goal
 
 pub take_out-requires : goal.take_out-requires
 take_out-requires c = next_attached c.args.block 0 c.in-Some.pointer c.loop-pointer.self.counters (sym c.next_near-next.ensures ∙ c.in-Some.is)

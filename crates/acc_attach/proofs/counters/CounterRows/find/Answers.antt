@@ -2,7 +2,7 @@ use Rattle.std.proofs.Common.{◌≡◌, ◌^◌, ◌<◌, sym, ◌∙◌, subst
 use Rattle.acc_base.specs.Attachments.{count_at}
 use Rattle.acc_attach.specs.Kept.{CountersState}
 use Rattle.acc_attach.proofs.Keyed.{count_found, count_missing}
-use Rattle.acc_attach.proofs.counters.Counters.find.Goals as goal
+use Rattle.acc_attach.proofs.counters.CounterRows.find.Goals as goal
 
 pub returns-in-Some : goal.returns-in-Some
 returns-in-Some c =

@@ -1,7 +1,7 @@
 use Rattle.std.proofs.Common.{ℕ, ◌≡◌, refl, ap, sym, ◌∙◌, List, [], ◌∷◌}
 use Rattle.acc_tree.specs.declared.entries.Entry.{Entry}
 use Rattle.acc_attach.specs.Kept.{CountersState, counters_in}
-use Rattle.acc_attach.proofs.counters.Counters.is_empty.Goals as goal
+use Rattle.acc_attach.proofs.counters.CounterRows.is_empty.Goals as goal
 
 -- there is no counter just where there is no entry
 none_of : (entries : List (Entry ℕ)) → counters_in entries ≡ [] → entries ≡ []

@@ -1,6 +1,6 @@
 use Rattle.std.proofs.Common.{◌∙◌}
 use Rattle.acc_attach.proofs.Placed.{next_there, next_not, next_past}
-use Rattle.acc_attach.proofs.counters.Counters.next.Goals as goal
+use Rattle.acc_attach.proofs.counters.CounterRows.next.Goals as goal
 
 pub returns-in_err-counter : goal.returns-in_err-counter
 returns-in_err-counter c = c.from_residual.ensures ∙ next_past c.args.block c.args.from c.args.self.now.counters c.in_err-counter.ensures.rising c.in_err-counter.ensures.found

@@ -1,5 +1,4 @@
 pub mod Placed
 pub mod Keyed
 pub mod Keeping
-pub mod Leaving
 pub mod Crossing

@@ -6,7 +6,7 @@ use Rattle.std.proofs.lemmas.Bool.Decides.{nat_tests}
 use Rattle.acc_base.specs.declared.attachments.Attachment.{Attachment}
 use Rattle.acc_base.specs.Section.{covers}
 use Rattle.acc_base.specs.Accounts.{EachPair}
-use Rattle.acc_base.specs.Attachments.{pointer_at, IsBefore, is_before, is_skipped, next_pointer}
+use Rattle.acc_base.specs.Attachments.{pointer_at, IsBefore, is_skipped, next_pointer}
 use Rattle.acc_base.proofs.Results.{equal}
 use Rattle.acc_base.proofs.Elements.{AllByRecursion-weaker, find-none}
 use Rattle.acc_base.proofs.Attached.{before}
@@ -15,15 +15,6 @@ use Rattle.acc_attach.specs.Kept.{is_below, is_from}
 -- a counter with this key
 abbrev probe : ℕ → ℕ → Attachment
 probe block pointer = record { block = block; pointer = pointer; count = 0 }
-
--- what stands before passes the test of standing before
-pub test_before : (a b : Attachment) → IsBefore a b → is_before a b ≡ true
-test_before a b (inl h) = let t : nat_lt a.block b.block ≡ true = grind (arith, nat_tests) in rw t
-test_before a b (inr h) = let s : (a.block == b.block) ≡ true = grind (arith, nat_tests, h.0) in let t : nat_lt a.pointer b.pointer ≡ true = grind (arith, nat_tests, h.1) in go (nat_lt a.block b.block) s t
-  where
-    go : (u : Bool) → (a.block == b.block) ≡ true → nat_lt a.pointer b.pointer ≡ true → (u || (a.block == b.block && nat_lt a.pointer b.pointer)) ≡ true
-    go true s t = refl
-    go false s t = rw (s, t)
 
 -- ---- where a counter stands that comes at a pointer or behind
 

@@ -4,7 +4,7 @@ ghost use Rattle.std.specs.Prelude.{◌≡◌, ◌+◌, ◌^◌, ◌<◌, ◌≤
 ghost use Rattle.acc_base.specs.Attachments.{count_at, with_count, attach, detach, attached_by, without_attachments, is_skipped, next_pointer};
 ghost use Rattle.acc_attach.specs.Attached.{AreAttached, left_of};
 
-use crate::counters::{Counters, Found};
+use crate::counters::{CounterRows, LocatedCounter};
 use crate::left::Left;
 use acc_base::{Aim, Attachment, Fault};
 use acc_rows::Place;
@@ -25,7 +25,7 @@ use std::marker::Model;
 #[derive(Drop)]
 pub struct Attached {
     counter_max: u64,
-    counters: Counters,
+    counters: CounterRows,
 }
 
 impl Model for Attached {
@@ -53,7 +53,7 @@ impl Attached {
     {
         Attached {
             counter_max,
-            counters: Counters::new(alloc),
+            counters: CounterRows::new(alloc),
         }
     }
 
@@ -125,7 +125,14 @@ impl Attached {
     }
 
     /// As [`Attached::attach_reserved`], of a counter that was searched for.
-    fn attach_found(&mut self, block: u64, pointer: u64, target: u64, now: u64, found: Found) -> Aim
+    fn attach_found(
+        &mut self,
+        block: u64,
+        pointer: u64,
+        target: u64,
+        now: u64,
+        found: LocatedCounter,
+    ) -> Aim
         requires found { found.count ≡ count_at block pointer self.old.attached }
         requires room { count_at block pointer self.old.attached ≡ 0 → 1 ≤ self.old.spare }
         requires not_full { IsOk (attach self.old.counter_max 0 block pointer target now self.old.attached) }
@@ -149,7 +156,7 @@ impl Attached {
     }
 
     /// Sets a counter that was searched for to a number above zero, where there is room for it.
-    fn put(&mut self, block: u64, pointer: u64, count: u64, found: Found)
+    fn put(&mut self, block: u64, pointer: u64, count: u64, found: LocatedCounter)
         requires some { 0 < count }
         requires most { count ≤ self.old.counter_max }
         requires found { found.count ≡ count_at block pointer self.old.attached }
@@ -218,7 +225,7 @@ impl Attached {
     }
 
     /// As [`Attached::detach_now`], of a counter that was searched for.
-    fn clear(&mut self, block: u64, pointer: u64, found: Found) -> Left
+    fn clear(&mut self, block: u64, pointer: u64, found: LocatedCounter) -> Left
         requires found { found.count ≡ count_at block pointer self.old.attached }
         ensures left { result ≡ left_of true (count_at block pointer self.old.attached) }
         ensures attached { self.new.attached ≡ attached_by (detach true block pointer self.old.attached) self.old.attached }

@@ -28,20 +28,14 @@ fn entry_of(rows: &Rows<u64>, key: u128) -> (Option<Entry<u64>>, Place)
     ensures { result.0 ≡ at_key key rows.now.entries }
 {
     let (found, place) = rows.look_up(key);
-    match found {
-        Some(entry) => (Some(*entry), place),
-        None => (None, place),
-    }
+    (found.copied(), place)
 }
 
 /// The entry of least key from a key on, if there is one.
 fn entry_from(rows: &Rows<u64>, key: u128) -> Option<Entry<u64>>
     ensures { result ≡ first_from key rows.now.entries }
 {
-    match rows.next(key) {
-        Some(entry) => Some(*entry),
-        None => None,
-    }
+    rows.next(key).copied()
 }
 
 /// As [`entry_from`], and where that entry stands. It is looked for first at a place and right behind it.
@@ -49,10 +43,7 @@ fn entry_near(rows: &Rows<u64>, key: u128, near: Place) -> (Option<Entry<u64>>, 
     ensures { result.0 ≡ first_from key rows.now.entries }
 {
     let (found, place) = rows.next_near(key, near);
-    match found {
-        Some(entry) => (Some(*entry), place),
-        None => (None, place),
-    }
+    (found.copied(), place)
 }
 
 /// The counter that an entry stands for: its key is the block and the pointer, its value how often that is attached.
@@ -75,7 +66,7 @@ fn begins_by(counter: Attachment, block: u64, address: u64) -> bool
 
 /// What a search finds of a counter.
 #[derive(Clone, Copy)]
-pub struct Found {
+pub struct LocatedCounter {
     /// How often the pointer is attached.
     pub count: u64,
     /// Where the counter stands, or would be put.
@@ -84,12 +75,12 @@ pub struct Found {
 
 /// The counters above zero, and room for more of them.
 #[derive(Drop)]
-pub struct Counters {
+pub struct CounterRows {
     // Each count stands under the key of its pointer.
     rows: Rows<u64>,
 }
 
-impl Model for Counters {
+impl Model for CounterRows {
     ghost use Rattle.acc_attach.specs.Kept.{CountersState, counters_in};
 
     ghost Value = { CountersState };
@@ -97,12 +88,12 @@ impl Model for Counters {
     ghost view = { λ c. record { counters = counters_in c.rows.entries; room = c.rows.room } };
 }
 
-impl Counters {
+impl CounterRows {
     /// No counter. It needs no memory.
-    pub fn new(alloc: Global) -> Counters
+    pub fn new(alloc: Global) -> CounterRows
         ensures { result.counters ≡ [] }
     {
-        Counters {
+        CounterRows {
             rows: Rows::new(alloc),
         }
     }
@@ -134,16 +125,16 @@ impl Counters {
     }
 
     /// How often a pointer of a block is attached, and where its counter stands.
-    pub fn find(&self, block: u64, pointer: u64) -> Found
+    pub fn find(&self, block: u64, pointer: u64) -> LocatedCounter
         ensures { result.count ≡ count_at block pointer self.now.counters }
     {
         let (entry, place) = entry_of(&self.rows, key_of(block, pointer));
         match entry {
-            Some(entry) => Found {
+            Some(entry) => LocatedCounter {
                 count: entry.value,
                 place,
             },
-            None => Found { count: 0, place },
+            None => LocatedCounter { count: 0, place },
         }
     }
 
@@ -171,7 +162,8 @@ impl Counters {
         }
     }
 
-    /// As [`Counters::first_from`], and where that counter stands. It is looked for first at a place and right behind it.
+    /// As [`CounterRows::first_from`], and where that counter stands. It is looked for first at a place and right behind
+    /// it.
     fn first_near(&self, block: u64, pointer: u64, near: Place) -> (Option<Attachment>, Place)
         ensures found { result.0 ≡ find (is_from block pointer) self.now.counters }
         ensures rising { EachPair IsBefore self.now.counters }
@@ -184,7 +176,7 @@ impl Counters {
         }
     }
 
-    /// As [`Counters::next`], and where the counter stands. It is looked for first at a place and right behind it.
+    /// As [`CounterRows::next`], and where the counter stands. It is looked for first at a place and right behind it.
     pub fn next_near(&self, block: u64, from: u64, near: Place) -> (Option<u64>, Place)
         ensures { result.0 ≡ next_pointer block from self.now.counters }
     {
@@ -223,7 +215,7 @@ impl Counters {
             size: 0,
             value: count,
         };
-        self.rows.insert_near(entry, near);
+        self.rows.insert(entry, near);
     }
 
     /// Gives a counter that is not zero another value, which is not zero. It is looked for first near a place.

@@ -55,14 +55,6 @@ before-trans a b c (inl h) (inr k) = inl (omega (arith, k.0))
 before-trans a b c (inr h) (inl k) = inl (omega (arith, h.0))
 before-trans a b c (inr h) (inr k) = inr (h.0 ∙ k.0, omega (arith, h.1, k.1))
 
--- no two counters are of one pointer
-pub before-other : (block pointer : ℕ) (a b : Attachment) → IsBefore a b → is_of block pointer a ≡ true → is_of block pointer b ≡ false
-before-other block pointer a b h e = go (is_of block pointer b) refl
-  where
-    go : (t : Bool) → is_of block pointer b ≡ t → t ≡ false
-    go true f = let block_a = same_block block pointer a e in let block_b = same_block block pointer b f in let at_a = same_pointer block pointer a e in let at_b = same_pointer block pointer b f in absurd (elim h [ inl k ↦ omega (arith, k) | inr k ↦ omega (arith, k.1) ])
-    go false f = refl
-
 -- a new counter goes in by the order
 pub put_attachment : (new : Attachment) → IsPut new (is_before new) (with_attachment new)
 put_attachment new = record { alone = refl; among = λ x xs. refl }

@@ -2,6 +2,7 @@
 use Rattle.std.proofs.Common.{suc, ◌≡◌, refl, ap, ◌∙◌, Bool, true, false, cond, List, [], ◌∷◌, ◌++◌, Option, Some, None, arith}
 use Rattle.std.specs.Prelude.{map, find, filter, option_map, Contains, IfSome}
 use Rattle.std.specs.List.{list_all, AllByRecursion}
+use Rattle.std.proofs.lemmas.List.Folds.{find-append}
 use Rattle.acc_base.specs.Accounts.{EachPair}
 use Rattle.acc_base.proofs.Results.{and_true}
 
@@ -35,6 +36,15 @@ AllByRecursion-map P f (x ∷ xs) h = (h.0, AllByRecursion-map P f xs h.1)
 pub AllByRecursion-append : {X : Type 0} (P : X → Type 0) (xs ys : List X) → AllByRecursion P xs → AllByRecursion P ys → AllByRecursion P (xs ++ ys)
 AllByRecursion-append P [] ys h k = k
 AllByRecursion-append P (x ∷ xs) ys h k = (h.0, AllByRecursion-append P xs ys h.1 k)
+
+-- of two lists joined, the front and what is behind it
+pub all_in_front : {X : Type 0} (P : X → Type 0) (l m : List X) → AllByRecursion P (l ++ m) → AllByRecursion P l
+all_in_front P [] m h = tt
+all_in_front P (x ∷ l) m h = (h.0, all_in_front P l m h.1)
+
+pub all_behind : {X : Type 0} (P : X → Type 0) (l m : List X) → AllByRecursion P (l ++ m) → AllByRecursion P m
+all_behind P [] m h = h
+all_behind P (x ∷ l) m h = all_behind P l m h.1
 
 pub list_all-from : {X : Type 0} (p : X → Bool) (xs : List X) → list_all p xs ≡ true → AllByRecursion (λ x. p x ≡ true) xs
 list_all-from p [] e = tt
@@ -96,6 +106,14 @@ find_none {X} p (x ∷ xs) e = go (find_none p xs) (p x) refl e
 pub find-none : {X : Type 0} (p : X → Bool) (xs : List X) → AllByRecursion (λ x. p x ≡ false) xs → find p xs ≡ None
 find-none p [] h = refl
 find-none p (x ∷ xs) h = rw h.0 (find-none p xs h.1)
+
+-- in two lists joined, where one of them has none
+pub find-front : {X : Type 0} (p : X → Bool) (l m : List X) → find p m ≡ None → find p (l ++ m) ≡ find p l
+find-front p [] m none = none
+find-front p (x ∷ l) m none = ap (λ o. cond (p x) (Some x) o) (find-front p l m none)
+
+pub find-behind : {X : Type 0} (p : X → Bool) (l m : List X) → find p l ≡ None → find p (l ++ m) ≡ find p m
+find-behind p l m none = find-append p l m ∙ rw none refl
 
 -- a search among images finds the image of what a search among the elements finds
 pub find-map : {X Y : Type 0} (f : X → Y) (p : X → Bool) (q : Y → Bool) (xs : List X) → ((x : X) → q (f x) ≡ p x) → find q (map f xs) ≡ option_map f (find p xs)

@@ -1,5 +1,5 @@
 -- Lists with a new element before the first one that it stands before.
-use Rattle.std.proofs.Common.{ℕ, zero, suc, ◌≡◌, refl, ap, Bool, true, false, cond, List, [], ◌∷◌, ◌++◌, take, drop, insert, Some, None}
+use Rattle.std.proofs.Common.{◌≡◌, refl, ap, Bool, true, false, cond, List, [], ◌∷◌, ◌++◌, Some, None}
 use Rattle.std.specs.Prelude.{find, IsSome}
 use Rattle.std.specs.List.{AllByRecursion}
 use Rattle.acc_base.specs.Accounts.{EachPair}
@@ -68,12 +68,6 @@ module _ {X : Type 0} {new : X} {first : X → Bool} {put : List X → List X} (
       go rest false false f s = rw f (rest s)
 
   -- ---- where it stands
-
-  pub put-insert : (xs : List X) (i : ℕ) → AllByRecursion (λ x. first x ≡ false) (take i xs) → AllByRecursion (λ x. first x ≡ true) (drop i xs) → put xs ≡ insert xs i new
-  put-insert [] zero below above = is.alone
-  put-insert [] (suc i) below above = is.alone
-  put-insert (x ∷ xs) zero below above = rw (is.among x xs) (rw above.0 refl)
-  put-insert (x ∷ xs) (suc i) below above = rw (is.among x xs) (rw below.0 (ap (λ ys. x ∷ ys) (put-insert xs i below.1 above)))
 
   -- behind all that it does not stand before
   pub put-last : (xs : List X) → AllByRecursion (λ x. first x ≡ false) xs → put xs ≡ xs ++ new ∷ []

@@ -1,6 +1,6 @@
 -- Lists whose elements have a key that rises or tells them apart: searches by the key, and changes at a place.
 use Rattle.std.proofs.Common.{ℕ, zero, suc, ◌≡◌, ◌<◌, ◌≤◌, refl, sym, ap, ◌∙◌, Bool, true, false, cond, List, [], ◌∷◌, length, get_or, set, take, drop, insert, Some, None, IsSome, arith, rules}
-use Rattle.std.specs.Prelude.{◌==◌, not, map, find, filter, nat_lt, nat_le}
+use Rattle.std.specs.Prelude.{◌==◌, not, map, find, filter, nat_lt}
 use Rattle.std.specs.List.{AllByRecursion, remove}
 use Rattle.std.proofs.lemmas.Bool.Decides.{nat_tests}
 use Rattle.acc_base.specs.Splits.{IsSplitBy}
@@ -12,14 +12,7 @@ use Rattle.acc_base.proofs.Lookups.{at, AreDistinct, at-without_same, at-without
 
 -- ---- each element
 
--- what all have, the first have
-pub all-take : {X : Type 0} (P : X → Type 0) (xs : List X) (i : ℕ) → AllByRecursion P xs → AllByRecursion P (take i xs)
-all-take P [] zero h = tt
-all-take P [] (suc i) h = tt
-all-take P (x ∷ xs) zero h = tt
-all-take P (x ∷ xs) (suc i) h = (h.0, all-take P xs i h.1)
-
--- and so have the others
+-- what all have, those from a place on have
 pub all-drop : {X : Type 0} (P : X → Type 0) (xs : List X) (i : ℕ) → AllByRecursion P xs → AllByRecursion P (drop i xs)
 all-drop P [] zero h = tt
 all-drop P [] (suc i) h = tt
@@ -53,13 +46,6 @@ map-remove f (x ∷ xs) zero = refl
 map-remove f (x ∷ xs) (suc i) = ap (λ ys. f x ∷ ys) (map-remove f xs i)
 
 -- ---- each pair
-
--- what each two have, each two have behind a place
-pub pairs-drop : {X : Type 0} (R : X → X → Type 0) (xs : List X) (i : ℕ) → EachPair R xs → EachPair R (drop i xs)
-pairs-drop R [] zero h = tt
-pairs-drop R [] (suc i) h = tt
-pairs-drop R (x ∷ xs) zero h = h
-pairs-drop R (x ∷ xs) (suc i) h = pairs-drop R xs i h.1
 
 -- what each two have, and each with a new one in its place, each two have with it
 pub pairs-insert : {X : Type 0} (R : X → X → Type 0) (xs : List X) (i : ℕ) (new : X) → EachPair R xs → AllByRecursion (λ x. R x new) (take i xs) → AllByRecursion (R new) (drop i xs) → EachPair R (insert xs i new)
@@ -148,16 +134,7 @@ module _ {X : Type 0} (key : X → ℕ) where
       let t : (key x == number) ≡ false = grind (arith, nat_tests) in
       omega (arith, found_within number xs i (split_rest number x xs i parts) (rw t at there))
 
-  -- what stands at the place of a number is the element of that key, if it has it
-  pub at_place : (number : ℕ) (xs : List X) (i : ℕ) (d : X) → IsSplitBy (is_key_below number) xs i → i < length xs → key (get_or xs i d) ≡ number → at key number xs ≡ Some (get_or xs i d)
-  at_place number [] i d parts within is = absurd (omega arith)
-  at_place number (x ∷ xs) zero d parts within is = let t : (key x == number) ≡ true = grind (arith, nat_tests) in rw t
-  at_place number (x ∷ xs) (suc i) d parts within is =
-      let less = parts.passed.0 in
-      let t : (key x == number) ≡ false = grind (arith, nat_tests) in
-      rw t (at_place number xs i d (split_rest number x xs i parts) (omega arith) is)
-
-  -- and else there is none
+  -- none has a number at whose place another key stands
   pub at_no_place : (number : ℕ) (xs : List X) (i : ℕ) (d : X) → Rise xs → IsSplitBy (is_key_below number) xs i → (i < length xs → key (get_or xs i d) ≡ number → ⊥) → at key number xs ≡ None
   at_no_place number [] i d r parts other = refl
   at_no_place number (x ∷ xs) zero d r parts other =
@@ -183,18 +160,6 @@ module _ {X : Type 0} (key : X → ℕ) where
           let f : (key y == key x) ≡ false = grind (arith, nat_tests) in
           rw f (rest h)
 
-  -- the first key from a number on stands at the place of the number
-  pub first_at : (number : ℕ) (xs : List X) (i : ℕ) (d : X) → IsSplitBy (is_key_below number) xs i → i < length xs → find (λ x. nat_le number (key x)) xs ≡ Some (get_or xs i d)
-  first_at number [] i d parts within = absurd (omega arith)
-  first_at number (x ∷ xs) zero d parts within = let least = parts.failed.0 in let t : nat_le number (key x) ≡ true = grind (arith, nat_tests) in rw t
-  first_at number (x ∷ xs) (suc i) d parts within = let less = parts.passed.0 in let t : nat_le number (key x) ≡ false = grind (arith, nat_tests) in rw t (first_at number xs i d (split_rest number x xs i parts) (omega arith))
-
-  -- and there is none where the place is behind all
-  pub first_none : (number : ℕ) (xs : List X) (i : ℕ) → IsSplitBy (is_key_below number) xs i → length xs ≤ i → find (λ x. nat_le number (key x)) xs ≡ None
-  first_none number [] i parts within = refl
-  first_none number (x ∷ xs) zero parts within = absurd (omega arith)
-  first_none number (x ∷ xs) (suc i) parts within = let less = parts.passed.0 in let t : nat_le number (key x) ≡ false = grind (arith, nat_tests) in rw t (first_none number xs i (split_rest number x xs i parts) (omega arith))
-
   -- ---- an element more
 
   -- the keys behind the place of a new one are above it
@@ -204,18 +169,6 @@ module _ {X : Type 0} (key : X → ℕ) where
   -- keys rise with a new one in its place
   pub rise-insert : (xs : List X) (i : ℕ) (new : X) → Rise xs → IsSplitBy (is_key_below (key new)) xs i → at key (key new) xs ≡ None → Rise (insert xs i new)
   rise-insert xs i new r parts none = pairs-insert (λ x y. key x < key y) xs i new r (keys_below (key new) xs i parts) (above_new (key new) xs i parts none)
-
-  -- the element of a key, with a new one
-  pub at-insert : (xs : List X) (i : ℕ) (new : X) (number : ℕ) → at key (key new) xs ≡ None → at key number (insert xs i new) ≡ cond (key new == number) (Some new) (at key number xs)
-  at-insert [] zero new number none = refl
-  at-insert [] (suc i) new number none = refl
-  at-insert (x ∷ xs) zero new number none = refl
-  at-insert (x ∷ xs) (suc i) new number none = go (at-insert xs i new number) (key x == key new) refl none (key x == number) refl
-    where
-      go : (at key (key new) xs ≡ None → at key number (insert xs i new) ≡ cond (key new == number) (Some new) (at key number xs)) → (a : Bool) → (key x == key new) ≡ a → cond a (Some x) (at key (key new) xs) ≡ None → (b : Bool) → (key x == number) ≡ b → cond b (Some x) (at key number (insert xs i new)) ≡ cond (key new == number) (Some new) (cond b (Some x) (at key number xs))
-      go rest true e h b f = cc
-      go rest false e h true f = let other : (key new == number) ≡ false = grind (arith, nat_tests) in rw other refl
-      go rest false e h false f = rest h
 
   -- ---- an element less
 

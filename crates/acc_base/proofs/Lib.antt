@@ -31,11 +31,9 @@ pub mod Registers
 pub mod Told
 pub mod Traced
 pub mod LegalEvents
-pub mod Exits
 pub mod Accepted
 pub mod Views
 pub mod OnDevices
 pub mod Isolated
 pub mod Accounted
-mod Runs
 mod Examples

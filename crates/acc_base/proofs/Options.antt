@@ -1,6 +1,7 @@
 -- Answers that may be none, under a function.
 use Rattle.std.proofs.Common.{◌≡◌, refl, Bool, true, false, cond, Option, Some, None}
 use Rattle.std.specs.Prelude.{option_map, IsSome}
+use Rattle.std.specs.Option.{option_or}
 
 -- an answer that a test chooses before another one
 pub some_mapped : {X Y : Type 0} (f : X → Y) (b : Bool) (x : X) (o : Option X) → option_map f (cond b (Some x) o) ≡ cond b (Some (f x)) (option_map f o)
@@ -26,3 +27,12 @@ from_some f (Some x) some = refl
 pub from_none : {X Y : Type 0} (f : X → Y) (o : Option X) → option_map f o ≡ None → o ≡ None
 from_none f None e = refl
 from_none f (Some x) e = cc
+
+-- one answer or else another
+pub or_none : {X : Type 0} (o : Option X) → option_or o None ≡ o
+or_none None = refl
+or_none (Some x) = refl
+
+pub or_or : {X : Type 0} (a b c : Option X) → option_or (option_or a b) c ≡ option_or a (option_or b c)
+or_or None b c = refl
+or_or (Some x) b c = refl

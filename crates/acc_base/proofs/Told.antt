@@ -1,25 +1,21 @@
 -- A legal event keeps the records of its device sound and the numbers of regions rising, and gives both counters of
 -- every block.
-use Rattle.std.proofs.Common.{ℕ, ◌≡◌, ◌+◌, ◌-◌, ◌≤◌, ◌<◌, refl, sym, ◌∙◌, ap, subst, Bool, cond, List, [], ◌∷◌, Option, Some, None, arith}
-use Rattle.std.specs.Prelude.{reverse, unwrap_or, option_map, IsSome, IfSome}
-use Rattle.std.specs.List.{AllByRecursion}
-use Rattle.std.proofs.lemmas.List.Sums.{sum_by-cons}
-use Rattle.acc_base.specs.Words.{Item, RegionClause, EnterClause, Range, Holding, Task, Did, Event}
+use Rattle.std.proofs.Common.{ℕ, ◌≡◌, ◌+◌, ◌-◌, refl, ◌∙◌, ap, cond, List, [], Option, Some, None, arith}
+use Rattle.std.specs.Prelude.{reverse, unwrap_or, IsSome}
+use Rattle.acc_base.specs.Words.{Item, RegionClause, EnterClause, Holding, Task, Did, Event}
 use Rattle.acc_base.specs.declared.mappings.Counter.TheVariants.{Structured, Dynamic}
 use Rattle.acc_base.specs.declared.tasks.Task.TheVariants.{ExitRegion}
 use Rattle.acc_base.specs.declared.events.Event.TheVariants.{Entered, Left, EnteredData, ExitedData, Updated, Lent}
 use Rattle.acc_base.specs.Limits.{Limits, IsWithinBounds}
 use Rattle.acc_base.specs.Records.{Records, Layout, new_layout}
-use Rattle.acc_base.specs.Register.{Region, Register, holdings_at, opened, closed, is_counted_block, count_held, held_in}
-use Rattle.acc_base.specs.Ranges.{range_of, structured_of, dynamic_of}
+use Rattle.acc_base.specs.Register.{Register, holdings_at, opened, closed, is_counted_block, count_held, held_in}
+use Rattle.acc_base.specs.Ranges.{structured_of, dynamic_of}
 use Rattle.acc_base.specs.Clauses.{as_region}
 use Rattle.acc_base.specs.Steps.{act_all}
 use Rattle.acc_base.specs.Waits.{records_drained}
 use Rattle.acc_base.specs.Walk.{enter_task, enter_data_task, exit_task, move_task, asked_in, done_in, stepped_in, register_after, holdings_of, walk, loaned}
 use Rattle.acc_base.specs.History.{NamesRight, drops, count_counted, count_dropped, entries_of, exits_of, entries_in, exits_in, dynamic_in, dynamic_after, IsLegal, Past}
 use Rattle.acc_base.specs.Accounts.{AreRecordsSound, AreHeld}
-use Rattle.acc_base.proofs.Results.{equal_self}
-use Rattle.acc_base.proofs.Elements.{AllByRecursion-weaker, IfSome-weaker}
 use Rattle.acc_base.proofs.Sound.{ranges-drained, drained_sound, new_sound}
 use Rattle.acc_base.proofs.Loaned.{ranges-loaned, loaned_sound}
 use Rattle.acc_base.proofs.AllTasks.{recount_same, AreLeft, all_left, AreSaid, all_said, entered_recount, held-entered, exited_recount, left_recount, held-left, sum_by-reverse}
@@ -136,47 +132,3 @@ pub record IsLedTo (l : Limits) (h : Past) (lay : Layout) : Type 0 where
   pub held : AreHeld lay
   pub structured : (b : ℕ) → structured_of b lay.records.ranges + exits_in b h ≡ entries_in b h
   pub dynamic : (b : ℕ) → dynamic_of b lay.records.ranges ≡ dynamic_in b h
-
--- ---- what open regions hold
-
-counted_one : (b : ℕ) (o : Option ℕ) → o ≡ Some b → cond {A = ℕ} (is_counted_block b o) 1 0 ≡ 1
-counted_one b o e = subst (λ (x : Option ℕ). cond {A = ℕ} (is_counted_block b x) 1 0 ≡ 1) (sym e) (ap (λ (t : Bool). cond {A = ℕ} t 1 0) (equal_self b))
-
--- where every count is bounded, a block that a holding counted has a bound above zero
-holdings_below : (bound : ℕ → ℕ) (holdings : List Holding) → ((b : ℕ) → count_held b holdings ≤ bound b) → AllByRecursion (λ (h : Holding). IfSome h.block (λ b. 0 < bound b)) holdings
-holdings_below bound [] le = tt
-holdings_below bound (h ∷ holdings) le = (go h.block refl, holdings_below bound holdings (λ b. omega (arith, le b, all_of b)))
-  where
-    all_of : (b : ℕ) → count_held b (h ∷ holdings) ≡ cond (is_counted_block b h.block) 1 0 + count_held b holdings
-    all_of b = sum_by-cons (λ (x : Holding). cond (is_counted_block b x.block) 1 0) h holdings
-
-    go : (o : Option ℕ) → h.block ≡ o → IfSome o (λ b. 0 < bound b)
-    go None e = tt
-    go (Some b) e =
-        let one : cond {A = ℕ} (is_counted_block b h.block) 1 0 ≡ 1 = counted_one b h.block e in
-        omega (arith, le b, all_of b)
-
--- the same of all open regions
-regions_below : (bound : ℕ → ℕ) (regions : List Region) → ((b : ℕ) → held_in b regions ≤ bound b) → AllByRecursion (λ (r : Region). AllByRecursion (λ (h : Holding). IfSome h.block (λ b. 0 < bound b)) r.holdings) regions
-regions_below bound [] le = tt
-regions_below bound (r ∷ regions) le = (holdings_below bound r.holdings (λ b. omega (arith, le b, all_of b)), regions_below bound regions (λ b. omega (arith, le b, all_of b)))
-  where
-    all_of : (b : ℕ) → held_in b (r ∷ regions) ≡ count_held b r.holdings + held_in b regions
-    all_of b = sum_by-cons (λ (x : Region). count_held b x.holdings) r regions
-
-structured_there : (b : ℕ) (ranges : List Range) → 0 < structured_of b ranges → IsSome (range_of b ranges)
-structured_there b ranges some = go (range_of b ranges) some
-  where
-    go : (o : Option Range) → 0 < unwrap_or (option_map (λ (r : Range). r.structured) o) 0 → IsSome o
-    go None p = absurd (omega arith)
-    go (Some r) p = refl
-
--- each block that an open region holds is mapped
-abbrev pub IsHeldMapped : Layout → Type 0
-IsHeldMapped lay = AllByRecursion (λ (r : Region). AllByRecursion (λ (h : Holding). IfSome h.block (λ b. IsSome (range_of b lay.records.ranges))) r.holdings) lay.register.regions
-
-pub held_mapped : (lay : Layout) → AreHeld lay → IsHeldMapped lay
-held_mapped lay held = AllByRecursion-weaker (λ (r : Region). AllByRecursion (λ (h : Holding). IfSome h.block (λ b. 0 < structured_of b lay.records.ranges)) r.holdings) (λ (r : Region). AllByRecursion (λ (h : Holding). IfSome h.block (λ b. IsSome (range_of b lay.records.ranges))) r.holdings) lay.register.regions
-    (λ r all. AllByRecursion-weaker (λ (h : Holding). IfSome h.block (λ b. 0 < structured_of b lay.records.ranges)) (λ (h : Holding). IfSome h.block (λ b. IsSome (range_of b lay.records.ranges))) r.holdings
-    (λ h some. IfSome-weaker (λ b. 0 < structured_of b lay.records.ranges) (λ b. IsSome (range_of b lay.records.ranges)) h.block (λ b p. structured_there b lay.records.ranges p) some) all)
-    (regions_below (λ b. structured_of b lay.records.ranges) lay.register.regions (λ b. omega (arith, held b)))

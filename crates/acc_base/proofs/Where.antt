@@ -116,13 +116,3 @@ in_one s ranges _ placed h = absurd h
 -- a section is inside a range exactly where each of its addresses is in that one range
 pub inside_exactly : (s : Section) (ranges : List Range) → AllByRecursion (λ (r : Range). 0 < r.section.len) ranges → IsInside (where_is s ranges) ↔ IsInsideOne s ranges
 inside_exactly s ranges q = (in_one s ranges (where_is s ranges) (where_is-placed s ranges q), inside_when s ranges (where_is s ranges) (where_is-placed s ranges q))
-
-absent_when : (s : Section) (ranges : List Range) (found : Found) → IsPlacedAt s ranges found → (0 < s.len) × IsClear s ranges → found ≡ Absent
-absent_when s ranges Empty placed h = let some : 0 < s.len = h.0 in absurd (omega arith)
-absent_when s ranges (Inside block offset) placed h = absurd (within_not_clear s ranges placed.1.0 h.0 placed.1.1.mapped placed.1.1.within h.1)
-absent_when s ranges Absent placed h = refl
-absent_when s ranges Partly placed h = absurd (placed.2 h.1)
-
--- and absent exactly where none of them is in any range
-pub absent_exactly : (s : Section) (ranges : List Range) → AllByRecursion (λ (r : Range). 0 < r.section.len) ranges → (where_is s ranges ≡ Absent) ↔ ((0 < s.len) × IsClear s ranges)
-absent_exactly s ranges q = ((λ e. subst (IsPlacedAt s ranges) e (where_is-placed s ranges q)), absent_when s ranges (where_is s ranges) (where_is-placed s ranges q))

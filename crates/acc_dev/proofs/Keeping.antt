@@ -27,7 +27,7 @@ use Rattle.acc_dev.specs.Slots.{IsEntry, IsSlotOf}
 use Rattle.acc_dev.specs.Kept.{memory_of, stored_len, stored_bytes, stored_pins, stored_ended, stored_loan, block_from, mark_from, marks_in, loans_in, slot_of, blocks_in, memories_in, IsOut, IsInOrOut, IsBacked, AreSlotsKept, AreNumbersBorn, IsStoredOf}
 use Rattle.acc_base.proofs.Splitting.{all_at}
 use Rattle.acc_base.proofs.Keyed.{all_from}
-use Rattle.acc_dev.proofs.Rising.{start, entry_read}
+use Rattle.acc_dev.proofs.Rising.{start}
 use Rattle.acc_dev.proofs.Slots.{block_at-entry, bytes_of-entry, pins_at-entry, is_ended_at-entry, block_at-none}
 use Rattle.acc_dev.proofs.Lent.{AreBacked, loans_each, loan_of-entry, len_of-entry, long_entry, ended_free}
 use Rattle.acc_dev.proofs.Vacant.{hole_of, holes_listed, next_of}
@@ -131,10 +131,6 @@ sound_at h s xs i k lt = all_at (λ (e : ℕ × ℕ). IsSoundMark (mark_from e.0
 -- the slot of an entry is not empty
 pub filled_at : (h : Space) (s : List (Option Stored)) (xs : List (ℕ × ℕ)) (i : ℕ) → AreSlotsKept h s xs → i < length xs → IsSome (slot_of s (get_or xs i start))
 filled_at h s xs i k lt = all_at (λ (e : ℕ × ℕ). IsSome (slot_of s e)) xs i start lt k.filled
-
--- the slot of an entry that was read is not empty
-pub filled_read : (h : Space) (s : List (Option Stored)) (xs : List (ℕ × ℕ)) (i : ℕ) (e : ℕ × ℕ) → AreSlotsKept h s xs → e ≡ get_or xs i e → i < length xs → IsSome (get_or s e.1 None)
-filled_read h s xs i e k read lt = subst (λ (d : ℕ × ℕ). IsSome (slot_of s d)) (entry_read xs i e read lt) (filled_at h s xs i k lt)
 
 -- ---- the slot of a block
 

@@ -3,7 +3,6 @@ use Rattle.std.proofs.Common.{ℕ, zero, suc, ◌≡◌, ◌<◌, refl, sym, sub
 use Rattle.std.specs.Prelude.{◌==◌, not, find, filter, option_map}
 use Rattle.std.proofs.lemmas.Bool.Decides.{nat_tests}
 use Rattle.std.specs.List.{AllByRecursion, remove}
-use Rattle.std.proofs.lemmas.List.{get_or_default}
 use Rattle.acc_base.proofs.Splitting.{all_at}
 use Rattle.acc_base.proofs.Lookups.{at-own}
 use Rattle.acc_base.proofs.Keyed as keyed
@@ -20,10 +19,6 @@ start = (0, 0)
 -- the number of an entry
 abbrev pub entry_number : ℕ × ℕ → ℕ
 entry_number e = e.0
-
--- the entry at a place, as it was read
-pub entry_read : (xs : List (ℕ × ℕ)) (i : ℕ) (e : ℕ × ℕ) → e ≡ get_or xs i e → i < length xs → get_or xs i start ≡ e
-entry_read xs i e read lt = get_or_default xs i start e lt ∙ sym read
 
 -- a search by number finds the entry of that number
 pub find_at : (xs : List (ℕ × ℕ)) (i n : ℕ) → IsIndexRising xs → i < length xs → (get_or xs i start).0 ≡ n → find (λ e. e.0 == n) xs ≡ Some (get_or xs i start)

@@ -388,23 +388,6 @@ impl Device {
         false
     }
 
-    /// How many queued transfers name a block of the device, at most 2^32.
-    pub fn pins(&self, block: u64) -> u64
-        requires { HasBlock self.now block }
-        ensures pins { result ≡ pins_at block self.now.marks }
-        ensures few { result ≤ 2 ^ 32 }
-    {
-        self.stored(block).pins
-    }
-
-    /// Whether the mapping of a block of the device has ended.
-    pub fn has_ended(&self, block: u64) -> bool
-        requires { HasBlock self.now block }
-        ensures { result ≡ is_ended_at block self.now.marks }
-    {
-        self.stored(block).ended
-    }
-
     /// Of the blocks whose mapping has ended, the one of least place at or above the device address `from`; `None`
     /// where there is none. It needs no memory.
     pub fn ended(&self, from: u64) -> Option<Ended>

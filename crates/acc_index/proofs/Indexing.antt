@@ -14,22 +14,22 @@ use Rattle.acc_base.proofs.Elements.{AllByRecursion-weaker, AllByRecursion-passe
 use Rattle.acc_base.proofs.Lookups.{at}
 use Rattle.acc_base.proofs.Options.{some_mapped, none_mapped}
 use Rattle.acc_base.proofs.Splitting.{all_at}
-use Rattle.acc_index.specs.declared.index.Entry.{Entry}
+use Rattle.acc_index.specs.declared.index.IndexEntry.{IndexEntry}
 use Rattle.acc_index.specs.Indexed.{IsIndexRising, value_at, last_number, with_value, without_number, live_before, live_entries, AreEntriesRising, ends_gone, blank_entry, IsNumberAt}
 
 module _ {T : Type 0} where
   -- the number of a place, and of a value
-  abbrev pub place_key : Entry T → ℕ
+  abbrev pub place_key : IndexEntry T → ℕ
   place_key e = e.number
 
   abbrev pub value_key : ℕ × T → ℕ
   value_key e = e.0
 
   -- a place is not gone
-  abbrev pub is_here : Entry T → Bool
+  abbrev pub is_here : IndexEntry T → Bool
   is_here e = is_some e.value
 
-  pub entries-append : (xs ys : List (Entry T)) → live_entries (xs ++ ys) ≡ live_entries xs ++ live_entries ys
+  pub entries-append : (xs ys : List (IndexEntry T)) → live_entries (xs ++ ys) ≡ live_entries xs ++ live_entries ys
   entries-append [] ys = refl
   entries-append (x ∷ xs) ys = ap (live_before x.number x.value) (entries-append xs ys) ∙ go x.value
     where
@@ -38,7 +38,7 @@ module _ {T : Type 0} where
       go (Some v) = refl
 
   -- what the numbers of all places have, those of the values have
-  pub numbers_here : (P : ℕ → Type 0) (xs : List (Entry T)) → AllByRecursion (λ (e : Entry T). P e.number) xs → AllByRecursion (λ (d : ℕ × T). P d.0) (live_entries xs)
+  pub numbers_here : (P : ℕ → Type 0) (xs : List (IndexEntry T)) → AllByRecursion (λ (e : IndexEntry T). P e.number) xs → AllByRecursion (λ (d : ℕ × T). P d.0) (live_entries xs)
   numbers_here P [] h = tt
   numbers_here P (x ∷ xs) h = go x.value (numbers_here P xs h.1)
     where
@@ -47,7 +47,7 @@ module _ {T : Type 0} where
       go (Some v) rest = (h.0, rest)
 
   -- their numbers rise
-  pub entries_rise : (xs : List (Entry T)) → AreEntriesRising xs → IsIndexRising (live_entries xs)
+  pub entries_rise : (xs : List (IndexEntry T)) → AreEntriesRising xs → IsIndexRising (live_entries xs)
   entries_rise [] h = tt
   entries_rise (x ∷ xs) h = go x.value (entries_rise xs h.1)
     where
@@ -56,7 +56,7 @@ module _ {T : Type 0} where
       go (Some v) rest = (numbers_here (λ m. x.number < m) xs h.0, rest)
 
   -- they are no more than the places
-  pub entries_few : (xs : List (Entry T)) → length (live_entries xs) ≤ length xs
+  pub entries_few : (xs : List (IndexEntry T)) → length (live_entries xs) ≤ length xs
   entries_few [] = omega arith
   entries_few (x ∷ xs) = go x.value (entries_few xs)
     where
@@ -67,21 +67,21 @@ module _ {T : Type 0} where
   -- ---- a search by number
 
   -- of two entries the later one has the greater number
-  rise_at : (xs : List (Entry T)) (i j : ℕ) → AreEntriesRising xs → i < j → j < length xs → (get_or xs i blank_entry).number < (get_or xs j blank_entry).number
+  rise_at : (xs : List (IndexEntry T)) (i j : ℕ) → AreEntriesRising xs → i < j → j < length xs → (get_or xs i blank_entry).number < (get_or xs j blank_entry).number
   rise_at [] i j r lt within = absurd (omega arith)
   rise_at (x ∷ xs) i zero r lt within = absurd (omega arith)
-  rise_at (x ∷ xs) zero (suc j) r lt within = all_at (λ (e : Entry T). x.number < e.number) xs j blank_entry (omega arith) r.0
+  rise_at (x ∷ xs) zero (suc j) r lt within = all_at (λ (e : IndexEntry T). x.number < e.number) xs j blank_entry (omega arith) r.0
   rise_at (x ∷ xs) (suc i) (suc j) r lt within = rise_at xs i j r.1 (omega arith) (omega arith)
 
   -- of two entries, which may be one, the later one has no lesser number
-  rise_to : (xs : List (Entry T)) (i j : ℕ) → AreEntriesRising xs → i ≤ j → j < length xs → (get_or xs i blank_entry).number ≤ (get_or xs j blank_entry).number
+  rise_to : (xs : List (IndexEntry T)) (i j : ℕ) → AreEntriesRising xs → i ≤ j → j < length xs → (get_or xs i blank_entry).number ≤ (get_or xs j blank_entry).number
   rise_to xs i j r le within = elim (cases_eq i j) [
     | inl same ↦ omega (arith, ap (λ (k : ℕ). (get_or xs k blank_entry).number) same)
     | inr differs ↦ omega (arith, rise_at xs i j r (omega arith) within)
   ]
 
   -- the numbers rise by one at least from place to place
-  rise_far : (xs : List (Entry T)) (i j : ℕ) → AreEntriesRising xs → i ≤ j → j < length xs → (get_or xs i blank_entry).number + (j - i) ≤ (get_or xs j blank_entry).number
+  rise_far : (xs : List (IndexEntry T)) (i j : ℕ) → AreEntriesRising xs → i ≤ j → j < length xs → (get_or xs i blank_entry).number + (j - i) ≤ (get_or xs j blank_entry).number
   rise_far xs i zero r le within = let same : i ≡ 0 = omega arith in rw same (omega arith)
   rise_far xs i (suc k) r le within = elim (cases_lt k i) [
     | inl last ↦ let same : i ≡ suc k = omega arith in rw same (omega arith)
@@ -91,11 +91,11 @@ module _ {T : Type 0} where
         omega arith
   ]
 
-  first_at : (xs : List (Entry T)) (x : Entry T) → slice_get xs 0 ≡ Some x → (get_or xs 0 blank_entry ≡ x) × (0 < length xs)
+  first_at : (xs : List (IndexEntry T)) (x : IndexEntry T) → slice_get xs 0 ≡ Some x → (get_or xs 0 blank_entry ≡ x) × (0 < length xs)
   first_at [] x e = cc
   first_at (y ∷ ys) x e = (same_Some y x e, omega arith)
 
-  last_at : (xs : List (Entry T)) (x : Entry T) → slice_get xs (length xs - 1) ≡ Some x → (get_or xs (length xs - 1) blank_entry ≡ x) × (0 < length xs)
+  last_at : (xs : List (IndexEntry T)) (x : IndexEntry T) → slice_get xs (length xs - 1) ≡ Some x → (get_or xs (length xs - 1) blank_entry ≡ x) × (0 < length xs)
   last_at [] x e = cc
   last_at (y ∷ []) x e = (same_Some y x e, omega arith)
   last_at (y ∷ z ∷ ys) x e =
@@ -104,52 +104,52 @@ module _ {T : Type 0} where
       (ap (λ (i : ℕ). get_or (y ∷ z ∷ ys) i blank_entry) place ∙ rest.0, omega arith)
 
   -- no number below the first stands in the list, and none above the last
-  pub none_below : (xs : List (Entry T)) (x : Entry T) (n : ℕ) → AreEntriesRising xs → slice_get xs 0 ≡ Some x → n < x.number → AllByRecursion (λ (e : Entry T). e.number ≡ n → ⊥) xs
-  none_below xs x n rise first below = all_from (λ (e : Entry T). e.number ≡ n → ⊥) xs blank_entry (λ k within same.
+  pub none_below : (xs : List (IndexEntry T)) (x : IndexEntry T) (n : ℕ) → AreEntriesRising xs → slice_get xs 0 ≡ Some x → n < x.number → AllByRecursion (λ (e : IndexEntry T). e.number ≡ n → ⊥) xs
+  none_below xs x n rise first below = all_from (λ (e : IndexEntry T). e.number ≡ n → ⊥) xs blank_entry (λ k within same.
       let up : (get_or xs 0 blank_entry).number ≤ (get_or xs k blank_entry).number = rise_to xs 0 k rise (omega arith) within in
-      let is : (get_or xs 0 blank_entry).number ≡ x.number = ap (λ (e : Entry T). e.number) (first_at xs x first).0 in
+      let is : (get_or xs 0 blank_entry).number ≡ x.number = ap (λ (e : IndexEntry T). e.number) (first_at xs x first).0 in
       omega arith)
 
-  pub none_above : (xs : List (Entry T)) (x : Entry T) (n : ℕ) → AreEntriesRising xs → slice_get xs (length xs - 1) ≡ Some x → x.number < n → AllByRecursion (λ (e : Entry T). e.number ≡ n → ⊥) xs
-  none_above xs x n rise last above = all_from (λ (e : Entry T). e.number ≡ n → ⊥) xs blank_entry (λ k within same.
+  pub none_above : (xs : List (IndexEntry T)) (x : IndexEntry T) (n : ℕ) → AreEntriesRising xs → slice_get xs (length xs - 1) ≡ Some x → x.number < n → AllByRecursion (λ (e : IndexEntry T). e.number ≡ n → ⊥) xs
+  none_above xs x n rise last above = all_from (λ (e : IndexEntry T). e.number ≡ n → ⊥) xs blank_entry (λ k within same.
       let up : (get_or xs k blank_entry).number ≤ (get_or xs (length xs - 1) blank_entry).number = rise_to xs k (length xs - 1) rise (omega arith) (omega arith) in
-      let is : (get_or xs (length xs - 1) blank_entry).number ≡ x.number = ap (λ (e : Entry T). e.number) (last_at xs x last).0 in
+      let is : (get_or xs (length xs - 1) blank_entry).number ≡ x.number = ap (λ (e : IndexEntry T). e.number) (last_at xs x last).0 in
       omega arith)
 
   -- the window of a number between the first and the last is not empty, and holds its place
-  pub window_some : (xs : List (Entry T)) (x y : Entry T) (n : ℕ) → AreEntriesRising xs → slice_get xs 0 ≡ Some x → slice_get xs (length xs - 1) ≡ Some y → x.number ≤ n → n ≤ y.number → ((length xs - 1) - (y.number - n) ≤ n - x.number) × (0 < length xs)
+  pub window_some : (xs : List (IndexEntry T)) (x y : IndexEntry T) (n : ℕ) → AreEntriesRising xs → slice_get xs 0 ≡ Some x → slice_get xs (length xs - 1) ≡ Some y → x.number ≤ n → n ≤ y.number → ((length xs - 1) - (y.number - n) ≤ n - x.number) × (0 < length xs)
   window_some xs x y n rise first last low high =
       let some : 0 < length xs = (first_at xs x first).1 in
       let far : (get_or xs 0 blank_entry).number + (length xs - 1 - 0) ≤ (get_or xs (length xs - 1) blank_entry).number = rise_far xs 0 (length xs - 1) rise (omega arith) (omega arith) in
-      let is_x : (get_or xs 0 blank_entry).number ≡ x.number = ap (λ (e : Entry T). e.number) (first_at xs x first).0 in
-      let is_y : (get_or xs (length xs - 1) blank_entry).number ≡ y.number = ap (λ (e : Entry T). e.number) (last_at xs y last).0 in
+      let is_x : (get_or xs 0 blank_entry).number ≡ x.number = ap (λ (e : IndexEntry T). e.number) (first_at xs x first).0 in
+      let is_y : (get_or xs (length xs - 1) blank_entry).number ≡ y.number = ap (λ (e : IndexEntry T). e.number) (last_at xs y last).0 in
       (omega arith, some)
 
-  pub window_holds : (xs : List (Entry T)) (x y : Entry T) (n at : ℕ) → AreEntriesRising xs → slice_get xs 0 ≡ Some x → slice_get xs (length xs - 1) ≡ Some y → IsNumberAt xs n at → ((length xs - 1) - (y.number - n) ≤ at) × (at ≤ n - x.number)
+  pub window_holds : (xs : List (IndexEntry T)) (x y : IndexEntry T) (n at : ℕ) → AreEntriesRising xs → slice_get xs 0 ≡ Some x → slice_get xs (length xs - 1) ≡ Some y → IsNumberAt xs n at → ((length xs - 1) - (y.number - n) ≤ at) × (at ≤ n - x.number)
   window_holds xs x y n at rise first last found =
       let within : at < length xs = found.in_bounds in
       let is : (get_or xs at blank_entry).number ≡ n = found.is in
       let before : (get_or xs 0 blank_entry).number + (at - 0) ≤ (get_or xs at blank_entry).number = rise_far xs 0 at rise (omega arith) within in
       let behind : (get_or xs at blank_entry).number + (length xs - 1 - at) ≤ (get_or xs (length xs - 1) blank_entry).number = rise_far xs at (length xs - 1) rise (omega arith) (omega arith) in
-      let is_x : (get_or xs 0 blank_entry).number ≡ x.number = ap (λ (e : Entry T). e.number) (first_at xs x first).0 in
-      let is_y : (get_or xs (length xs - 1) blank_entry).number ≡ y.number = ap (λ (e : Entry T). e.number) (last_at xs y last).0 in
+      let is_x : (get_or xs 0 blank_entry).number ≡ x.number = ap (λ (e : IndexEntry T). e.number) (first_at xs x first).0 in
+      let is_y : (get_or xs (length xs - 1) blank_entry).number ≡ y.number = ap (λ (e : IndexEntry T). e.number) (last_at xs y last).0 in
       (omega arith, omega arith)
 
   -- ---- a window is halved
 
   -- the number at a place, whatever stands outside
-  pub read_number : (xs : List (Entry T)) (i : ℕ) (d : Entry T) → i < length xs → (get_or xs i blank_entry).number ≡ (get_or xs i d).number
-  read_number xs i d lt = ap (λ (e : Entry T). e.number) (get_or_default xs i blank_entry d lt)
+  pub read_number : (xs : List (IndexEntry T)) (i : ℕ) (d : IndexEntry T) → i < length xs → (get_or xs i blank_entry).number ≡ (get_or xs i d).number
+  read_number xs i d lt = ap (λ (e : IndexEntry T). e.number) (get_or_default xs i blank_entry d lt)
 
   -- and its value
-  pub read_value : (xs : List (Entry T)) (i : ℕ) (d : Entry T) → i < length xs → (get_or xs i blank_entry).value ≡ (get_or xs i d).value
-  read_value xs i d lt = ap (λ (e : Entry T). e.value) (get_or_default xs i blank_entry d lt)
+  pub read_value : (xs : List (IndexEntry T)) (i : ℕ) (d : IndexEntry T) → i < length xs → (get_or xs i blank_entry).value ≡ (get_or xs i d).value
+  read_value xs i d lt = ap (λ (e : IndexEntry T). e.value) (get_or_default xs i blank_entry d lt)
 
   -- each place of the number is one of so many from a place on
-  abbrev pub IsHeld : List (Entry T) → ℕ → ℕ → ℕ → Type 0
+  abbrev pub IsHeld : List (IndexEntry T) → ℕ → ℕ → ℕ → Type 0
   IsHeld xs n from count = (at : ℕ) → IsNumberAt xs n at → (from ≤ at) × (at < from + count)
 
-  pub held_up : (xs : List (Entry T)) (n from count half : ℕ) (d : Entry T) → AreEntriesRising xs → IsHeld xs n from count → from + count ≤ length xs → half < count → (get_or xs (from + half) d).number ≤ n → IsHeld xs n (from + half) (count - half)
+  pub held_up : (xs : List (IndexEntry T)) (n from count half : ℕ) (d : IndexEntry T) → AreEntriesRising xs → IsHeld xs n from count → from + count ≤ length xs → half < count → (get_or xs (from + half) d).number ≤ n → IsHeld xs n (from + half) (count - half)
   held_up xs n from count half d rise held within less up at found = elim (cases_lt at (from + half)) [
     | inl before ↦
         let order : (get_or xs at blank_entry).number < (get_or xs (from + half) blank_entry).number = rise_at xs at (from + half) rise before (omega arith) in
@@ -157,7 +157,7 @@ module _ {T : Type 0} where
     | inr after ↦ let h = held at found in (after, omega (arith, h.1))
   ]
 
-  pub held_down : (xs : List (Entry T)) (n from count half : ℕ) (d : Entry T) → AreEntriesRising xs → IsHeld xs n from count → from + count ≤ length xs → half + half ≤ count → n < (get_or xs (from + half) d).number → 0 < count → IsHeld xs n from (count - half)
+  pub held_down : (xs : List (IndexEntry T)) (n from count half : ℕ) (d : IndexEntry T) → AreEntriesRising xs → IsHeld xs n from count → from + count ≤ length xs → half + half ≤ count → n < (get_or xs (from + half) d).number → 0 < count → IsHeld xs n from (count - half)
   held_down xs n from count half d rise held within less down some at found = elim (cases_lt at (from + half)) [
     | inl before ↦ let h = held at found in (h.0, omega (arith, before))
     | inr after ↦
@@ -166,8 +166,8 @@ module _ {T : Type 0} where
   ]
 
   -- one place is left
-  pub held_one : (xs : List (Entry T)) (n from : ℕ) (d : Entry T) → IsHeld xs n from 1 → ((get_or xs from d).number ≡ n → ⊥) → AllByRecursion (λ (e : Entry T). e.number ≡ n → ⊥) xs
-  held_one xs n from d held differs = all_from (λ (e : Entry T). e.number ≡ n → ⊥) xs blank_entry (λ k within same.
+  pub held_one : (xs : List (IndexEntry T)) (n from : ℕ) (d : IndexEntry T) → IsHeld xs n from 1 → ((get_or xs from d).number ≡ n → ⊥) → AllByRecursion (λ (e : IndexEntry T). e.number ≡ n → ⊥) xs
+  held_one xs n from d held differs = all_from (λ (e : IndexEntry T). e.number ≡ n → ⊥) xs blank_entry (λ k within same.
       let h = held k (record { in_bounds = within; is = same }) in
       let here : k ≡ from = omega (arith, h) in
       differs (sym (read_number xs from d (subst (λ (i : ℕ). i < length xs) here within)) ∙ ap (λ (i : ℕ). (get_or xs i blank_entry).number) (sym here) ∙ same))
@@ -175,15 +175,15 @@ module _ {T : Type 0} where
   -- ---- the value of a number
 
   -- there is none where no place has the number
-  pub value_none : (xs : List (Entry T)) (n : ℕ) → AllByRecursion (λ (e : Entry T). e.number ≡ n → ⊥) xs → value_at n (live_entries xs) ≡ None
+  pub value_none : (xs : List (IndexEntry T)) (n : ℕ) → AllByRecursion (λ (e : IndexEntry T). e.number ≡ n → ⊥) xs → value_at n (live_entries xs) ≡ None
   value_none xs n h = ap (option_map (λ (e : ℕ × T). e.1)) (find-none (λ (e : ℕ × T). e.0 == n) (live_entries xs) (AllByRecursion-weaker (λ (e : ℕ × T). e.0 ≡ n → ⊥) (λ (e : ℕ × T). (e.0 == n) ≡ false) (live_entries xs) (λ e other. grind (arith, nat_tests, other)) (numbers_here (λ m. m ≡ n → ⊥) xs h)))
 
   -- nor behind a place of a number
-  none_later : (x : Entry T) (xs : List (Entry T)) (n : ℕ) → x.number ≡ n → AreEntriesRising (x ∷ xs) → AllByRecursion (λ (e : Entry T). e.number ≡ n → ⊥) xs
-  none_later x xs n is rise = AllByRecursion-weaker (λ (e : Entry T). x.number < e.number) (λ (e : Entry T). e.number ≡ n → ⊥) xs (λ e less same. omega arith) rise.0
+  none_later : (x : IndexEntry T) (xs : List (IndexEntry T)) (n : ℕ) → x.number ≡ n → AreEntriesRising (x ∷ xs) → AllByRecursion (λ (e : IndexEntry T). e.number ≡ n → ⊥) xs
+  none_later x xs n is rise = AllByRecursion-weaker (λ (e : IndexEntry T). x.number < e.number) (λ (e : IndexEntry T). e.number ≡ n → ⊥) xs (λ e less same. omega arith) rise.0
 
   -- and else it is that of the place
-  pub value_here : (xs : List (Entry T)) (i n : ℕ) → AreEntriesRising xs → i < length xs → (get_or xs i blank_entry).number ≡ n → value_at n (live_entries xs) ≡ (get_or xs i blank_entry).value
+  pub value_here : (xs : List (IndexEntry T)) (i n : ℕ) → AreEntriesRising xs → i < length xs → (get_or xs i blank_entry).number ≡ n → value_at n (live_entries xs) ≡ (get_or xs i blank_entry).value
   value_here [] i n rise lt is = absurd (omega arith)
   value_here (x ∷ xs) zero n rise lt is = go x.value
     where
@@ -197,7 +197,7 @@ module _ {T : Type 0} where
     where
       other : (x.number == n) ≡ false
       other =
-          let less : x.number < (get_or xs i blank_entry).number = all_at (λ (e : Entry T). x.number < e.number) xs i blank_entry (omega arith) rise.0 in
+          let less : x.number < (get_or xs i blank_entry).number = all_at (λ (e : IndexEntry T). x.number < e.number) xs i blank_entry (omega arith) rise.0 in
           grind (arith, nat_tests)
 
       go : (o : Option T) → value_at n (live_entries xs) ≡ (get_or xs i blank_entry).value → value_at n (live_before x.number o (live_entries xs)) ≡ (get_or xs i blank_entry).value
@@ -206,12 +206,12 @@ module _ {T : Type 0} where
 
   -- ---- a value less
 
-  pub rising-set : (xs : List (Entry T)) (i : ℕ) (new : Entry T) → AreEntriesRising xs → i < length xs → new.number ≡ (get_or xs i blank_entry).number → AreEntriesRising (set xs i new)
+  pub rising-set : (xs : List (IndexEntry T)) (i : ℕ) (new : IndexEntry T) → AreEntriesRising xs → i < length xs → new.number ≡ (get_or xs i blank_entry).number → AreEntriesRising (set xs i new)
   rising-set [] i new rise lt same = absurd (omega arith)
-  rising-set (x ∷ xs) zero new rise lt same = (AllByRecursion-weaker (λ (e : Entry T). x.number < e.number) (λ (e : Entry T). new.number < e.number) xs (λ e less. omega arith) rise.0, rise.1)
+  rising-set (x ∷ xs) zero new rise lt same = (AllByRecursion-weaker (λ (e : IndexEntry T). x.number < e.number) (λ (e : IndexEntry T). new.number < e.number) xs (λ e less. omega arith) rise.0, rise.1)
   rising-set (x ∷ xs) (suc i) new rise lt same = (all-set xs i (omega arith) rise.0 same, rising-set xs i new rise.1 (omega arith) same)
     where
-      all-set : (ys : List (Entry T)) (j : ℕ) → j < length ys → AllByRecursion (λ (e : Entry T). x.number < e.number) ys → new.number ≡ (get_or ys j blank_entry).number → AllByRecursion (λ (e : Entry T). x.number < e.number) (set ys j new)
+      all-set : (ys : List (IndexEntry T)) (j : ℕ) → j < length ys → AllByRecursion (λ (e : IndexEntry T). x.number < e.number) ys → new.number ≡ (get_or ys j blank_entry).number → AllByRecursion (λ (e : IndexEntry T). x.number < e.number) (set ys j new)
       all-set [] j within h same = absurd (omega arith)
       all-set (y ∷ ys) zero within h same = let less = h.0 in (omega arith, h.1)
       all-set (y ∷ ys) (suc j) within h same = (h.0, all-set ys j (omega arith) h.1 same)
@@ -220,7 +220,7 @@ module _ {T : Type 0} where
   without_none n es other = keyed.filter_all value_key n es other
 
   -- a place whose value is taken out
-  pub entries-gone : (xs : List (Entry T)) (i n : ℕ) (new : Entry T) → AreEntriesRising xs → i < length xs → (get_or xs i blank_entry).number ≡ n → new.value ≡ None → live_entries (set xs i new) ≡ without_number n (live_entries xs)
+  pub entries-gone : (xs : List (IndexEntry T)) (i n : ℕ) (new : IndexEntry T) → AreEntriesRising xs → i < length xs → (get_or xs i blank_entry).number ≡ n → new.value ≡ None → live_entries (set xs i new) ≡ without_number n (live_entries xs)
   entries-gone [] i n new rise lt is gone = absurd (omega arith)
   entries-gone (x ∷ xs) zero n new rise lt is gone = rw gone (go x.value)
     where
@@ -237,7 +237,7 @@ module _ {T : Type 0} where
     where
       other : (x.number == n) ≡ false
       other =
-          let less : x.number < (get_or xs i blank_entry).number = all_at (λ (e : Entry T). x.number < e.number) xs i blank_entry (omega arith) rise.0 in
+          let less : x.number < (get_or xs i blank_entry).number = all_at (λ (e : IndexEntry T). x.number < e.number) xs i blank_entry (omega arith) rise.0 in
           grind (arith, nat_tests)
 
       go : (o : Option T) → live_entries (set xs i new) ≡ without_number n (live_entries xs) → live_before x.number o (live_entries (set xs i new)) ≡ without_number n (live_before x.number o (live_entries xs))
@@ -257,22 +257,22 @@ module _ {T : Type 0} where
       go rest false t found = let left = rest found in omega (arith, left)
 
   -- and so there is in places that say so, once others of their number were written over them
-  pub one_taken : (xs ys zs : List (Entry T)) (n len : ℕ) → AreEntriesRising xs → IsSome (value_at n (live_entries xs)) → len ≡ length ys → live_entries ys ≡ without_number n (live_entries xs) → live_entries zs ≡ live_entries (take len (ys ++ drop (length ys) xs)) → length (live_entries zs) + 1 ≡ length (live_entries xs)
+  pub one_taken : (xs ys zs : List (IndexEntry T)) (n len : ℕ) → AreEntriesRising xs → IsSome (value_at n (live_entries xs)) → len ≡ length ys → live_entries ys ≡ without_number n (live_entries xs) → live_entries zs ≡ live_entries (take len (ys ++ drop (length ys) xs)) → length (live_entries zs) + 1 ≡ length (live_entries xs)
   one_taken xs ys zs n len rise there all left is =
       let whole : take len (ys ++ drop (length ys) xs) ≡ ys = rw all (take-append_seam ys (drop (length ys) xs)) in
       ap (λ (es : List (ℕ × T)). length es + 1) (is ∙ ap live_entries whole ∙ left) ∙ one_less n (live_entries xs) (entries_rise xs rise) there
 
   -- ---- the end
 
-  pub ends-push : (xs : List (Entry T)) (x : Entry T) → ends_gone (xs ++ x ∷ []) ≡ not (is_here x)
+  pub ends-push : (xs : List (IndexEntry T)) (x : IndexEntry T) → ends_gone (xs ++ x ∷ []) ≡ not (is_here x)
   ends-push [] x = refl
   ends-push (y ∷ []) x = refl
   ends-push (y ∷ z ∷ xs) x = ends-push (z ∷ xs) x
 
   -- as the last one says
-  pub ends_last : (xs : List (Entry T)) (x : Entry T) → slice_get xs (length xs - 1) ≡ Some x → not (is_here x) ≡ ends_gone xs
+  pub ends_last : (xs : List (IndexEntry T)) (x : IndexEntry T) → slice_get xs (length xs - 1) ≡ Some x → not (is_here x) ≡ ends_gone xs
   ends_last [] x e = cc
-  ends_last (y ∷ []) x e = ap (λ (z : Entry T). not (is_here z)) (sym (same_Some y x e))
+  ends_last (y ∷ []) x e = ap (λ (z : IndexEntry T). not (is_here z)) (sym (same_Some y x e))
   ends_last (y ∷ z ∷ xs) x e =
       let place : length (y ∷ z ∷ xs) - 1 ≡ suc (length (z ∷ xs) - 1) = omega arith in
       ends_last (z ∷ xs) x (ap (slice_get (y ∷ z ∷ xs)) (sym place) ∙ e)
@@ -285,30 +285,30 @@ module _ {T : Type 0} where
   some_here None e = cc
   some_here (Some v) e = search rules
 
-  rising-pop : (xs ys : List (Entry T)) → AreEntriesRising (xs ++ ys) → AreEntriesRising xs
+  rising-pop : (xs ys : List (IndexEntry T)) → AreEntriesRising (xs ++ ys) → AreEntriesRising xs
   rising-pop [] ys h = tt
   rising-pop (x ∷ xs) ys h = (all-pop xs h.0, rising-pop xs ys h.1)
     where
-      all-pop : (zs : List (Entry T)) → AllByRecursion (λ (e : Entry T). x.number < e.number) (zs ++ ys) → AllByRecursion (λ (e : Entry T). x.number < e.number) zs
+      all-pop : (zs : List (IndexEntry T)) → AllByRecursion (λ (e : IndexEntry T). x.number < e.number) (zs ++ ys) → AllByRecursion (λ (e : IndexEntry T). x.number < e.number) zs
       all-pop [] a = tt
       all-pop (z ∷ zs) a = (a.0, all-pop zs a.1)
 
   -- what is left once a last place that is gone is taken off
-  pub last_taken : (xs ys : List (Entry T)) (o : Option (Entry T)) → xs ≡ ys ++ option_to_list o → ends_gone xs ≡ true → AreEntriesRising xs → AreEntriesRising ys × (live_entries ys ≡ live_entries xs)
+  pub last_taken : (xs ys : List (IndexEntry T)) (o : Option (IndexEntry T)) → xs ≡ ys ++ option_to_list o → ends_gone xs ≡ true → AreEntriesRising xs → AreEntriesRising ys × (live_entries ys ≡ live_entries xs)
   last_taken xs ys None is gone rise =
-      (rising-pop ys [] (subst (λ (es : List (Entry T)). AreEntriesRising es) is rise), sym (ap live_entries is ∙ entries-append ys [] ∙ append-nil (live_entries ys)))
+      (rising-pop ys [] (subst (λ (es : List (IndexEntry T)). AreEntriesRising es) is rise), sym (ap live_entries is ∙ entries-append ys [] ∙ append-nil (live_entries ys)))
   last_taken xs ys (Some x) is gone rise =
       let last : x.value ≡ None = is_gone x.value (sym (ends-push ys x) ∙ ap ends_gone (sym is) ∙ gone) in
-      (rising-pop ys (x ∷ []) (subst (λ (es : List (Entry T)). AreEntriesRising es) is rise), sym (ap live_entries is ∙ entries-append ys (x ∷ []) ∙ rw last (append-nil (live_entries ys))))
+      (rising-pop ys (x ∷ []) (subst (λ (es : List (IndexEntry T)). AreEntriesRising es) is rise), sym (ap live_entries is ∙ entries-append ys (x ∷ []) ∙ rw last (append-nil (live_entries ys))))
 
   -- the greatest number is that of a last place that is not gone
-  pub last_is : (xs : List (Entry T)) (x : Entry T) → ends_gone xs ≡ false → slice_get xs (length xs - 1) ≡ Some x → last_number (live_entries xs) ≡ Some x.number
+  pub last_is : (xs : List (IndexEntry T)) (x : IndexEntry T) → ends_gone xs ≡ false → slice_get xs (length xs - 1) ≡ Some x → last_number (live_entries xs) ≡ Some x.number
   last_is [] x here e = cc
   last_is (y ∷ []) x here e = go y.value refl (same_Some y x e)
     where
       go : (o : Option T) → y.value ≡ o → y ≡ x → last_number (live_before y.number o []) ≡ Some x.number
       go None o is = absurd (search (rules, rw o at here))
-      go (Some v) o is = ap (λ (z : Entry T). Some z.number) is
+      go (Some v) o is = ap (λ (z : IndexEntry T). Some z.number) is
   last_is (y ∷ z ∷ xs) x here e =
       let place : length (y ∷ z ∷ xs) - 1 ≡ suc (length (z ∷ xs) - 1) = omega arith in
       go y.value (live_entries (z ∷ xs)) (last_is (z ∷ xs) x here (ap (slice_get (y ∷ z ∷ xs)) (sym place) ∙ e))
@@ -340,7 +340,7 @@ module _ {T : Type 0} where
       some_last g (h ∷ gs) none = some_last h gs none
 
   -- where the last place is not gone, what is above all values is above all places
-  above_items : (xs : List (Entry T)) (n : ℕ) → AreEntriesRising xs → ends_gone xs ≡ false → AllByRecursion (λ (e : ℕ × T). e.0 < n) (live_entries xs) → AllByRecursion (λ (e : Entry T). e.number < n) xs
+  above_items : (xs : List (IndexEntry T)) (n : ℕ) → AreEntriesRising xs → ends_gone xs ≡ false → AllByRecursion (λ (e : ℕ × T). e.0 < n) (live_entries xs) → AllByRecursion (λ (e : IndexEntry T). e.number < n) xs
   above_items [] n rise ends above = tt
   above_items (x ∷ []) n rise ends above = (go x.value refl above, tt)
     where
@@ -357,8 +357,8 @@ module _ {T : Type 0} where
       later None h = h
       later (Some v) h = h.1
 
-  pub rising-push : (xs : List (Entry T)) (x : Entry T) → AreEntriesRising xs → ends_gone xs ≡ false → AllByRecursion (λ (e : ℕ × T). e.0 < x.number) (live_entries xs) → AreEntriesRising (xs ++ x ∷ [])
-  rising-push xs x rise ends above = EachPair-push (λ (d : Entry T) (e : Entry T). d.number < e.number) xs x (above_items xs x.number rise ends above) rise
+  pub rising-push : (xs : List (IndexEntry T)) (x : IndexEntry T) → AreEntriesRising xs → ends_gone xs ≡ false → AllByRecursion (λ (e : ℕ × T). e.0 < x.number) (live_entries xs) → AreEntriesRising (xs ++ x ∷ [])
+  rising-push xs x rise ends above = EachPair-push (λ (d : IndexEntry T) (e : IndexEntry T). d.number < e.number) xs x (above_items xs x.number rise ends above) rise
 
   -- the value of a number above all stands behind all
   pub with_last : (n : ℕ) (v : T) (es : List (ℕ × T)) → AllByRecursion (λ (e : ℕ × T). e.0 < n) es → es ++ (n, v) ∷ [] ≡ with_value n v es
@@ -369,7 +369,7 @@ module _ {T : Type 0} where
       rw t (ap (λ fs. e ∷ fs) (with_last n v es above.1))
 
   -- no place has a number that no value has, where none is gone
-  pub new_place : (xs : List (Entry T)) (n : ℕ) → AllByRecursion (λ (e : Entry T). IsSome e.value) xs → value_at n (live_entries xs) ≡ None → at place_key n xs ≡ None
+  pub new_place : (xs : List (IndexEntry T)) (n : ℕ) → AllByRecursion (λ (e : IndexEntry T). IsSome e.value) xs → value_at n (live_entries xs) ≡ None → at place_key n xs ≡ None
   new_place [] n here none = refl
   new_place (x ∷ xs) n here none = go (new_place xs n here.1) x.value refl (x.number == n) refl none
     where
@@ -382,7 +382,7 @@ module _ {T : Type 0} where
       go rest (Some v) o false t h = rest (rw t at h)
 
   -- a value at the place of its number
-  pub entries-insert : (xs : List (Entry T)) (i n : ℕ) (v : T) → AllByRecursion (λ (e : Entry T). IsSome e.value) xs → AllByRecursion (λ (e : Entry T). e.number < n) (take i xs) → AllByRecursion (λ (e : Entry T). n < e.number) (drop i xs) → live_entries (insert xs i (record { number = n; value = Some v })) ≡ with_value n v (live_entries xs)
+  pub entries-insert : (xs : List (IndexEntry T)) (i n : ℕ) (v : T) → AllByRecursion (λ (e : IndexEntry T). IsSome e.value) xs → AllByRecursion (λ (e : IndexEntry T). e.number < n) (take i xs) → AllByRecursion (λ (e : IndexEntry T). n < e.number) (drop i xs) → live_entries (insert xs i (record { number = n; value = Some v })) ≡ with_value n v (live_entries xs)
   entries-insert [] zero n v here below above = refl
   entries-insert [] (suc i) n v here below above = refl
   entries-insert (x ∷ xs) zero n v here below above = go x.value refl
@@ -412,7 +412,7 @@ module _ {T : Type 0} where
       go false rest = omega arith
 
   -- the last place is not gone where none is
-  pub ends-here : (xs : List (Entry T)) → AllByRecursion (λ (e : Entry T). IsSome e.value) xs → ends_gone xs ≡ false
+  pub ends-here : (xs : List (IndexEntry T)) → AllByRecursion (λ (e : IndexEntry T). IsSome e.value) xs → ends_gone xs ≡ false
   ends-here [] h = refl
   ends-here (x ∷ []) h = go x.value h.0
     where
@@ -423,14 +423,14 @@ module _ {T : Type 0} where
 
   -- ---- all places that are gone are cleared away
 
-  pub here_all : (xs : List (Entry T)) → AllByRecursion (λ (e : Entry T). IsSome e.value) (filter is_here xs)
-  here_all xs = AllByRecursion-passed (λ (e : Entry T). Unit {0}) (λ (e : Entry T). IsSome e.value) is_here xs (λ e t u. some_here e.value t) (units xs)
+  pub here_all : (xs : List (IndexEntry T)) → AllByRecursion (λ (e : IndexEntry T). IsSome e.value) (filter is_here xs)
+  here_all xs = AllByRecursion-passed (λ (e : IndexEntry T). Unit {0}) (λ (e : IndexEntry T). IsSome e.value) is_here xs (λ e t u. some_here e.value t) (units xs)
     where
-      units : (ys : List (Entry T)) → AllByRecursion (λ (e : Entry T). Unit {0}) ys
+      units : (ys : List (IndexEntry T)) → AllByRecursion (λ (e : IndexEntry T). Unit {0}) ys
       units [] = tt
       units (y ∷ ys) = (tt, units ys)
 
-  pub entries-cleared : (xs : List (Entry T)) → live_entries (filter is_here xs) ≡ live_entries xs
+  pub entries-cleared : (xs : List (IndexEntry T)) → live_entries (filter is_here xs) ≡ live_entries xs
   entries-cleared [] = refl
   entries-cleared (x ∷ xs) = go x.value refl (entries-cleared xs)
     where
@@ -438,11 +438,11 @@ module _ {T : Type 0} where
       go None o rest = rw o rest
       go (Some v) o rest = rw o (ap (λ es. (x.number, v) ∷ es) rest)
 
-  pub rising-cleared : (xs : List (Entry T)) → AreEntriesRising xs → AreEntriesRising (filter is_here xs)
-  rising-cleared xs rise = EachPair-filter (λ (d : Entry T) (e : Entry T). d.number < e.number) is_here xs rise
+  pub rising-cleared : (xs : List (IndexEntry T)) → AreEntriesRising xs → AreEntriesRising (filter is_here xs)
+  rising-cleared xs rise = EachPair-filter (λ (d : IndexEntry T) (e : IndexEntry T). d.number < e.number) is_here xs rise
 
   -- as many are left as there are values
-  pub count_here : (xs : List (Entry T)) → AllByRecursion (λ (e : Entry T). IsSome e.value) xs → length xs ≡ length (live_entries xs)
+  pub count_here : (xs : List (IndexEntry T)) → AllByRecursion (λ (e : IndexEntry T). IsSome e.value) xs → length xs ≡ length (live_entries xs)
   count_here [] h = refl
   count_here (x ∷ xs) h = go x.value h.0 (count_here xs h.1)
     where
@@ -475,21 +475,21 @@ module _ {T : Type 0} where
   -- ---- a walk along the places
 
   -- one that is not gone is a value more
-  pub live_more : (xs : List (Entry T)) (i : ℕ) (d : Entry T) (v : T) → i < length xs → (get_or xs i d).value ≡ Some v → live_entries (take (i + 1) xs) ≡ live_entries (take i xs) ++ ((get_or xs i d).number, v) ∷ []
+  pub live_more : (xs : List (IndexEntry T)) (i : ℕ) (d : IndexEntry T) (v : T) → i < length xs → (get_or xs i d).value ≡ Some v → live_entries (take (i + 1) xs) ≡ live_entries (take i xs) ++ ((get_or xs i d).number, v) ∷ []
   live_more xs i d v lt here =
       ap live_entries (take_more xs i d lt)
       ∙ entries-append (take i xs) (get_or xs i d ∷ [])
       ∙ rw here refl
 
   -- one that is gone is none
-  pub live_same : (xs : List (Entry T)) (i : ℕ) (d : Entry T) → i < length xs → (get_or xs i d).value ≡ None → live_entries (take (i + 1) xs) ≡ live_entries (take i xs)
+  pub live_same : (xs : List (IndexEntry T)) (i : ℕ) (d : IndexEntry T) → i < length xs → (get_or xs i d).value ≡ None → live_entries (take (i + 1) xs) ≡ live_entries (take i xs)
   live_same xs i d lt gone =
       ap live_entries (take_more xs i d lt)
       ∙ entries-append (take i xs) (get_or xs i d ∷ [])
       ∙ rw gone (append-nil (live_entries (take i xs)))
 
   -- before a value there are fewer than in all
-  pub live_room : (xs : List (Entry T)) (i : ℕ) (d : Entry T) (v : T) → i < length xs → (get_or xs i d).value ≡ Some v → length (live_entries (take i xs)) < length (live_entries xs)
+  pub live_room : (xs : List (IndexEntry T)) (i : ℕ) (d : IndexEntry T) (v : T) → i < length xs → (get_or xs i d).value ≡ Some v → length (live_entries (take i xs)) < length (live_entries xs)
   live_room [] i d v lt here = absurd (omega arith)
   live_room (x ∷ xs) zero d v lt here = rw here (omega arith)
   live_room (x ∷ xs) (suc i) d v lt here = go x.value (live_room xs i d v (omega arith) here)

@@ -1,7 +1,7 @@
 -- A list of values by rising number: what is found in it, how it changes, and how it is kept.
 use Rattle.std.specs.Prelude.{ℕ, ◌≡◌, ◌<◌, ◌==◌, Bool, not, false, is_some, if◌then◌else◌, nat_lt, List, [], ◌∷◌, filter, find, length, slice_index_or, Option, Some, None, option_map}
 use Rattle.acc_base.specs.Accounts.{EachPair}
-use Rattle.acc_index.specs.declared.index.Entry.{Entry}
+use Rattle.acc_index.specs.declared.index.IndexEntry.{IndexEntry}
 
 -- the values with their numbers, how many places of others are kept, and how many more values there is room for
 pub record IndexState (T : Type 0) : Type 0 where
@@ -41,25 +41,25 @@ module _ {T : Type 0} where
   live_before number (Some value) es = (number, value) ∷ es
 
   -- the values that are not gone
-  abbrev pub live_entries : List (Entry T) → List (ℕ × T)
+  abbrev pub live_entries : List (IndexEntry T) → List (ℕ × T)
   live_entries [] = []
   live_entries (e ∷ es) = live_before e.number e.value (live_entries es)
 
   -- the numbers of places rise
-  abbrev pub AreEntriesRising : List (Entry T) → Type 0
-  AreEntriesRising items = EachPair (λ (d : Entry T) (e : Entry T). d.number < e.number) items
+  abbrev pub AreEntriesRising : List (IndexEntry T) → Type 0
+  AreEntriesRising items = EachPair (λ (d : IndexEntry T) (e : IndexEntry T). d.number < e.number) items
 
   -- there is a last place, and its value is gone
-  abbrev pub ends_gone : List (Entry T) → Bool
+  abbrev pub ends_gone : List (IndexEntry T) → Bool
   ends_gone [] = false
   ends_gone (e ∷ []) = not (is_some e.value)
   ends_gone (e ∷ f ∷ es) = ends_gone (f ∷ es)
 
   -- what an index outside of a list reads
-  abbrev pub blank_entry : Entry T
+  abbrev pub blank_entry : IndexEntry T
   blank_entry = record { number = 0; value = None }
 
   -- the number stands at this place
-  pub record IsNumberAt (items : List (Entry T)) (number at : ℕ) : Type 0 where
+  pub record IsNumberAt (items : List (IndexEntry T)) (number at : ℕ) : Type 0 where
     pub in_bounds : at < length items
     pub is : (slice_index_or items at blank_entry).number ≡ number

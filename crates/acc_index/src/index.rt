@@ -11,7 +11,7 @@ use std::marker::Model;
 
 /// A place for the value of a number.
 #[derive(Drop)]
-pub struct Entry<T> {
+pub struct IndexEntry<T> {
     /// The number.
     pub number: u64,
     /// Its value. `None` where it was taken out.
@@ -27,7 +27,7 @@ pub struct Entry<T> {
 #[derive(Drop)]
 pub struct Index<T> {
     // By rising number. The last one is not gone.
-    items: Vec<Entry<T>>,
+    items: Vec<IndexEntry<T>>,
     // How many of them are not gone.
     count: usize,
 }
@@ -71,7 +71,7 @@ impl<T: Drop> Index<T> {
     }
 
     /// All places by rising number, those that are gone too.
-    pub fn items(&self) -> &[Entry<T>]
+    pub fn items(&self) -> &[IndexEntry<T>]
         ensures { live_entries result.now ≡ self.now.entries }
     {
         &self.items
@@ -127,7 +127,7 @@ impl<T: Drop> Index<T> {
     }
 
     /// Whether a number is above those of all values, so that [`Index::push`] may be handed it.
-    pub fn is_above(&self, number: u64) -> bool
+    fn is_above(&self, number: u64) -> bool
         ensures above { OnTrue result (AllByRecursion (λ e. e.0 < number) self.now.entries) }
         ensures not_above { result ≡ false → IfSome (last_number self.now.entries) (λ last. number ≤ last) }
     {
@@ -145,7 +145,7 @@ impl<T: Drop> Index<T> {
         ensures entries { self.new.entries ≡ self.old.entries ++ (number, value) ∷ [] }
         ensures room { self.old.room ≤ self.new.room + 1 }
     {
-        self.items.push_reserved(Entry {
+        self.items.push_reserved(IndexEntry {
             number,
             value: Some(value),
         });
@@ -184,7 +184,7 @@ impl<T: Drop> Index<T> {
 
 /// The first and the last place at which a number can stand. The numbers rise by one at least from place to place. So
 /// neither is farther from the first place, or from the last one, than the numbers are apart.
-fn window<T>(items: &[Entry<T>], number: u64) -> Option<(usize, usize)>
+fn window<T>(items: &[IndexEntry<T>], number: u64) -> Option<(usize, usize)>
     requires { AreEntriesRising items.now }
     ensures some { IfSome result (λ w. (w.0 ≤ w.1) × (w.1 < length items.now)) }
     ensures within { IfSome result (λ w. (at : ℕ) → IsNumberAt items.now number at → (w.0 ≤ at) × (at ≤ w.1)) }
@@ -202,7 +202,12 @@ fn window<T>(items: &[Entry<T>], number: u64) -> Option<(usize, usize)>
 }
 
 /// The place of a number, if it stands in a window, which is halved until one place is left.
-fn position_within<T>(items: &[Entry<T>], number: u64, low: usize, high: usize) -> Option<usize>
+fn position_within<T>(
+    items: &[IndexEntry<T>],
+    number: u64,
+    low: usize,
+    high: usize,
+) -> Option<usize>
     requires rising { AreEntriesRising items.now }
     requires window { (low ≤ high) × (high < length items.now) }
     requires within { (at : ℕ) → IsNumberAt items.now number at → (low ≤ at) × (at ≤ high) }
@@ -226,7 +231,7 @@ fn position_within<T>(items: &[Entry<T>], number: u64, low: usize, high: usize) 
 }
 
 /// The place of a number, if it stands there. Both ends of its window are looked at first.
-fn position_of<T>(items: &[Entry<T>], number: u64) -> Option<usize>
+fn position_of<T>(items: &[IndexEntry<T>], number: u64) -> Option<usize>
     requires { AreEntriesRising items.now }
     ensures found { IfSome result (IsNumberAt items.now number) }
     ensures none { IfNone result (AllByRecursion (λ e. e.number ≡ number → ⊥) items.now) }
@@ -242,7 +247,7 @@ fn position_of<T>(items: &[Entry<T>], number: u64) -> Option<usize>
 }
 
 /// The place of a number, if it stands there. It is looked for at `near` first.
-fn position_near<T>(items: &[Entry<T>], number: u64, near: usize) -> Option<usize>
+fn position_near<T>(items: &[IndexEntry<T>], number: u64, near: usize) -> Option<usize>
     requires { AreEntriesRising items.now }
     ensures found { IfSome result (IsNumberAt items.now number) }
     ensures none { IfNone result (AllByRecursion (λ e. e.number ≡ number → ⊥) items.now) }
@@ -254,7 +259,7 @@ fn position_near<T>(items: &[Entry<T>], number: u64, near: usize) -> Option<usiz
 }
 
 /// The value of a number, if it has a place and is not gone.
-fn value_in<T>(items: &[Entry<T>], number: u64, place: Option<usize>) -> Option<&T>
+fn value_in<T>(items: &[IndexEntry<T>], number: u64, place: Option<usize>) -> Option<&T>
     requires rising { AreEntriesRising items.now }
     requires place { IfSome place (IsNumberAt items.now number) }
     requires no_place { IfNone place (AllByRecursion (λ e. e.number ≡ number → ⊥) items.now) }
@@ -265,7 +270,7 @@ fn value_in<T>(items: &[Entry<T>], number: u64, place: Option<usize>) -> Option<
 }
 
 /// The number of the last place, which is not gone, if there is one.
-fn last_in<T>(items: &[Entry<T>]) -> Option<u64>
+fn last_in<T>(items: &[IndexEntry<T>]) -> Option<u64>
     requires { ends_gone items.now ≡ false }
     ensures { result ≡ last_number (live_entries items.now) }
 {
@@ -273,7 +278,7 @@ fn last_in<T>(items: &[Entry<T>]) -> Option<u64>
 }
 
 /// Takes the value of a number out of its place, which is gone then. The number is looked for at `near` first.
-fn take_value<T>(items: &mut [Entry<T>], number: u64, near: usize) -> T
+fn take_value<T>(items: &mut [IndexEntry<T>], number: u64, near: usize) -> T
     requires rising { AreEntriesRising items.old }
     requires there { IsSome (value_at number (live_entries items.old)) }
     ensures rising { AreEntriesRising items.new }
@@ -291,7 +296,7 @@ fn take_value<T>(items: &mut [Entry<T>], number: u64, near: usize) -> T
 }
 
 /// Takes places that are gone off the end.
-fn trim<T: Drop>(items: &mut Vec<Entry<T>>)
+fn trim<T: Drop>(items: &mut Vec<IndexEntry<T>>)
     requires { AreEntriesRising items.old.items }
     ensures rising { AreEntriesRising items.new.items }
     ensures last { ends_gone items.new.items ≡ false }
@@ -305,7 +310,7 @@ fn trim<T: Drop>(items: &mut Vec<Entry<T>>)
 }
 
 /// There is a last place, and it is gone.
-fn is_last_gone<T>(items: &[Entry<T>]) -> bool
+fn is_last_gone<T>(items: &[IndexEntry<T>]) -> bool
     ensures { result ≡ ends_gone items.now }
 {
     match items.last() {
@@ -315,7 +320,7 @@ fn is_last_gone<T>(items: &[Entry<T>]) -> bool
 }
 
 /// Takes out all places that are gone.
-fn clear_away<T: Drop>(items: &mut Vec<Entry<T>>)
+fn clear_away<T: Drop>(items: &mut Vec<IndexEntry<T>>)
     requires { AreEntriesRising items.old.items }
     ensures rising { AreEntriesRising items.new.items }
     ensures here { AllByRecursion (λ e. IsSome e.value) items.new.items }
@@ -328,7 +333,7 @@ fn clear_away<T: Drop>(items: &mut Vec<Entry<T>>)
 }
 
 /// Takes out all places that are gone, where they are `least` or more. `count` places are not gone.
-fn clear_from<T: Drop>(items: &mut Vec<Entry<T>>, count: usize, least: usize)
+fn clear_from<T: Drop>(items: &mut Vec<IndexEntry<T>>, count: usize, least: usize)
     requires rising { AreEntriesRising items.old.items }
     requires last { ends_gone items.old.items ≡ false }
     requires count { count ≡ length (live_entries items.old.items) }
@@ -346,7 +351,7 @@ fn clear_from<T: Drop>(items: &mut Vec<Entry<T>>, count: usize, least: usize)
 }
 
 /// Puts the value of a number that has no place among places none of which is gone, where there is room for it.
-fn put_between<T: Drop>(items: &mut Vec<Entry<T>>, number: u64, value: T)
+fn put_between<T: Drop>(items: &mut Vec<IndexEntry<T>>, number: u64, value: T)
     requires rising { AreEntriesRising items.old.items }
     requires here { AllByRecursion (λ e. IsSome e.value) items.old.items }
     requires new { value_at number (live_entries items.old.items) ≡ None }
@@ -360,7 +365,7 @@ fn put_between<T: Drop>(items: &mut Vec<Entry<T>>, number: u64, value: T)
     let at = items.partition_point(|entry| entry.number < number);
     let _ = items.insert(
         at,
-        Entry {
+        IndexEntry {
             number,
             value: Some(value),
         },

@@ -3,4 +3,4 @@
 
 mod index;
 
-pub use index::{Entry, Index};
+pub use index::{Index, IndexEntry};

@@ -1,7 +1,7 @@
 -- Nodes whose row or whose subtrees changed.
-use Rattle.std.proofs.Common.{ℕ, ◌≡◌, ◌+◌, ◌≤◌, ◌++◌, sym, ap, subst, ◌∙◌, List, length, length-append, Option, Some, None, Box, max, arith}
+use Rattle.std.proofs.Common.{ℕ, ◌≡◌, ◌+◌, sym, ap, subst, ◌∙◌, List, Option, Some, None, Box, max, arith}
 use Rattle.std.specs.declared.alloc.Global.{Global}
-use Rattle.acc_ordered.specs.declared.entries.Entry.{Entry}
+use Rattle.acc_ordered.specs.declared.entries.KeyValue.{KeyValue}
 use Rattle.acc_ordered.specs.Listing.{KeysRise}
 use Rattle.acc_ordered.specs.Row.{HasEnds}
 use Rattle.acc_ordered.specs.Shape.{Shape}
@@ -12,7 +12,7 @@ use Rattle.acc_ordered.proofs.Whole.{Parts, parts}
 
 module _ {T : Type 0} where
   -- another row
-  pub avl_row : (n : Inside T) (first last : ℕ) (row : List (Entry T)) → IsAvl n → HasEnds first last row → IsAvl (record n { first = first; last = last; row = row })
+  pub avl_row : (n : Inside T) (first last : ℕ) (row : List (KeyValue T)) → IsAvl n → HasEnds first last row → IsAvl (record n { first = first; last = last; row = row })
   avl_row n first last row avl new = record {
     left = avl.left;
     right = avl.right;
@@ -46,39 +46,6 @@ module _ {T : Type 0} where
   alone_same (Some a) None e alone = absurd (omega arith)
   alone_same (Some a) (Some b) e alone = omega arith
 
-  -- a subtree whose entries changed
-  pub avl_left : (n : Inside T) (l : Option (Box (Shape T) Global)) → IsAvl n → height_of l ≡ height_of n.left → length_of l ≡ length_of n.left → nodes_in l ≡ nodes_in n.left → IsWide l → IsAvl (record n { left = l })
-  avl_left n l avl high same nodes wide = record {
-    left = alone_same l n.left same avl.left;
-    right = avl.right;
-    chain = avl.chain;
-    height = omega (arith, avl.height);
-    not_left = omega (arith, avl.not_left);
-    not_right = omega (arith, avl.not_right);
-    row = avl.row;
-    tall = subst (λ (k : ℕ). IsTall n.height (k + (nodes_in n.right + 1))) (sym nodes) avl.tall;
-    wide_left = wide;
-    wide_right = avl.wide_right;
-  }
-
-  pub avl_right : (n : Inside T) (r : Option (Box (Shape T) Global)) → IsAvl n → height_of r ≡ height_of n.right → length_of r ≡ length_of n.right → nodes_in r ≡ nodes_in n.right → IsWide r → IsAvl (record n { right = r })
-  avl_right n r avl high same nodes wide = record {
-    left = avl.left;
-    right = alone_same r n.right same avl.right;
-    chain = avl.chain;
-    height = omega (arith, avl.height);
-    not_left = omega (arith, avl.not_left);
-    not_right = omega (arith, avl.not_right);
-    row = avl.row;
-    tall = subst (λ (k : ℕ). IsTall n.height (nodes_in n.left + (k + 1))) (sym nodes) avl.tall;
-    wide_left = avl.wide_left;
-    wide_right = wide;
-  }
-
-  -- each node has an entry
-  pub wide_node : (n : Inside T) → IsAvl n → count_of n ≤ length (tree_of n)
-  wide_node n avl = omega (arith, avl.wide_left, avl.wide_right, ap length avl.row.begins, length-append (entries_in n.left ++ n.row) (entries_in n.right), length-append (entries_in n.left) n.row)
-
   -- what is known of a tree whose first node is open
   pub record IsOpened (t : Option (Box (Shape T) Global)) (n : Inside T) : Type 0 where
     pub entries : entries_in t ≡ tree_of n
@@ -93,5 +60,5 @@ module _ {T : Type 0} where
         entries = whole;
         height = ap height_of is ∙ sym (ap (λ (s : Shape T). s.height) view);
         nodes = ap nodes_in is ∙ sym (ap (λ (s : Shape T). s.nodes) view);
-        parts = parts n.first n.last (entries_in n.left) n.row (entries_in n.right) avl.row (subst (λ (es : List (Entry T)). KeysRise es) whole rising);
+        parts = parts n.first n.last (entries_in n.left) n.row (entries_in n.right) avl.row (subst (λ (es : List (KeyValue T)). KeysRise es) whole rising);
       }

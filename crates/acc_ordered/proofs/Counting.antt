@@ -12,15 +12,7 @@ use Rattle.acc_ordered.proofs.Halving.{passed_up, failed_down}
 abbrev pub Rising : List ℕ → Type 0
 Rising keys = EachPair (λ (a : ℕ) (b : ℕ). a < b) keys
 
--- of two places the later one has the greater key
-pub rise_at : (keys : List ℕ) (i j : ℕ) → Rising keys → i < j → j < length keys → get_or keys i 0 < get_or keys j 0
-rise_at [] i j r less bound = absurd (omega arith)
-rise_at (x ∷ xs) zero zero r less bound = absurd (omega arith)
-rise_at (x ∷ xs) zero (suc j) r less bound = all_at (λ y. x < y) xs j 0 (omega arith) r.0
-rise_at (x ∷ xs) (suc i) zero r less bound = absurd (omega arith)
-rise_at (x ∷ xs) (suc i) (suc j) r less bound = rise_at xs i j r.1 (omega arith) (omega arith)
-
--- the same of places that may be one
+-- of two places, or one, the later has no lower key
 pub rise_from : (keys : List ℕ) (i j : ℕ) → Rising keys → i ≤ j → j < length keys → get_or keys i 0 ≤ get_or keys j 0
 rise_from [] i j r le bound = absurd (omega arith)
 rise_from (x ∷ xs) zero zero r le bound = omega arith

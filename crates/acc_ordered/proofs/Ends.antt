@@ -1,8 +1,7 @@
 -- The two ends of a row, and rows of one.
 use Rattle.std.proofs.Common.{ℕ, zero, suc, ◌≡◌, ◌+◌, ◌<◌, refl, sym, ap, ◌∙◌, List, [], ◌∷◌, ◌++◌, length, get_or, length-append, append_assoc, arith}
 use Rattle.std.specs.Prelude.{◌-◌, slice_get, Some}
-use Rattle.std.proofs.lemmas.List.{append-nil}
-use Rattle.acc_ordered.specs.declared.entries.Entry.{Entry}
+use Rattle.acc_ordered.specs.declared.entries.KeyValue.{KeyValue}
 use Rattle.acc_ordered.specs.Row.{HasEnds}
 
 record IsFooted {X : Type 0} (xs : List X) : Type 0 where
@@ -25,16 +24,16 @@ got_foot (x ∷ front) foot zero e = absurd (omega (arith, length-append front (
 got_foot (x ∷ front) foot (suc n) e = got_foot front foot n (omega arith)
 
 module _ {T : Type 0} where
-  pub last_read : (first last : ℕ) (row : List (Entry T)) → (e : HasEnds first last row) → slice_get row (length row - 1) ≡ Some e.foot
+  pub last_read : (first last : ℕ) (row : List (KeyValue T)) → (e : HasEnds first last row) → slice_get row (length row - 1) ≡ Some e.foot
   last_read first last row e =
       let n : ℕ = length row - 1 in
       let long : length row ≡ length (e.front ++ e.foot ∷ []) = ap length e.ends in
-      ap (λ (es : List (Entry T)). slice_get es (length row - 1)) e.ends ∙ got_foot e.front e.foot (length row - 1) (omega (arith, long, length-append e.front (e.foot ∷ [])))
+      ap (λ (es : List (KeyValue T)). slice_get es (length row - 1)) e.ends ∙ got_foot e.front e.foot (length row - 1) (omega (arith, long, length-append e.front (e.foot ∷ [])))
 
-  pub first_read : (first last : ℕ) (row : List (Entry T)) → (e : HasEnds first last row) → slice_get row 0 ≡ Some e.head
-  first_read first last row e = ap (λ (es : List (Entry T)). slice_get es 0) e.begins
+  pub first_read : (first last : ℕ) (row : List (KeyValue T)) → (e : HasEnds first last row) → slice_get row 0 ≡ Some e.head
+  first_read first last row e = ap (λ (es : List (KeyValue T)). slice_get es 0) e.begins
 
-  pub ends_read : (row : List (Entry T)) (h f : Entry T) (n : ℕ) → n + 1 ≡ length row → HasEnds (get_or row 0 h).key (get_or row n f).key row
+  pub ends_read : (row : List (KeyValue T)) (h f : KeyValue T) (n : ℕ) → n + 1 ≡ length row → HasEnds (get_or row 0 h).key (get_or row n f).key row
   ends_read [] h f n e = absurd (omega arith)
   ends_read (x ∷ xs) h f n e =
       let r = footed x xs in
@@ -46,28 +45,28 @@ module _ {T : Type 0} where
         front = r.front;
         foot = r.foot;
         ends = r.ends;
-        last_is = ap (λ (e : Entry T). e.key) (ap (λ (ys : List (Entry T)). get_or ys n f) r.ends ∙ at_foot r.front r.foot f n (e ∙ ap length r.ends));
+        last_is = ap (λ (e : KeyValue T). e.key) (ap (λ (ys : List (KeyValue T)). get_or ys n f) r.ends ∙ at_foot r.front r.foot f n (e ∙ ap length r.ends));
       }
 
   -- those of a row of one
-  pub ends_one : (e : Entry T) → HasEnds e.key e.key (e ∷ [])
+  pub ends_one : (e : KeyValue T) → HasEnds e.key e.key (e ∷ [])
   ends_one e = record { head = e; tail = []; begins = refl; first_is = refl; front = []; foot = e; ends = refl; last_is = refl }
 
 module _ {T : Type 0} where
-  one_end : (head : Entry T) (front : List (Entry T)) (foot : Entry T) → head ∷ [] ≡ front ++ foot ∷ [] → head ≡ foot
+  one_end : (head : KeyValue T) (front : List (KeyValue T)) (foot : KeyValue T) → head ∷ [] ≡ front ++ foot ∷ [] → head ≡ foot
   one_end head [] foot is = ap (λ es. get_or es 0 head) is
   one_end head (x ∷ front) foot is = absurd (omega (arith, ap length is, length-append front (foot ∷ [])))
 
-  more_behind : (head : Entry T) (tail front : List (Entry T)) (foot : Entry T) → head ∷ tail ≡ front ++ foot ∷ [] → head.key < foot.key → 0 < length tail
-  more_behind head [] front foot is less = let same = ap (λ (e : Entry T). e.key) (one_end head front foot is) in absurd (omega (arith, same, less))
+  more_behind : (head : KeyValue T) (tail front : List (KeyValue T)) (foot : KeyValue T) → head ∷ tail ≡ front ++ foot ∷ [] → head.key < foot.key → 0 < length tail
+  more_behind head [] front foot is less = let same = ap (λ (e : KeyValue T). e.key) (one_end head front foot is) in absurd (omega (arith, same, less))
   more_behind head (y ∷ tail) front foot is less = omega arith
 
   -- a row whose ends have two keys has two entries
-  pub two_ends : (first last : ℕ) (row : List (Entry T)) → HasEnds first last row → first < last → 1 < length row
+  pub two_ends : (first last : ℕ) (row : List (KeyValue T)) → HasEnds first last row → first < last → 1 < length row
   two_ends first last row e less = omega (arith, ap length e.begins, more_behind e.head e.tail e.front e.foot (sym e.begins ∙ e.ends) (omega (arith, e.first_is, e.last_is, less)))
 
 -- those of two rows, one behind the other
-pub ends_two : {T : Type 0} (first last low high : ℕ) (xs ys : List (Entry T)) → HasEnds first last xs → HasEnds low high ys → HasEnds first high (xs ++ ys)
+pub ends_two : {T : Type 0} (first last low high : ℕ) (xs ys : List (KeyValue T)) → HasEnds first last xs → HasEnds low high ys → HasEnds first high (xs ++ ys)
 ends_two first last low high xs ys d e = record {
   head = d.head;
   tail = d.tail ++ ys;
@@ -88,9 +87,3 @@ pub among_none : {X : Type 0} (l row r : List X) → l ++ row ++ r ≡ row → I
 among_none [] row [] is = record { before = refl; after = refl }
 among_none [] row (x ∷ r) is = absurd (omega (arith, ap length is, length-append row (x ∷ r)))
 among_none (x ∷ l) row r is = absurd (omega (arith, ap length is, length-append (x ∷ (l ++ row)) r, length-append l row))
-
-pub only : {X : Type 0} (l a r : List X) → l ≡ [] → r ≡ [] → l ++ a ++ r ≡ a
-only l a r p q = ap (λ k. k ++ a ++ r) p ∙ ap (λ k. a ++ k) q ∙ append-nil a
-
-pub only_two : {X : Type 0} (k a l m b n : List X) → k ≡ [] → l ≡ [] → m ≡ [] → n ≡ [] → (k ++ a ++ l) ++ (m ++ b ++ n) ≡ a ++ b
-only_two k a l m b n p q r s = ap (λ x. x ++ (m ++ b ++ n)) (only k a l p q) ∙ ap (λ x. a ++ x) (only m b n r s)

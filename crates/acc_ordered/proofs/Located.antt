@@ -5,19 +5,19 @@ use Rattle.std.proofs.lemmas.Bool.{cases_lt}
 use Rattle.std.proofs.lemmas.Bool.Decides.{nat_tests}
 use Rattle.acc_base.proofs.Elements.{AllByRecursion-weaker, find_none, find-none}
 use Rattle.acc_base.proofs.Keyed as keyed
-use Rattle.acc_ordered.specs.declared.entries.Entry.{Entry}
+use Rattle.acc_ordered.specs.declared.entries.KeyValue.{KeyValue}
 use Rattle.acc_ordered.specs.Listing.{KeysRise, at_key, first_from}
 
 module _ {T : Type 0} where
-  abbrev key_in : Entry T → ℕ
+  abbrev key_in : KeyValue T → ℕ
   key_in e = e.key
 
   -- there is none from it on
-  pub absent_none : (key : ℕ) (es : List (Entry T)) → first_from key es ≡ None → at_key key es ≡ None
+  pub absent_none : (key : ℕ) (es : List (KeyValue T)) → first_from key es ≡ None → at_key key es ≡ None
   absent_none key es none = find-none (λ e. e.key == key) es (AllByRecursion-weaker (λ e. nat_le key e.key ≡ false) (λ e. (e.key == key) ≡ false) es (λ e no. grind (arith, nat_tests)) (find_none (λ e. nat_le key e.key) es none))
 
   -- it is of another key
-  pub absent_other : (key : ℕ) (es : List (Entry T)) (f : Entry T) → KeysRise es → first_from key es ≡ Some f → (f.key ≡ key → ⊥) → at_key key es ≡ None
+  pub absent_other : (key : ℕ) (es : List (KeyValue T)) (f : KeyValue T) → KeysRise es → first_from key es ≡ Some f → (f.key ≡ key → ⊥) → at_key key es ≡ None
   absent_other key [] f rising found other = refl
   absent_other key (e ∷ es) f rising found other = elim (cases_lt e.key key) [
     | inl less ↦
@@ -33,5 +33,5 @@ module _ {T : Type 0} where
   ]
 
   -- it is of the key
-  pub found_own : (key : ℕ) (es : List (Entry T)) (f : Entry T) → KeysRise es → first_from key es ≡ Some f → f.key ≡ key → at_key key es ≡ Some f
+  pub found_own : (key : ℕ) (es : List (KeyValue T)) (f : KeyValue T) → KeysRise es → first_from key es ≡ Some f → f.key ≡ key → at_key key es ≡ Some f
   found_own key es f rising found own = subst (λ (n : ℕ). at_key n es ≡ Some f) own (keyed.at-found key_in (λ e. nat_le key e.key) es f rising found)

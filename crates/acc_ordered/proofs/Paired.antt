@@ -5,7 +5,7 @@ use Rattle.std.specs.List.{AllByRecursion, remove}
 use Rattle.std.proofs.lemmas.List.{length-take, length-drop, take-append-drop}
 use Rattle.acc_base.specs.Accounts.{EachPair}
 use Rattle.acc_base.specs.Splits.{IsSplitBy}
-use Rattle.acc_ordered.specs.declared.entries.Entry.{Entry}
+use Rattle.acc_ordered.specs.declared.entries.KeyValue.{KeyValue}
 use Rattle.acc_ordered.specs.Listing.{KeysRise, values_in}
 use Rattle.acc_ordered.specs.Row.{HasEnds, AreHalves}
 use Rattle.acc_ordered.specs.Paired.{paired}
@@ -68,7 +68,7 @@ module _ {T : Type 0} where
   paired_append (j ∷ ks) (w ∷ vs) js ws e = ap (λ es. record { key = j; value = w } ∷ es) (paired_append ks vs js ws (omega (arith, e)))
 
   -- the value at a place is written, whatever stood there
-  pub paired_set : (ks : List ℕ) (vs : List T) (n : ℕ) (v : T) (d : Entry T) → length vs ≡ length ks → paired ks (set vs n v) ≡ set (paired ks vs) n (record (get_or (paired ks vs) n d) { value = v })
+  pub paired_set : (ks : List ℕ) (vs : List T) (n : ℕ) (v : T) (d : KeyValue T) → length vs ≡ length ks → paired ks (set vs n v) ≡ set (paired ks vs) n (record (get_or (paired ks vs) n d) { value = v })
   paired_set [] [] zero v d e = refl
   paired_set [] [] (suc n) v d e = refl
   paired_set [] (w ∷ vs) n v d e = absurd (omega (arith, e))
@@ -91,22 +91,22 @@ module _ {T : Type 0} where
   keys_rise (k ∷ ks) [] e h = absurd (omega (arith, e))
   keys_rise (k ∷ ks) (v ∷ vs) e h = (all_keys (λ j. k < j) ks vs (omega (arith, e)) h.0, keys_rise ks vs (omega (arith, e)) h.1)
 
-  pub split_paired : (key : ℕ) (ks : List ℕ) (vs : List T) (n : ℕ) → length vs ≡ length ks → IsSplitBy (λ k. nat_lt k key) ks n → IsSplitBy (λ (e : Entry T). nat_lt e.key key) (paired ks vs) n
+  pub split_paired : (key : ℕ) (ks : List ℕ) (vs : List T) (n : ℕ) → length vs ≡ length ks → IsSplitBy (λ k. nat_lt k key) ks n → IsSplitBy (λ (e : KeyValue T). nat_lt e.key key) (paired ks vs) n
   split_paired key ks vs n e s = record {
     bound = omega (arith, s.bound, paired_length ks vs e);
-    passed = subst (λ (es : List (Entry T)). AllByRecursion (λ e. nat_lt e.key key ≡ true) es) (paired_take ks vs n e) (all_paired (λ k. nat_lt k key ≡ true) (take n ks) (take n vs) s.passed);
-    failed = subst (λ (es : List (Entry T)). AllByRecursion (λ e. nat_lt e.key key ≡ false) es) (paired_drop ks vs n e) (all_paired (λ k. nat_lt k key ≡ false) (drop n ks) (drop n vs) s.failed);
+    passed = subst (λ (es : List (KeyValue T)). AllByRecursion (λ e. nat_lt e.key key ≡ true) es) (paired_take ks vs n e) (all_paired (λ k. nat_lt k key ≡ true) (take n ks) (take n vs) s.passed);
+    failed = subst (λ (es : List (KeyValue T)). AllByRecursion (λ e. nat_lt e.key key ≡ false) es) (paired_drop ks vs n e) (all_paired (λ k. nat_lt k key ≡ false) (drop n ks) (drop n vs) s.failed);
   }
 
   -- the entry at a place, of a key and a value that were read there
-  pub paired_entry : (es : List (Entry T)) (ks : List ℕ) (vs : List T) (n k : ℕ) (v : T) → paired ks vs ≡ es → length vs ≡ length ks → n < length ks → k ≡ get_or ks n k → v ≡ get_or vs n v → slice_get es n ≡ Some (record { key = k; value = v })
+  pub paired_entry : (es : List (KeyValue T)) (ks : List ℕ) (vs : List T) (n k : ℕ) (v : T) → paired ks vs ≡ es → length vs ≡ length ks → n < length ks → k ≡ get_or ks n k → v ≡ get_or vs n v → slice_get es n ≡ Some (record { key = k; value = v })
   paired_entry es ks vs n k v is e lt key value =
-      ap (λ (xs : List (Entry T)). slice_get xs n) (sym is)
+      ap (λ (xs : List (KeyValue T)). slice_get xs n) (sym is)
       ∙ paired_get ks vs n k v e lt
       ∙ ap (λ (j : ℕ). Some (record { key = j; value = get_or vs n v })) (sym key)
       ∙ ap (λ (w : T). Some (record { key = k; value = w })) (sym value)
 
-  paired_key : (ks : List ℕ) (vs : List T) (n d : ℕ) (h : Entry T) → length vs ≡ length ks → n < length ks → (get_or (paired ks vs) n h).key ≡ get_or ks n d
+  paired_key : (ks : List ℕ) (vs : List T) (n d : ℕ) (h : KeyValue T) → length vs ≡ length ks → n < length ks → (get_or (paired ks vs) n h).key ≡ get_or ks n d
   paired_key [] vs n d h e lt = absurd (omega (arith, lt))
   paired_key (k ∷ ks) [] n d h e lt = absurd (omega (arith, e))
   paired_key (k ∷ ks) (v ∷ vs) zero d h e lt = refl
@@ -116,19 +116,19 @@ module _ {T : Type 0} where
   paired_ends [] vs n c d e long = absurd (omega (arith, long))
   paired_ends (k ∷ ks) [] n c d e long = absurd (omega (arith, e))
   paired_ends (k ∷ ks) (v ∷ vs) n c d e long =
-      let h : Entry T = record { key = k; value = v } in
-      let row : List (Entry T) = paired (k ∷ ks) (v ∷ vs) in
+      let h : KeyValue T = record { key = k; value = v } in
+      let row : List (KeyValue T) = paired (k ∷ ks) (v ∷ vs) in
       subst (λ (l : ℕ). HasEnds k l row) (paired_key (k ∷ ks) (v ∷ vs) n d h e (omega (arith, long))) (ends_read row h h n (omega (arith, long, paired_length (k ∷ ks) (v ∷ vs) e)))
 
-  pub halves : (es : List (Entry T)) (ks : List ℕ) (vs : List T) (h : ℕ) (a : List ℕ) (b : List T) (x : List ℕ) (y : List T) → paired ks vs ≡ es → length vs ≡ length ks → 1 < length ks → length ks ≤ 64 → h ≡ length ks / 2 → a ≡ take h ks → b ≡ take h vs → x ≡ drop h ks → y ≡ drop h vs → AreHalves es (paired a b) (paired x y)
+  pub halves : (es : List (KeyValue T)) (ks : List ℕ) (vs : List T) (h : ℕ) (a : List ℕ) (b : List T) (x : List ℕ) (y : List T) → paired ks vs ≡ es → length vs ≡ length ks → 1 < length ks → length ks ≤ 64 → h ≡ length ks / 2 → a ≡ take h ks → b ≡ take h vs → x ≡ drop h ks → y ≡ drop h vs → AreHalves es (paired a b) (paired x y)
   halves es ks vs h a b x y is e more most half a_is b_is x_is y_is =
       let low : length (paired a b) ≡ length a = paired_length a b (omega (arith, e, ap length a_is, ap length b_is, length-take h ks, length-take h vs)) in
       let high : length (paired x y) ≡ length x = paired_length x y (omega (arith, e, ap length x_is, ap length y_is, length-drop h ks, length-drop h vs)) in
-      let row : List (Entry T) = paired ks vs in
+      let row : List (KeyValue T) = paired ks vs in
       record {
         whole = sym is ∙ sym (take-append-drop h row)
-            ∙ ap (λ (l : List (Entry T)). l ++ drop h row) (sym (paired_take ks vs h e) ∙ ap (λ (j : List ℕ). paired j (take h vs)) (sym a_is) ∙ ap (λ (w : List T). paired a w) (sym b_is))
-            ∙ ap (λ (l : List (Entry T)). paired a b ++ l) (sym (paired_drop ks vs h e) ∙ ap (λ (j : List ℕ). paired j (drop h vs)) (sym x_is) ∙ ap (λ (w : List T). paired x w) (sym y_is));
+            ∙ ap (λ (l : List (KeyValue T)). l ++ drop h row) (sym (paired_take ks vs h e) ∙ ap (λ (j : List ℕ). paired j (take h vs)) (sym a_is) ∙ ap (λ (w : List T). paired a w) (sym b_is))
+            ∙ ap (λ (l : List (KeyValue T)). paired a b ++ l) (sym (paired_drop ks vs h e) ∙ ap (λ (j : List ℕ). paired j (drop h vs)) (sym x_is) ∙ ap (λ (w : List T). paired x w) (sym y_is));
         lower_some = omega (arith, more, half, low, ap length a_is, length-take h ks);
         upper_some = omega (arith, more, half, high, ap length x_is, length-drop h ks);
         lower_free = omega (arith, more, most, half, low, ap length a_is, length-take h ks);

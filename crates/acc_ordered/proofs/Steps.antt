@@ -1,48 +1,24 @@
 -- A step down a tree: what a search or a change at a key does to the entries before and behind one.
 use Rattle.std.proofs.Common.{ℕ, ◌≡◌, ◌<◌, ◌≤◌, refl, sym, ap, ◌∙◌, Bool, true, false, cond, List, [], ◌∷◌, ◌++◌, Option, Some, None, arith}
-use Rattle.std.specs.Prelude.{find, nat_lt, nat_le}
+use Rattle.std.specs.Prelude.{nat_lt, nat_le}
 use Rattle.std.specs.List.{AllByRecursion}
 use Rattle.std.specs.Option.{option_or}
 use Rattle.std.proofs.lemmas.Bool.Decides.{nat_tests}
 use Rattle.std.proofs.lemmas.List.Folds.{find-append}
-use Rattle.acc_base.proofs.Elements.{AllByRecursion-weaker, find-none}
-use Rattle.acc_ordered.specs.declared.entries.Entry.{Entry}
+use Rattle.acc_base.proofs.Elements.{AllByRecursion-weaker, find-none, all_behind, all_in_front, find-behind}
+use Rattle.acc_base.proofs.Options.{or_none, or_or}
+use Rattle.acc_ordered.specs.declared.entries.KeyValue.{KeyValue}
 use Rattle.acc_ordered.specs.Listing.{KeysRise, first_from, last_before, with_entry}
-
--- ---- lists in two parts
-
-pub all_in_front : {X : Type 0} (P : X → Type 0) (l m : List X) → AllByRecursion P (l ++ m) → AllByRecursion P l
-all_in_front P [] m h = tt
-all_in_front P (x ∷ l) m h = (h.0, all_in_front P l m h.1)
-
-pub all_behind : {X : Type 0} (P : X → Type 0) (l m : List X) → AllByRecursion P (l ++ m) → AllByRecursion P m
-all_behind P [] m h = h
-all_behind P (x ∷ l) m h = all_behind P l m h.1
-
-pub find-front : {X : Type 0} (p : X → Bool) (l m : List X) → find p m ≡ None → find p (l ++ m) ≡ find p l
-find-front p [] m none = none
-find-front p (x ∷ l) m none = ap (λ o. cond (p x) (Some x) o) (find-front p l m none)
-
-pub find-behind : {X : Type 0} (p : X → Bool) (l m : List X) → find p l ≡ None → find p (l ++ m) ≡ find p m
-find-behind p l m none = find-append p l m ∙ rw none refl
-
-or_none : {X : Type 0} (o : Option X) → option_or o None ≡ o
-or_none None = refl
-or_none (Some x) = refl
-
-pub or_or : {X : Type 0} (a b c : Option X) → option_or (option_or a b) c ≡ option_or a (option_or b c)
-or_or None b c = refl
-or_or (Some x) b c = refl
 
 module _ {T : Type 0} where
   -- what is known on the two sides of an entry
-  pub record Sides (l : List (Entry T)) (x : Entry T) (r : List (Entry T)) : Type 0 where
+  pub record Sides (l : List (KeyValue T)) (x : KeyValue T) (r : List (KeyValue T)) : Type 0 where
     pub left : KeysRise l
     pub right : KeysRise r
     pub under : AllByRecursion (λ e. e.key < x.key) l
     pub over : AllByRecursion (λ e. x.key < e.key) r
 
-  pub sides : (l : List (Entry T)) (x : Entry T) (r : List (Entry T)) → KeysRise (l ++ x ∷ r) → Sides l x r
+  pub sides : (l : List (KeyValue T)) (x : KeyValue T) (r : List (KeyValue T)) → KeysRise (l ++ x ∷ r) → Sides l x r
   sides [] x r s = record { left = tt; right = s.1; under = tt; over = s.0 }
   sides (h ∷ l) x r s =
       let d = sides l x r s.1 in
@@ -55,39 +31,39 @@ module _ {T : Type 0} where
 
   -- ---- searches
 
-  pub from_left : (key : ℕ) (l : List (Entry T)) (x : Entry T) (r : List (Entry T)) → key ≤ x.key → first_from key (l ++ x ∷ r) ≡ option_or (first_from key l) (Some x)
+  pub from_left : (key : ℕ) (l : List (KeyValue T)) (x : KeyValue T) (r : List (KeyValue T)) → key ≤ x.key → first_from key (l ++ x ∷ r) ≡ option_or (first_from key l) (Some x)
   from_left key l x r le = let t : nat_le key x.key ≡ true = grind (arith, nat_tests) in find-append (λ e. nat_le key e.key) l (x ∷ r) ∙ rw t refl
 
-  pub from_right : (key : ℕ) (l : List (Entry T)) (x : Entry T) (r : List (Entry T)) → x.key < key → Sides l x r → first_from key (l ++ x ∷ r) ≡ first_from key r
+  pub from_right : (key : ℕ) (l : List (KeyValue T)) (x : KeyValue T) (r : List (KeyValue T)) → x.key < key → Sides l x r → first_from key (l ++ x ∷ r) ≡ first_from key r
   from_right key l x r less d =
       let t : nat_le key x.key ≡ false = grind (arith, nat_tests) in
       find-behind (λ e. nat_le key e.key) l (x ∷ r) (find-none (λ e. nat_le key e.key) l (AllByRecursion-weaker (λ e. e.key < x.key) (λ e. nat_le key e.key ≡ false) l (λ e u. grind (arith, nat_tests)) d.under)) ∙ rw t refl
 
-  before-append : (key : ℕ) (l m : List (Entry T)) → last_before key (l ++ m) ≡ option_or (last_before key m) (last_before key l)
+  pub before-append : (key : ℕ) (l m : List (KeyValue T)) → last_before key (l ++ m) ≡ option_or (last_before key m) (last_before key l)
   before-append key [] m = sym (or_none (last_before key m))
   before-append key (h ∷ l) m = let here = cond (nat_lt h.key key) (Some h) None in ap (λ o. option_or o here) (before-append key l m) ∙ or_or (last_before key m) (last_before key l) here
 
-  before_none : (key : ℕ) (r : List (Entry T)) → AllByRecursion (λ e. key ≤ e.key) r → last_before key r ≡ None
+  pub before_none : (key : ℕ) (r : List (KeyValue T)) → AllByRecursion (λ e. key ≤ e.key) r → last_before key r ≡ None
   before_none key [] over = refl
   before_none key (h ∷ r) over = let le = over.0 in let t : nat_lt h.key key ≡ false = grind (arith, nat_tests) in rw (t, before_none key r over.1) refl
 
-  pub before_left : (key : ℕ) (l : List (Entry T)) (x : Entry T) (r : List (Entry T)) → key ≤ x.key → Sides l x r → last_before key (l ++ x ∷ r) ≡ last_before key l
+  pub before_left : (key : ℕ) (l : List (KeyValue T)) (x : KeyValue T) (r : List (KeyValue T)) → key ≤ x.key → Sides l x r → last_before key (l ++ x ∷ r) ≡ last_before key l
   before_left key l x r le d =
       let none : last_before key (x ∷ r) ≡ None = before_none key (x ∷ r) (le, AllByRecursion-weaker (λ e. x.key < e.key) (λ e. key ≤ e.key) r (λ e more. omega arith) d.over) in
       before-append key l (x ∷ r) ∙ ap (λ o. option_or o (last_before key l)) none
 
-  or_some : (o : Option (Entry T)) (x : Entry T) (p : Option (Entry T)) → option_or (option_or o (Some x)) p ≡ option_or o (Some x)
+  or_some : (o : Option (KeyValue T)) (x : KeyValue T) (p : Option (KeyValue T)) → option_or (option_or o (Some x)) p ≡ option_or o (Some x)
   or_some None x p = refl
   or_some (Some y) x p = refl
 
-  pub before_right : (key : ℕ) (l : List (Entry T)) (x : Entry T) (r : List (Entry T)) → x.key < key → last_before key (l ++ x ∷ r) ≡ option_or (last_before key r) (Some x)
+  pub before_right : (key : ℕ) (l : List (KeyValue T)) (x : KeyValue T) (r : List (KeyValue T)) → x.key < key → last_before key (l ++ x ∷ r) ≡ option_or (last_before key r) (Some x)
   before_right key l x r less =
       let t : nat_lt x.key key ≡ true = grind (arith, nat_tests) in
       before-append key l (x ∷ r) ∙ rw t (or_some (last_before key r) x (last_before key l))
 
   -- ---- changes
 
-  pub with_left : (new : Entry T) (l : List (Entry T)) (x : Entry T) (r : List (Entry T)) → new.key < x.key → with_entry new (l ++ x ∷ r) ≡ with_entry new l ++ x ∷ r
+  pub with_left : (new : KeyValue T) (l : List (KeyValue T)) (x : KeyValue T) (r : List (KeyValue T)) → new.key < x.key → with_entry new (l ++ x ∷ r) ≡ with_entry new l ++ x ∷ r
   with_left new [] x r less = let t : nat_lt new.key x.key ≡ true = grind (arith, nat_tests) in rw t refl
   with_left new (h ∷ l) x r less = go (nat_lt new.key h.key) (with_left new l x r less)
     where

@@ -1,11 +1,11 @@
 -- Where an entry stands or goes, seen from a node, and what becomes of the entries once it changes there.
 use Rattle.std.specs.Prelude.{ℕ, ◌≡◌, ◌<◌, List, Option, Some, None, IsSome, Box}
 use Rattle.std.specs.declared.alloc.Global.{Global}
-use Rattle.acc_ordered.specs.declared.entries.Entry.{Entry}
+use Rattle.acc_ordered.specs.declared.entries.KeyValue.{KeyValue}
 use Rattle.acc_ordered.specs.declared.entries.Change.{Change}
 use Rattle.acc_ordered.specs.declared.entries.Change.TheVariants.{Put, Take, Write}
-use Rattle.acc_ordered.specs.declared.entries.Outcome.{Outcome}
-use Rattle.acc_ordered.specs.declared.entries.Outcome.TheVariants.{Refused, Done, Few}
+use Rattle.acc_ordered.specs.declared.entries.RowOutcome.{RowOutcome}
+use Rattle.acc_ordered.specs.declared.entries.RowOutcome.TheVariants.{Refused, Done, Few}
 use Rattle.acc_ordered.specs.declared.sides.Side.{Side}
 use Rattle.acc_ordered.specs.declared.sides.Side.TheVariants.{Left, Right, Here}
 use Rattle.acc_ordered.specs.Listing.{at_key, with_entry, without_key, with_value}
@@ -18,13 +18,13 @@ module _ {T : Type 0} where
   IsSide Here l r first last key = (key < first → l ≡ None) × (last < key → r ≡ None)
 
   -- the entry of the key is there, or for one that comes is not
-  abbrev pub IsAllowed : Change → Option (Entry T) → Type 0
+  abbrev pub IsAllowed : Change → Option (KeyValue T) → Type 0
   IsAllowed Put there = there ≡ None
   IsAllowed Take there = IsSome there
   IsAllowed Write there = IsSome there
 
   -- the entry that was asked for was put, or it is the one that was taken; or nothing changed
-  abbrev pub IsChanged : Change → Outcome → Entry T → Entry T → List (Entry T) → List (Entry T) → Type 0
+  abbrev pub IsChanged : Change → RowOutcome → KeyValue T → KeyValue T → List (KeyValue T) → List (KeyValue T) → Type 0
   IsChanged Put Refused asked got old new = new ≡ old
   IsChanged Put Done asked got old new = new ≡ with_entry asked old
   IsChanged Put Few asked got old new = new ≡ with_entry asked old

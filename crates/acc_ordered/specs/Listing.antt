@@ -2,63 +2,63 @@
 use Rattle.std.specs.Prelude.{ℕ, ◌<◌, ◌==◌, not, if◌then◌else◌, nat_lt, nat_le, List, [], ◌∷◌, Option, Some, None, find, filter, map, option_map}
 use Rattle.std.specs.Option.{option_or}
 use Rattle.acc_base.specs.Accounts.{EachPair}
-use Rattle.acc_ordered.specs.declared.entries.Entry.{Entry}
-use Rattle.acc_ordered.specs.declared.entries.Found.{Found}
+use Rattle.acc_ordered.specs.declared.entries.KeyValue.{KeyValue}
+use Rattle.acc_ordered.specs.declared.entries.KeyValueRef.{KeyValueRef}
 
 -- what a tree is seen as
 pub record Listing (T : Type 0) : Type 0 where
   -- by rising key
-  pub entries : List (Entry T)
+  pub entries : List (KeyValue T)
   -- how many more can be inserted without memory
   pub room : ℕ
 
 module _ {T : Type 0} where
   -- the keys rise
-  abbrev pub KeysRise : List (Entry T) → Type 0
-  KeysRise entries = EachPair (λ (e : Entry T) (f : Entry T). e.key < f.key) entries
+  abbrev pub KeysRise : List (KeyValue T) → Type 0
+  KeysRise entries = EachPair (λ (e : KeyValue T) (f : KeyValue T). e.key < f.key) entries
 
   -- the values of the entries
-  abbrev pub values_in : List (Entry T) → List T
+  abbrev pub values_in : List (KeyValue T) → List T
   values_in entries = map (λ e. e.value) entries
 
   -- ---- searches
 
   -- the entry of a key
-  abbrev pub at_key : ℕ → List (Entry T) → Option (Entry T)
+  abbrev pub at_key : ℕ → List (KeyValue T) → Option (KeyValue T)
   at_key key entries = find (λ e. e.key == key) entries
 
   -- the first entry from a key on
-  abbrev pub first_from : ℕ → List (Entry T) → Option (Entry T)
+  abbrev pub first_from : ℕ → List (KeyValue T) → Option (KeyValue T)
   first_from key entries = find (λ e. nat_le key e.key) entries
 
   -- an entry that was found
-  abbrev pub entry_in : Found T → Entry T
+  abbrev pub entry_in : KeyValueRef T → KeyValue T
   entry_in found = record { key = found.key; value = found.value.now }
 
   -- the entry that was found, if there is one
-  abbrev pub seen : Option (Found T) → Option (Entry T)
+  abbrev pub seen : Option (KeyValueRef T) → Option (KeyValue T)
   seen found = option_map entry_in found
 
   -- the last entry before a key
-  abbrev pub last_before : ℕ → List (Entry T) → Option (Entry T)
+  abbrev pub last_before : ℕ → List (KeyValue T) → Option (KeyValue T)
   last_before key [] = None
   last_before key (e ∷ es) = option_or (last_before key es) (if nat_lt e.key key then Some e else None)
 
   -- ---- changes
 
   -- the entries with one more, by rising key
-  abbrev pub with_entry : Entry T → List (Entry T) → List (Entry T)
+  abbrev pub with_entry : KeyValue T → List (KeyValue T) → List (KeyValue T)
   with_entry new [] = new ∷ []
   with_entry new (e ∷ es) = if nat_lt new.key e.key then new ∷ e ∷ es else e ∷ with_entry new es
 
   -- the entries without that of a key
-  abbrev pub without_key : ℕ → List (Entry T) → List (Entry T)
+  abbrev pub without_key : ℕ → List (KeyValue T) → List (KeyValue T)
   without_key key entries = filter (λ e. not (e.key == key)) entries
 
   -- the entry with another value, if it has the key
-  abbrev pub value_written : ℕ → T → Entry T → Entry T
+  abbrev pub value_written : ℕ → T → KeyValue T → KeyValue T
   value_written key value e = if e.key == key then record e { value = value } else e
 
   -- the entries with another value at a key
-  abbrev pub with_value : ℕ → T → List (Entry T) → List (Entry T)
+  abbrev pub with_value : ℕ → T → List (KeyValue T) → List (KeyValue T)
   with_value key value entries = map (value_written key value) entries

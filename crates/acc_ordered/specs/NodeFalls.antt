@@ -2,14 +2,14 @@
 use Rattle.std.specs.Prelude.{ℕ, ◌≡◌, ◌+◌, ◌≤◌, max, List, Option, Some, None, Box}
 use Rattle.std.specs.declared.alloc.Global.{Global}
 use Rattle.std.proofs.Common.{arith}
-use Rattle.acc_ordered.specs.declared.entries.Entry.{Entry}
+use Rattle.acc_ordered.specs.declared.entries.KeyValue.{KeyValue}
 use Rattle.acc_ordered.specs.Shape.{Shape}
 use Rattle.acc_ordered.specs.declared.nodes.Node.TheInside.{Inside}
 use Rattle.acc_ordered.specs.declared.nodes.Node.TheDeep.{deep-Node}
 use Rattle.acc_ordered.specs.Nodes.{height_of, length_of, IsAlone, IsChain, shape_of, IsAvl}
 
 module _ {T : Type 0} where
-  parts_le : (l r n : Option (Box (Shape T) Global)) (f g h : ℕ) (w : List (Entry T)) → IsAlone l → IsAlone r → IsChain n → h ≡ max (height_of l) (height_of r) + 1 → deep-Node T (record { left = l; right = r; first = f; last = g; height = h; row = w; next = n }) ≤ h + length_of n
+  parts_le : (l r n : Option (Box (Shape T) Global)) (f g h : ℕ) (w : List (KeyValue T)) → IsAlone l → IsAlone r → IsChain n → h ≡ max (height_of l) (height_of r) + 1 → deep-Node T (record { left = l; right = r; first = f; last = g; height = h; row = w; next = n }) ≤ h + length_of n
   parts_le None None None f g h w a b c e = omega arith
   parts_le None None (Some n) f g h w a b c e = omega arith
   parts_le None (Some r) None f g h w a b c e = omega arith

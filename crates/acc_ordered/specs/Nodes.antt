@@ -1,7 +1,7 @@
 -- The fields of a node.
 use Rattle.std.specs.Prelude.{ℕ, ◌≡◌, ◌+◌, ◌*◌, ◌^◌, ◌≤◌, max, List, [], ◌++◌, length, Option, Some, None, Box}
 use Rattle.std.specs.declared.alloc.Global.{Global}
-use Rattle.acc_ordered.specs.declared.entries.Entry.{Entry}
+use Rattle.acc_ordered.specs.declared.entries.KeyValue.{KeyValue}
 use Rattle.acc_ordered.specs.Row.{HasEnds}
 use Rattle.acc_ordered.specs.Shape.{Shape}
 use Rattle.acc_ordered.specs.declared.nodes.Node.TheInside.{Inside}
@@ -15,7 +15,7 @@ abbrev pub IsLowered : ℕ → ℕ → Type 0
 IsLowered old new = (new ≤ old) × (old ≤ new + 1)
 
 module _ {T : Type 0} where
-  abbrev pub entries_in : Option (Box (Shape T) Global) → List (Entry T)
+  abbrev pub entries_in : Option (Box (Shape T) Global) → List (KeyValue T)
   entries_in None = []
   entries_in (Some b) = b.value.entries
 
@@ -47,7 +47,7 @@ module _ {T : Type 0} where
   IsChain None = Unit {0}
   IsChain (Some b) = (b.value.entries ≡ b.value.row) × (b.value.height ≡ 1) × (b.value.nodes ≡ 1)
 
-  abbrev pub tree_of : Inside T → List (Entry T)
+  abbrev pub tree_of : Inside T → List (KeyValue T)
   tree_of n = entries_in n.left ++ n.row ++ entries_in n.right
 
   abbrev pub count_of : Inside T → ℕ

@@ -2,7 +2,7 @@
 use Rattle.std.specs.Prelude.{◌≡◌, ◌+◌, ◌^◌, ◌<◌}
 use Rattle.acc_ordered.specs.Listing.{Listing, KeysRise}
 use Rattle.acc_ordered.specs.Nodes.{entries_in, length_of, nodes_in, IsAlone, IsChain}
-use Rattle.acc_ordered.specs.declared.tree.Tree.TheInside.{Inside}
+use Rattle.acc_ordered.specs.declared.tree.OrderedTree.TheInside.{Inside}
 
 module _ {T : Type 0} where
   -- the rows joined in order, and the nodes of the chain

@@ -5,7 +5,7 @@ ghost use Rattle.acc_ordered.specs.Row.{HasEnds};
 ghost use Rattle.acc_ordered.specs.Nodes.{entries_in, height_of, nodes_in, IsAlone, IsLeaf, IsFreed, IsBalanced, IsLowered};
 
 use crate::balances::{balance, merge};
-use crate::entries::Entry;
+use crate::entries::KeyValue;
 use crate::nodes::{Link, Node, join, split};
 use crate::rows::{Row, WIDTH};
 
@@ -18,7 +18,7 @@ fn ends_of<T: Copy>(node: &Node<T>) -> (u64, u64)
 }
 
 /// Writes a row of one entry into a node without subtrees.
-fn fill<T: Copy>(mut node: Box<Node<T>>, entry: Entry<T>) -> Box<Node<T>>
+fn fill<T: Copy>(mut node: Box<Node<T>>, entry: KeyValue<T>) -> Box<Node<T>>
     requires leaf { IsLeaf node.value }
     ensures entries { result.value.entries ≡ entry ∷ [] }
     ensures leaf { IsLeaf result.value }
@@ -31,7 +31,7 @@ fn fill<T: Copy>(mut node: Box<Node<T>>, entry: Entry<T>) -> Box<Node<T>>
 }
 
 /// Moves the upper half of a row to another, and puts an entry into one of them.
-fn share<T: Copy>(lower: &mut Row<T>, upper: &mut Row<T>, entry: Entry<T>)
+fn share<T: Copy>(lower: &mut Row<T>, upper: &mut Row<T>, entry: KeyValue<T>)
     requires more { 1 < length lower.old }
     requires rising { KeysRise lower.old }
     requires new { at_key entry.key lower.old ≡ None }
@@ -51,7 +51,7 @@ fn share<T: Copy>(lower: &mut Row<T>, upper: &mut Row<T>, entry: Entry<T>)
 fn cut<T: Copy>(
     mut node: Box<Node<T>>,
     mut spare: Box<Node<T>>,
-    entry: Entry<T>,
+    entry: KeyValue<T>,
 ) -> (Box<Node<T>>, Box<Node<T>>)
     requires leaf { IsLeaf node.value }
     requires spare { IsLeaf spare.value }
@@ -92,7 +92,7 @@ fn put_first<T: Copy>(tree: Link<T>, node: Box<Node<T>>) -> Box<Node<T>>
 }
 
 /// Puts an entry whose key is not there yet into a tree, with a node that waits.
-pub fn insert<T: Copy>(tree: Link<T>, node: Box<Node<T>>, entry: Entry<T>) -> Box<Node<T>>
+pub fn insert<T: Copy>(tree: Link<T>, node: Box<Node<T>>, entry: KeyValue<T>) -> Box<Node<T>>
     requires leaf { IsLeaf node.value }
     requires alone { IsAlone tree }
     requires limit { height_of tree < 2 ^ 61 }
@@ -146,7 +146,7 @@ fn append<T: Copy>(mut lower: Box<Node<T>>, upper: Box<Node<T>>) -> (Box<Node<T>
 }
 
 /// Takes the entry of a key out of the row of a node, where it is not alone.
-fn shorten<T: Copy>(mut node: Box<Node<T>>, key: u64) -> (Entry<T>, Box<Node<T>>)
+fn shorten<T: Copy>(mut node: Box<Node<T>>, key: u64) -> (KeyValue<T>, Box<Node<T>>)
     requires leaf { IsLeaf node.value }
     requires rising { KeysRise node.value.entries }
     requires there { IsSome (at_key key node.value.entries) }
@@ -164,7 +164,7 @@ fn shorten<T: Copy>(mut node: Box<Node<T>>, key: u64) -> (Entry<T>, Box<Node<T>>
 }
 
 /// The entry of a node without subtrees that has no other.
-fn only_entry<T: Copy>(node: &Node<T>) -> Option<Entry<T>>
+fn only_entry<T: Copy>(node: &Node<T>) -> Option<KeyValue<T>>
     requires leaf { IsLeaf node.now }
     ensures one { IfSome result (λ entry. node.now.entries ≡ entry ∷ []) }
     ensures more { IfNone result (1 < length node.now.entries) }
@@ -173,7 +173,7 @@ fn only_entry<T: Copy>(node: &Node<T>) -> Option<Entry<T>>
         return None;
     }
     let found = node.row.at(0);
-    Some(Entry {
+    Some(KeyValue {
         key: found.key,
         value: *found.value,
     })
@@ -313,7 +313,7 @@ fn remove_here<T: Copy>(
     top: Box<Node<T>>,
     right: Link<T>,
     key: u64,
-) -> (Entry<T>, Link<T>, Link<T>)
+) -> (KeyValue<T>, Link<T>, Link<T>)
     requires leaf { IsLeaf top.value }
     requires balanced { IsBalanced left right }
     requires limit { max (height_of left) (height_of right) < 2 ^ 62 }
@@ -335,7 +335,7 @@ fn remove_here<T: Copy>(
 }
 
 /// Takes the entry of a key out of a tree, and answers it, what is left, and the node that became free, if one did.
-pub fn remove<T: Copy>(tree: Box<Node<T>>, key: u64) -> (Entry<T>, Link<T>, Link<T>)
+pub fn remove<T: Copy>(tree: Box<Node<T>>, key: u64) -> (KeyValue<T>, Link<T>, Link<T>)
     requires alone { tree.value.behind ≡ 0 }
     requires limit { tree.value.height < 2 ^ 62 }
     requires rising { KeysRise tree.value.entries }

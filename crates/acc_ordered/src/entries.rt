@@ -3,7 +3,7 @@ ghost use Rattle.std.specs.Prelude.{◌≡◌};
 
 /// A value with its key.
 #[derive(Clone, Copy)]
-pub struct Entry<T> {
+pub struct KeyValue<T> {
     /// No two entries of a tree have the same.
     pub key: u64,
     /// What is kept under the key.
@@ -12,7 +12,7 @@ pub struct Entry<T> {
 
 /// An entry where it stands in a tree.
 #[derive(Clone, Copy)]
-pub struct Found<'a, T> {
+pub struct KeyValueRef<'a, T> {
     /// Its key.
     pub key: u64,
     /// What is kept under the key.
@@ -21,11 +21,11 @@ pub struct Found<'a, T> {
 
 /// The entries on both sides of a key.
 #[derive(Clone, Copy)]
-pub struct Around<'a, T> {
+pub struct Neighbors<'a, T> {
     /// The entry of greatest key before it.
-    pub before: Option<Found<'a, T>>,
+    pub before: Option<KeyValueRef<'a, T>>,
     /// The entry of least key from it on.
-    pub from: Option<Found<'a, T>>,
+    pub from: Option<KeyValueRef<'a, T>>,
 }
 
 /// What happens to the entry of a key in the row where it stands.
@@ -41,7 +41,7 @@ pub enum Change {
 
 /// What became of a change in one row.
 #[derive(Clone, Copy)]
-pub enum Outcome {
+pub enum RowOutcome {
     /// The row may not change alone: it is full, or has one entry.
     Refused,
     /// It changed.

@@ -10,5 +10,5 @@ mod search;
 mod sides;
 mod tree;
 
-pub use entries::{Around, Entry, Found, Rewriting};
-pub use tree::Tree;
+pub use entries::{KeyValue, KeyValueRef, Neighbors, Rewriting};
+pub use tree::OrderedTree;

@@ -6,7 +6,7 @@ ghost use Rattle.acc_ordered.specs.Nodes.{entries_in, height_of, length_of, node
 ghost use Rattle.acc_ordered.specs.Seen.{first_in, last_in};
 ghost use Rattle.acc_ordered.specs.Rewritten.{IsWalked};
 
-use crate::entries::{Around, Change, Entry, Found, Outcome, Rewriting};
+use crate::entries::{Change, KeyValue, KeyValueRef, Neighbors, Rewriting, RowOutcome};
 use crate::rows::{Row, WIDTH};
 use crate::sides::Side;
 use acc_base::{Fault, Steps};
@@ -104,7 +104,7 @@ pub fn join<T: Copy>(left: Link<T>, mut node: Box<Node<T>>, right: Link<T>) -> B
 }
 
 /// A node of its own, with some entry in its row, or `None` where there is no memory.
-pub fn new_node<T: Copy>(alloc: Global, blank: Entry<T>) -> Option<Box<Node<T>>>
+pub fn new_node<T: Copy>(alloc: Global, blank: KeyValue<T>) -> Option<Box<Node<T>>>
     ensures leaf { IfSome result (λ node. IsLeaf node.value) }
 {
     let row = Row::new(alloc, blank)?;
@@ -147,7 +147,8 @@ pub fn pop<T: Copy>(mut chain: Box<Node<T>>) -> (Box<Node<T>>, Link<T>)
     (chain, next)
 }
 
-/// Comes to the node that a link leads to, if there is one, which is one step. A search comes to a node in no other way.
+/// Comes to the node that a link leads to, if there is one, which is one step. A counted search comes to nodes by this
+/// alone.
 #[inline]
 fn visit<'a, T: Copy>(link: &'a Link<T>, steps: &mut Steps) -> Option<&'a Node<T>>
     requires limit { steps.old < 2 ^ 33 }
@@ -167,7 +168,7 @@ fn visit<'a, T: Copy>(link: &'a Link<T>, steps: &mut Steps) -> Option<&'a Node<T
 
 /// The last entry of a row, if there is a row.
 #[inline]
-fn last_of<'a, T: Copy>(row: Option<&'a Row<T>>) -> Option<Found<'a, T>>
+fn last_of<'a, T: Copy>(row: Option<&'a Row<T>>) -> Option<KeyValueRef<'a, T>>
     ensures { seen result ≡ last_in row.entry }
 {
     let row = row?;
@@ -180,7 +181,7 @@ fn last_of<'a, T: Copy>(row: Option<&'a Row<T>>) -> Option<Found<'a, T>>
 
 /// The first entry of a row, if there is a row.
 #[inline]
-fn first_of<'a, T: Copy>(row: Option<&'a Row<T>>) -> Option<Found<'a, T>>
+fn first_of<'a, T: Copy>(row: Option<&'a Row<T>>) -> Option<KeyValueRef<'a, T>>
     ensures { seen result ≡ first_in row.entry }
 {
     let row = row?;
@@ -193,7 +194,7 @@ fn first_of<'a, T: Copy>(row: Option<&'a Row<T>>) -> Option<Found<'a, T>>
 /// The last entry before a key and the first from it on. Each node on the way is a step; of its row nothing is read but
 /// in the last one.
 #[inline]
-pub fn find_around<'a, T: Copy>(tree: &'a Link<T>, key: u64, steps: &mut Steps) -> Around<'a, T>
+pub fn find_around<'a, T: Copy>(tree: &'a Link<T>, key: u64, steps: &mut Steps) -> Neighbors<'a, T>
     requires rising { KeysRise (entries_in tree.now) }
     requires limit { steps.old + height_of tree.now < 2 ^ 33 }
     ensures before { seen result.before ≡ last_before key (entries_in tree.now) }
@@ -215,13 +216,13 @@ pub fn find_around<'a, T: Copy>(tree: &'a Link<T>, key: u64, steps: &mut Steps) 
             rest = &node.left;
         } else {
             let (b, f) = node.row.within(key, node.first, last);
-            return Around {
+            return Neighbors {
                 before: Some(b),
                 from: Some(f),
             };
         }
     }
-    Around {
+    Neighbors {
         before: last_of(before),
         from: first_of(from),
     }
@@ -242,7 +243,11 @@ fn side_of<T: Copy>(left: &Link<T>, right: &Link<T>, first: u64, last: u64, key:
 
 /// Changes the entry of a key in the row where it stands or goes, where that row may change alone. An entry that goes is
 /// left in place of the one that was asked for.
-pub fn change_in_place<T: Copy>(tree: &mut Link<T>, change: Change, entry: &mut Entry<T>) -> Outcome
+pub fn change_in_place<T: Copy>(
+    tree: &mut Link<T>,
+    change: Change,
+    entry: &mut KeyValue<T>,
+) -> RowOutcome
     requires rising { KeysRise (entries_in tree.old) }
     requires allowed { IsAllowed change (at_key entry.old.key (entries_in tree.old)) }
     ensures changed { IsChanged change result entry.old entry.new (entries_in tree.old) (entries_in tree.new) }
@@ -252,7 +257,7 @@ pub fn change_in_place<T: Copy>(tree: &mut Link<T>, change: Change, entry: &mut 
     ensures wide { IsWide tree.new }
 {
     match tree {
-        None => Outcome::Refused,
+        None => RowOutcome::Refused,
         Some(node) => {
             let node: &mut Node<T> = node;
             match side_of(&node.left, &node.right, node.first, node.last, entry.key) {

@@ -6,7 +6,7 @@ ghost use Rattle.acc_ordered.specs.Changes.{IsAllowed, IsChanged};
 ghost use Rattle.acc_ordered.specs.Row.{HasEnds, AreHalves};
 ghost use Rattle.acc_ordered.specs.Rewritten.{IsWalked};
 
-use crate::entries::{Change, Entry, Found, Outcome, Rewriting};
+use crate::entries::{Change, KeyValue, KeyValueRef, Rewriting, RowOutcome};
 use crate::search::count_below;
 use acc_base::{Fault, Steps};
 use std::alloc::Global;
@@ -28,9 +28,9 @@ pub struct Row<T> {
 
 impl<T> Model for Row<T> {
     ghost use Rattle.std.specs.Prelude.{List};
-    ghost use Rattle.acc_ordered.specs.declared.entries.Entry.{Entry};
+    ghost use Rattle.acc_ordered.specs.declared.entries.KeyValue.{KeyValue};
 
-    ghost Value = { List (Entry T) };
+    ghost Value = { List (KeyValue T) };
 
     ghost use Rattle.acc_ordered.specs.Paired.{entries_of, IsPaired};
 
@@ -41,7 +41,7 @@ impl<T> Model for Row<T> {
 
 impl<T: Copy> Row<T> {
     /// A row of one entry, or `None` where there is no memory.
-    pub fn new(alloc: Global, entry: Entry<T>) -> Option<Row<T>>
+    pub fn new(alloc: Global, entry: KeyValue<T>) -> Option<Row<T>>
         ensures { IfSome result (λ row. row ≡ entry ∷ []) }
     {
         let Ok(mut keys) = Vec::with_capacity(alloc, WIDTH) else {
@@ -66,11 +66,11 @@ impl<T: Copy> Row<T> {
 
     /// The entry at a place.
     #[inline]
-    pub fn at(&self, place: usize) -> Found<'_, T>
+    pub fn at(&self, place: usize) -> KeyValueRef<'_, T>
         requires { place < length self.now }
         ensures { slice_get self.now place ≡ Some (entry_in result) }
     {
-        Found {
+        KeyValueRef {
             key: self.keys[place],
             value: &self.values[place],
         }
@@ -97,7 +97,12 @@ impl<T: Copy> Row<T> {
 
     /// The entries on both sides of a key, which lies behind the first and not behind the last.
     #[inline]
-    pub fn within(&self, key: u64, first: u64, last: u64) -> (Found<'_, T>, Found<'_, T>)
+    pub fn within(
+        &self,
+        key: u64,
+        first: u64,
+        last: u64,
+    ) -> (KeyValueRef<'_, T>, KeyValueRef<'_, T>)
         requires ends { HasEnds first last self.now }
         requires rising { KeysRise self.now }
         requires behind { first < key }
@@ -110,7 +115,7 @@ impl<T: Copy> Row<T> {
     }
 
     /// Makes it a row of one entry.
-    pub fn reset(&mut self, entry: Entry<T>)
+    pub fn reset(&mut self, entry: KeyValue<T>)
         ensures { self.new ≡ entry ∷ [] }
     {
         self.keys.clear();
@@ -120,7 +125,7 @@ impl<T: Copy> Row<T> {
     }
 
     /// Puts an entry whose key is not there yet in its place.
-    pub fn put(&mut self, entry: Entry<T>)
+    pub fn put(&mut self, entry: KeyValue<T>)
         requires rising { KeysRise self.old }
         requires new { at_key entry.key self.old ≡ None }
         requires free { length self.old < 64 }
@@ -133,7 +138,7 @@ impl<T: Copy> Row<T> {
     }
 
     /// Takes out the entry of a key that is there.
-    pub fn take(&mut self, key: u64) -> Entry<T>
+    pub fn take(&mut self, key: u64) -> KeyValue<T>
         requires rising { KeysRise self.old }
         requires there { IsSome (at_key key self.old) }
         ensures entry { at_key key self.old ≡ Some result }
@@ -143,7 +148,7 @@ impl<T: Copy> Row<T> {
         let place = self.place(key);
         let key = self.keys.remove(place);
         let value = self.values.remove(place);
-        Entry { key, value }
+        KeyValue { key, value }
     }
 
     /// Writes the value of a key that is there.
@@ -184,7 +189,7 @@ impl<T: Copy> Row<T> {
     /// Changes the entry of a key, where that is allowed to one row alone. An entry that goes is left in place of the one
     /// that was asked for.
     #[inline]
-    pub fn change(&mut self, change: Change, entry: &mut Entry<T>) -> Outcome
+    pub fn change(&mut self, change: Change, entry: &mut KeyValue<T>) -> RowOutcome
         requires rising { KeysRise self.old }
         requires allowed { IsAllowed change (at_key entry.old.key self.old) }
         requires some { 0 < length self.old }
@@ -195,25 +200,25 @@ impl<T: Copy> Row<T> {
         match change {
             Change::Put => {
                 if len >= WIDTH {
-                    return Outcome::Refused;
+                    return RowOutcome::Refused;
                 }
                 self.put(*entry);
-                Outcome::Done
+                RowOutcome::Done
             }
             Change::Take => {
                 if len == 1 {
-                    return Outcome::Refused;
+                    return RowOutcome::Refused;
                 }
                 *entry = self.take(entry.key);
                 if len == FEW + 1 || len == FEW / 2 + 1 {
-                    Outcome::Few
+                    RowOutcome::Few
                 } else {
-                    Outcome::Done
+                    RowOutcome::Done
                 }
             }
             Change::Write => {
                 self.write(entry.key, entry.value);
-                Outcome::Done
+                RowOutcome::Done
             }
         }
     }

@@ -1,11 +1,11 @@
 //! A balanced tree of entries, each found by its key in a walk from the top.
-ghost use Rattle.std.specs.Prelude.{◌≡◌, ℕ, ◌+◌, ◌*◌, ◌^◌, ◌<◌, ◌≤◌, [], length, min, Some, None, IsSome, IfOk, IfErr, OnOk, OnErr, MatchBool};
+ghost use Rattle.std.specs.Prelude.{◌≡◌, ℕ, ◌+◌, ◌*◌, ◌^◌, ◌<◌, ◌≤◌, [], length, Some, None, IsSome, IfOk, IfErr, OnOk, OnErr, MatchBool};
 ghost use Rattle.acc_ordered.specs.Rewritten.{IsRewritten};
 ghost use Rattle.acc_ordered.specs.Listing.{KeysRise, at_key, first_from, last_before, with_entry, without_key, with_value, values_in, seen};
 ghost use Rattle.acc_ordered.specs.Nodes.{entries_in, height_of, length_of, nodes_in, IsAlone, IsChain, IsFreed};
 
 use crate::changes;
-use crate::entries::{Around, Change, Entry, Found, Outcome, Rewriting};
+use crate::entries::{Change, KeyValue, KeyValueRef, Neighbors, Rewriting, RowOutcome};
 use crate::nodes::{
     Link, change_in_place, copy_into, count_entries, find_around, fitting_at, height_law, new_node,
     pop, push, rewrite_before,
@@ -20,17 +20,17 @@ use std::marker::Model;
 /// entries, whose keys stand apart from the values. Contracts see the list of the entries by rising key, and how many
 /// more there is room for.
 ///
-/// Memory is asked for by [`Tree::reserve`] alone: an entry goes into a row that has place for it, or else into a node
-/// that waits, which gets half of a full row or begins a new one. A removal changes one row in place. Where it leaves 16
-/// or 8 entries, that row is joined with one beside it, if they have at most 32 together, and a node waits again. So does
-/// one whose row becomes empty.
+/// Memory is asked for by [`OrderedTree::reserve`] alone: an entry goes into a row that has place for it, or else into a
+/// node that waits, which gets half of a full row or begins a new one. A removal changes one row in place. Where it leaves
+/// 16 or 8 entries, that row is joined with one beside it, if they have at most 32 together, and a node waits again. So
+/// does one whose row becomes empty.
 ///
 /// A search comes to at most two nodes for each binary digit of the number of entries. It then makes at most fifteen
 /// comparisons in one row, none of which is a branch.
-pub struct Tree<T: Copy> {
+pub struct OrderedTree<T: Copy> {
     alloc: Global,
     // What stands in nodes that wait.
-    blank: Entry<T>,
+    blank: KeyValue<T>,
     root: Link<T>,
     spare: Link<T>,
     // How many nodes wait.
@@ -39,7 +39,7 @@ pub struct Tree<T: Copy> {
     nodes: u64,
 }
 
-impl<T: Copy> Model for Tree<T> {
+impl<T: Copy> Model for OrderedTree<T> {
     ghost use Rattle.acc_ordered.specs.Listing.{Listing};
 
     ghost Value = { Listing T };
@@ -51,10 +51,10 @@ impl<T: Copy> Model for Tree<T> {
     ghost invariant = { IsTreeSound };
 }
 
-impl<T: Copy> Drop for Tree<T> {
+impl<T: Copy> Drop for OrderedTree<T> {
     fn drop(mut self) {
         drop_chain(self.spare.take());
-        let Tree {
+        let OrderedTree {
             alloc: _,
             blank: _,
             root: _,
@@ -65,18 +65,18 @@ impl<T: Copy> Drop for Tree<T> {
     }
 }
 
-impl<T: Copy> Tree<T> {
+impl<T: Copy> OrderedTree<T> {
     /// A tree without entries and without room. It needs no memory. The blank value stands in nodes that hold no entry,
     /// and no call answers it.
-    pub fn new(alloc: Global, blank: T) -> Tree<T>
+    pub fn new(alloc: Global, blank: T) -> OrderedTree<T>
         ensures entries { result.entries ≡ [] }
         ensures room { result.room ≡ 0 }
     {
-        let blank = Entry {
+        let blank = KeyValue {
             key: 0,
             value: blank,
         };
-        Tree {
+        OrderedTree {
             alloc,
             blank,
             root: None,
@@ -115,31 +115,17 @@ impl<T: Copy> Tree<T> {
 
     /// The entry of a key, if it is there.
     #[inline]
-    pub fn get(&self, key: u64) -> Option<Found<'_, T>>
+    pub fn get(&self, key: u64) -> Option<KeyValueRef<'_, T>>
         ensures { seen result ≡ at_key key self.now.entries }
     {
-        self.get_counted(key, &mut Steps::new())
-    }
-
-    /// The entry of a key, if it is there, by at most two steps for each binary digit of the number of entries. There is
-    /// one at least where there are entries. A step is a node; the keys of the one row that is read are not counted, of
-    /// which at most fifteen are compared. At most 2^32 were counted before.
-    #[inline]
-    pub fn get_counted<'a>(&'a self, key: u64, steps: &mut Steps) -> Option<Found<'a, T>>
-        requires limit { steps.old ≤ 2 ^ 32 }
-        ensures found { seen result ≡ at_key key self.now.entries }
-        ensures not_fewer { steps.old ≤ steps.new }
-        ensures least { 0 < length self.now.entries → steps.old < steps.new }
-        ensures steps { (d : ℕ) → length self.now.entries < 2 ^ d → steps.new ≤ steps.old + 2 * d }
-    {
         self.laws();
-        let found = self.around_counted(key, steps).from?;
+        let found = self.around(key).from?;
         if found.key == key { Some(found) } else { None }
     }
 
     /// The entries on both sides of a key.
     #[inline]
-    pub fn around(&self, key: u64) -> Around<'_, T>
+    pub fn around(&self, key: u64) -> Neighbors<'_, T>
         ensures before { seen result.before ≡ last_before key self.now.entries }
         ensures from { seen result.from ≡ first_from key self.now.entries }
     {
@@ -147,9 +133,10 @@ impl<T: Copy> Tree<T> {
     }
 
     /// The entries on both sides of a key, by at most two steps for each binary digit of the number of entries. There is
-    /// one at least where there are entries. A step is as in [`Tree::get_counted`]. At most 2^32 were counted before.
+    /// one at least where there are entries. A step is a node; the keys of the one row that is read are not counted, of
+    /// which at most fifteen are compared. At most 2^32 were counted before.
     #[inline]
-    pub fn around_counted<'a>(&'a self, key: u64, steps: &mut Steps) -> Around<'a, T>
+    pub fn around_counted<'a>(&'a self, key: u64, steps: &mut Steps) -> Neighbors<'a, T>
         requires limit { steps.old ≤ 2 ^ 32 }
         ensures before { seen result.before ≡ last_before key self.now.entries }
         ensures from { seen result.from ≡ first_from key self.now.entries }
@@ -162,21 +149,14 @@ impl<T: Copy> Tree<T> {
     }
 
     /// The entry of least key from `key` on.
-    pub fn next(&self, key: u64) -> Option<Found<'_, T>>
+    pub fn next(&self, key: u64) -> Option<KeyValueRef<'_, T>>
         ensures { seen result ≡ first_from key self.now.entries }
     {
         self.around(key).from
     }
 
-    /// The entry of greatest key before `key`.
-    pub fn before(&self, key: u64) -> Option<Found<'_, T>>
-        ensures { seen result ≡ last_before key self.now.entries }
-    {
-        self.around(key).before
-    }
-
     /// Puts an entry in its place by its key, which is not there yet. It needs no memory.
-    pub fn insert(&mut self, entry: Entry<T>)
+    pub fn insert(&mut self, entry: KeyValue<T>)
         requires room { 1 ≤ self.old.room }
         requires new { at_key entry.key self.old.entries ≡ None }
         ensures entries { self.new.entries ≡ with_entry entry self.old.entries }
@@ -187,14 +167,14 @@ impl<T: Copy> Tree<T> {
     }
 
     /// Takes out the entry of a key that is there, and answers it. It needs no memory.
-    pub fn remove(&mut self, key: u64) -> Entry<T>
+    pub fn remove(&mut self, key: u64) -> KeyValue<T>
         requires there { IsSome (at_key key self.old.entries) }
         ensures entry { at_key key self.old.entries ≡ Some result }
         ensures entries { self.new.entries ≡ without_key key self.old.entries }
         ensures room { self.old.room ≤ self.new.room }
     {
         height_law(&self.root);
-        let mut entry = Entry {
+        let mut entry = KeyValue {
             key,
             value: self.blank.value,
         };
@@ -209,7 +189,7 @@ impl<T: Copy> Tree<T> {
         ensures entries { self.new.entries ≡ with_value key value self.old.entries }
         ensures room { self.new.room ≡ self.old.room }
     {
-        change_in_place(&mut self.root, Change::Write, &mut Entry { key, value });
+        change_in_place(&mut self.root, Change::Write, &mut KeyValue { key, value });
     }
 
     /// Rewrites the last entry before a key, if there is one and the change says what its value becomes. It answers
@@ -221,13 +201,6 @@ impl<T: Copy> Tree<T> {
         rewrite_before(&mut self.root, key, change).unwrap_or(false)
     }
 
-    /// How many entries there are, or the greatest `usize` where they are more than that. It counts them row by row.
-    pub fn len(&self) -> usize
-        ensures { result ≡ min (length self.now.entries) usize.MAX }
-    {
-        count_entries(&self.root)
-    }
-
     /// The values of all entries by rising key, in a vector of their own.
     ///
     /// # Errors
@@ -237,13 +210,13 @@ impl<T: Copy> Tree<T> {
         ensures ok { IfOk result (λ copied. copied.items ≡ values_in self.now.entries) }
         ensures only { IfErr result (λ fault. fault ≡ Fault.Memory) }
     {
-        let mut copied = Vec::with_capacity(alloc, self.len())?;
+        let mut copied = Vec::with_capacity(alloc, count_entries(&self.root))?;
         copy_into(&self.root, &mut copied)?;
         Ok(copied)
     }
 
     /// That the keys rise. Nothing is done.
-    pub fn laws(&self)
+    fn laws(&self)
         ensures { KeysRise self.now.entries }
     {
         let _ = &self.nodes;
@@ -251,7 +224,7 @@ impl<T: Copy> Tree<T> {
 }
 
 /// Puts an entry into the row where it goes, or into a node that waits where that row is full.
-fn put<T: Copy>(root: &mut Link<T>, spare: &mut Link<T>, waiting: &mut u64, entry: Entry<T>)
+fn put<T: Copy>(root: &mut Link<T>, spare: &mut Link<T>, waiting: &mut u64, entry: KeyValue<T>)
     requires alone { IsAlone root.old }
     requires limit { height_of root.old < 2 ^ 61 }
     requires rising { KeysRise (entries_in root.old) }
@@ -268,13 +241,13 @@ fn put<T: Copy>(root: &mut Link<T>, spare: &mut Link<T>, waiting: &mut u64, entr
 {
     let mut same = entry;
     match change_in_place(root, Change::Put, &mut same) {
-        Outcome::Refused => put_anew(root, spare, waiting, entry),
-        Outcome::Done | Outcome::Few => {}
+        RowOutcome::Refused => put_anew(root, spare, waiting, entry),
+        RowOutcome::Done | RowOutcome::Few => {}
     }
 }
 
 /// Puts an entry into a node that waits.
-fn put_anew<T: Copy>(root: &mut Link<T>, spare: &mut Link<T>, waiting: &mut u64, entry: Entry<T>)
+fn put_anew<T: Copy>(root: &mut Link<T>, spare: &mut Link<T>, waiting: &mut u64, entry: KeyValue<T>)
     requires alone { IsAlone root.old }
     requires limit { height_of root.old < 2 ^ 61 }
     requires rising { KeysRise (entries_in root.old) }
@@ -300,7 +273,7 @@ fn put_anew<T: Copy>(root: &mut Link<T>, spare: &mut Link<T>, waiting: &mut u64,
 
 /// Takes the entry of a key out of its row, or out of the tree with its node where it has no other beside it, and writes
 /// it. It answers the node that became free, if one did.
-fn take_out<T: Copy>(root: &mut Link<T>, entry: &mut Entry<T>) -> Link<T>
+fn take_out<T: Copy>(root: &mut Link<T>, entry: &mut KeyValue<T>) -> Link<T>
     requires alone { IsAlone root.old }
     requires limit { height_of root.old < 2 ^ 61 }
     requires rising { KeysRise (entries_in root.old) }
@@ -313,9 +286,9 @@ fn take_out<T: Copy>(root: &mut Link<T>, entry: &mut Entry<T>) -> Link<T>
 {
     let key = entry.key;
     match change_in_place(root, Change::Take, entry) {
-        Outcome::Done => None,
-        Outcome::Few => join_few(root, key),
-        Outcome::Refused => {
+        RowOutcome::Done => None,
+        RowOutcome::Few => join_few(root, key),
+        RowOutcome::Refused => {
             let Some(tree) = root.take() else {
                 unreachable!()
             };
@@ -367,7 +340,7 @@ fn join_few<T: Copy>(root: &mut Link<T>, key: u64) -> Link<T>
 /// Adds nodes that wait until `count` do, or answers that there is no memory for them.
 fn make_nodes<T: Copy>(
     alloc: Global,
-    blank: Entry<T>,
+    blank: KeyValue<T>,
     spare: &mut Link<T>,
     waiting: &mut u64,
     nodes: &mut u64,

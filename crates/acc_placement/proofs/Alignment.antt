@@ -1,8 +1,6 @@
 -- A fact of each range of a list, where the list changes at an index.
-use Rattle.std.proofs.Common.{◌≡◌, ℕ, zero, suc, ◌+◌, ◌<◌, ◌%◌, List, [], ◌∷◌, ◌++◌, arith, subst, sym, length, take, drop, get_or}
+use Rattle.std.proofs.Common.{◌≡◌, ℕ, zero, suc, ◌+◌, ◌<◌, ◌%◌, List, [], ◌∷◌, ◌++◌, arith, subst, sym, length, get_or}
 use Rattle.std.specs.Prelude.{All, Any}
-use Rattle.std.specs.List.{remove}
-use Rattle.std.proofs.lemmas.List.Elements.{All-append, All-take, All-drop}
 use Rattle.acc_base.specs.Blocks.{rounded}
 
 -- what holds of each of two lists holds of the first
@@ -23,10 +21,6 @@ All-middle P l x r a = All-right P l (x ∷ r) a 0 x (omega arith)
 -- what holds of each range holds of those behind one
 pub All-behind : (P : ℕ × ℕ → Type 0) (l : List (ℕ × ℕ)) (x : ℕ × ℕ) (r : List (ℕ × ℕ)) → All P (l ++ x ∷ r) → All P r
 All-behind P l x r a k d lt = All-right P l (x ∷ r) a (suc k) d (omega arith)
-
--- what holds of each range holds of each that is left without one
-pub All-remove : (P : ℕ × ℕ → Type 0) (xs : List (ℕ × ℕ)) (i : ℕ) → All P xs → All P (remove xs i)
-All-remove P xs i a = All-append P (take i xs) (drop (suc i) xs) (All-take P i xs a) (All-drop P (suc i) xs a)
 
 -- the range that an index reads
 pub All-read : (P : ℕ × ℕ → Type 0) (xs : List (ℕ × ℕ)) (i : ℕ) (x : ℕ × ℕ) → x ≡ get_or xs i x → i < length xs → All P xs → P x

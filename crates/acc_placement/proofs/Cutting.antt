@@ -1,5 +1,5 @@
 -- Taking the front of a hole, and giving a range back.
-use Rattle.std.proofs.Common.{◌≡◌, ℕ, ◌+◌, ◌-◌, ◌<◌, ◌≤◌, List, [], ◌∷◌, ◌++◌, inl, inr, arith}
+use Rattle.std.proofs.Common.{◌≡◌, ℕ, ◌+◌, ◌-◌, ◌<◌, ◌≤◌, List, ◌∷◌, ◌++◌, inl, inr, arith}
 use Rattle.std.proofs.lemmas.Bool.{cases_lt}
 use Rattle.acc_base.specs.Holes.{IsRising}
 use Rattle.acc_placement.specs.Changes.{IsCut, IsFilled}
@@ -73,28 +73,5 @@ fill_between low l r high p n s below pos fits t =
       kept = λ a u. elim u [
         | inl i ↦ elim (in_parts l r a i) [ inl j ↦ in_join_left l ((p, n) ∷ r) a j | inr j ↦ in_join_right l ((p, n) ∷ r) a (inr j) ]
         | inr w ↦ in_join_right l ((p, n) ∷ r) a (inl w)
-      ];
-    }
-
--- the same where the last of the ranges before ends at the place
-pub fill_onto : (low : ℕ) (l : List (ℕ × ℕ)) (x : ℕ × ℕ) (r : List (ℕ × ℕ)) (high p n : ℕ) → IsRising low (l ++ x ∷ []) high → x.0 + x.1 ≡ p → 0 < n → p + n ≤ high → IsRising (p + n + 1) r high → IsFilled low high (l ++ x ∷ r) (l ++ (x.0, x.1 + n) ∷ r) p n
-fill_onto low l x r high p n s touch pos fits t =
-    let q = parts low l x [] high s in
-    let new : List (ℕ × ℕ) = (x.0, x.1 + n) ∷ r in
-    record {
-      rising = rising_join low l new high q.front (q.below, omega arith, omega arith, rising_from (p + n + 1) (x.0 + (x.1 + n) + 1) r high (omega arith) t);
-      used = omega (arith, total-append l (x ∷ r), total-append l new);
-      free = λ a i. elim (in_parts l new a i) [
-        | inl j ↦ inl (in_join_left l (x ∷ r) a j)
-        | inr (inl j) ↦ elim (cases_lt a p) [ inl lt ↦ inl (in_join_right l (x ∷ r) a (inl (j.0, omega arith))) | inr le ↦ inr (le, omega arith) ]
-        | inr (inr j) ↦ inl (in_join_right l (x ∷ r) a (inr j))
-      ];
-      kept = λ a u. elim u [
-        | inl i ↦ elim (in_parts l (x ∷ r) a i) [
-          | inl j ↦ in_join_left l new a j
-          | inr (inl j) ↦ in_join_right l new a (inl (j.0, omega arith))
-          | inr (inr j) ↦ in_join_right l new a (inr j)
-        ]
-        | inr w ↦ in_join_right l new a (inl (omega arith, omega arith))
       ];
     }

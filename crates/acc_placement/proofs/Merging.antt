@@ -203,9 +203,6 @@ pub record IsInserted (old new : List (ℕ × ℕ)) (x : ℕ × ℕ) : Type 0 wh
   pub lower : AllByRecursion (λ h. h.0 ≤ x.0) before
   pub upper : AllByRecursion (λ h. x.0 < h.0) behind
 
-pub length-inserted : (old new : List (ℕ × ℕ)) (x : ℕ × ℕ) → IsInserted old new x → length new ≡ length old + 1
-length-inserted old new x i = omega (arith, ap length i.old_is, ap length i.new_is, length-append i.before (x ∷ i.behind), length-append i.before i.behind)
-
 pub inserted_aligned : (old new : List (ℕ × ℕ)) (x : ℕ × ℕ) → IsInserted old new x → IsAligned x → All IsAligned old → All IsAligned new
 inserted_aligned old new x i here a =
     let b : All IsAligned (i.before ++ i.behind) = subst (λ (h : List (ℕ × ℕ)). All IsAligned h) i.old_is a in

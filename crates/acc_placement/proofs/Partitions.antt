@@ -5,8 +5,8 @@ use Rattle.std.proofs.lemmas.List.{append-nil}
 use Rattle.std.proofs.lemmas.List.Elements.{All-append, All-cons}
 use Rattle.acc_base.specs.Holes.{IsIn, IsDisjoint}
 use Rattle.acc_base.specs.Section.{Spans}
-use Rattle.acc_placement.specs.Ranges.{IsFit, HasAddress, IsAligned}
-use Rattle.acc_placement.specs.Space.{Space, IsCanonical, IsPartition, IsTaken, IsSameSpace}
+use Rattle.acc_placement.specs.Ranges.{HasAddress, IsAligned}
+use Rattle.acc_placement.specs.Space.{Space, IsCanonical, IsPartition, IsTaken}
 use Rattle.acc_placement.proofs.Rising.{in_bounds, rising_disjoint, disjoint_join, in_join_left, in_join_right, in_parts, total-append}
 use Rattle.acc_placement.proofs.Alignment.{All-left, All-right, All-middle, All-behind}
 use Rattle.std.proofs.lemmas.List.{take-append-drop}
@@ -19,20 +19,6 @@ split_at hs i d lt = sym (take-append-drop i hs) ∙ ap (λ r. take i hs ++ r) (
 -- the same, round the range that was read there
 pub split_read : (hs : List (ℕ × ℕ)) (i : ℕ) (x : ℕ × ℕ) → x ≡ get_or hs i x → i < length hs → hs ≡ take i hs ++ x ∷ drop (suc i) hs
 split_read hs i x is lt = split_at hs i x lt ∙ ap (λ (y : ℕ × ℕ). take i hs ++ y ∷ drop (suc i) hs) (sym is)
-
--- the taken ranges of an unchanged space
-pub partition_unchanged : (old new : Space) (ts : List (ℕ × ℕ)) → IsSameSpace old new → IsPartition old ts → IsPartition new ts
-partition_unchanged old new ts u p =
-    record {
-      count = p.count ∙ sym u.taken;
-      sizes = rw (u.holes, u.size) p.sizes;
-      aligned = p.aligned;
-      not_empty = p.not_empty;
-      disjoint = p.disjoint;
-      within = λ a i. rw (u.base, u.size) (p.within a i);
-      not_free = λ a i h. p.not_free a i (rw u.holes at h);
-      covered = λ a w. rw u.holes (p.covered a (rw (u.base, u.size) at w));
-    }
 
 -- a range that stands elsewhere in the list
 in_moved : (l r : List (ℕ × ℕ)) (x : ℕ × ℕ) (a : ℕ) → IsIn (x ∷ (l ++ r)) a → IsIn (l ++ x ∷ r) a
@@ -81,14 +67,6 @@ taken_at r ts i x n is size lt p =
 -- the list without the range at an index, which was given back
 pub partition_without : (old new : Space) (ts : List (ℕ × ℕ)) (i : ℕ) (x : ℕ × ℕ) (n : ℕ) → x ≡ get_or ts i x → n ≡ x.1 → i < length ts → IsPartition old ts → ((before after : List (ℕ × ℕ)) → IsPartition old (before ++ (x.0, n) ∷ after) → IsPartition new (before ++ after)) → IsPartition new (remove ts i)
 partition_without old new ts i x n is size lt p back = back (take i ts) (drop (suc i) ts) (rw size (subst (λ (l : List (ℕ × ℕ)). IsPartition old l) (split_read ts i x is lt) p))
-
--- addresses of the space that are in no taken range are free
-pub fit_where_clear : (r : Space) (ts : List (ℕ × ℕ)) (n q : ℕ) → IsPartition r ts → ((a : ℕ) → Spans q n a → Spans r.base r.size a × ¬ IsIn ts a) → IsFit r.holes n q
-fit_where_clear r ts n q p clear a w = let c = clear a w in elim (p.covered a c.0) [ inl h ↦ h | inr i ↦ absurd (c.1 i) ]
-
--- free addresses are in the space and in no taken range
-pub clear_where_fit : (r : Space) (ts : List (ℕ × ℕ)) (n q : ℕ) → IsCanonical r → IsPartition r ts → IsFit r.holes n q → (a : ℕ) → Spans q n a → Spans r.base r.size a × ¬ IsIn ts a
-clear_where_fit r ts n q s p fit a w = (in_bounds r.base r.holes (r.base + r.size) a s.rising (fit a w), λ i. p.not_free a i (fit a w))
 
 -- no address is in two of the taken ranges and the holes
 pub all_disjoint : (r : Space) (ts : List (ℕ × ℕ)) → IsCanonical r → IsPartition r ts → IsDisjoint (ts ++ r.holes)

@@ -102,7 +102,7 @@ impl Holes {
         ensures spare { self.old.spare ≤ self.new.spare + 1 }
         ensures spare_kept { OnErr result (self.old.spare ≤ self.new.spare) }
     {
-        let Some(_) = self.fit(need) else {
+        let Some(_) = self.fit_counted(need, &mut Steps::new()) else {
             return Err(Fault::DeviceFull {
                 item: 0,
                 need: rounded(need),
@@ -110,16 +110,6 @@ impl Holes {
         };
         self.reserve(1)?;
         Ok(self.take_reserved(need))
-    }
-
-    /// The place that `take` would choose.
-    fn fit(&self, need: u64) -> Option<u64>
-        requires need { IsFromOne MEMORY_MAX need }
-        ensures place { IfSome result (IsLeastFit self.now.holes (rounded_of need)) }
-        ensures none { IfNone result ((q : ℕ) → IsFit self.now.holes (rounded_of need) q → ⊥) }
-        ensures canonical { IsCanonical self.now }
-    {
-        self.fit_counted(need, &mut Steps::new())
     }
 
     /// The place that [`Holes::take`] would choose; `None` exactly where no hole is large enough. It makes at most two
@@ -276,7 +266,7 @@ impl Holes {
     }
 
     /// The bounds of the space, and that its holes are multiples of 16, rise and do not touch. Nothing is done.
-    pub fn laws(&self)
+    pub(crate) fn laws(&self)
         ensures { IsCanonical self.now }
     {
         let _ = &self.base;

@@ -12,11 +12,10 @@ use Rattle.acc_base.specs.declared.mappings.Found.TheVariants.{Partly, Absent}
 use Rattle.acc_base.specs.Section.{is_empty, is_within, is_apart, end_of}
 use Rattle.acc_base.specs.Ranges.{where_is, where_is_apart, without_ranges, range_around, range_from, range_of, found_in}
 use Rattle.acc_base.specs.Accounts.{EachPair, IsBelow}
-use Rattle.acc_base.proofs.Elements.{IfSome-weaker, find_passes, AllByRecursion-weaker, AllByRecursion-both, AllByRecursion-filter, EachPair-filter, find-none, find_none, filter-kept, filter-none, found_has, list_all-from, list_all-to}
+use Rattle.acc_base.proofs.Elements.{IfSome-weaker, find_passes, AllByRecursion-weaker, AllByRecursion-both, AllByRecursion-filter, EachPair-filter, find-none, find_none, filter-kept, filter-none, found_has, list_all-from, list_all-to, all_behind}
 use Rattle.acc_base.proofs.Where.{absent_says}
 use Rattle.acc_base.proofs.Lookups.{at-own}
 use Rattle.acc_base.proofs.RangeChanges.{block_of}
-use Rattle.acc_ordered.proofs.Steps.{all_behind}
 use Rattle.acc_present.specs.Present.{AreMapped}
 use Rattle.acc_present.specs.Kept.{ranges_from, IsNext}
 

@@ -12,8 +12,8 @@ use Rattle.acc_base.proofs.Results.{equal}
 use Rattle.acc_base.proofs.Lookups.{at-own}
 use Rattle.acc_base.proofs.Elements.{AllByRecursion-map, AllByRecursion-both}
 use Rattle.acc_base.proofs.RangeChanges.{block_of, KeepsPlace, risen_keeps, fallen_keeps, cleared_keeps}
-use Rattle.acc_present.specs.declared.ranges.Change.{Change}
-use Rattle.acc_present.specs.declared.ranges.Change.TheVariants.{Raise, Lower, Clear}
+use Rattle.acc_present.specs.declared.ranges.CounterChange.{CounterChange}
+use Rattle.acc_present.specs.declared.ranges.CounterChange.TheVariants.{Raise, Lower, Clear}
 use Rattle.acc_present.specs.Present.{IsWithinLimit}
 use Rattle.acc_present.specs.Kept.{changed_by, IsChangeable}
 
@@ -45,12 +45,12 @@ limit_raised m counter block rs r own found less h = AllByRecursion-map (IsWithi
     go x o l false t = l
 
 -- a change of a counter that is allowed keeps the limit, and the place of the range
-pub changed_within : (change : Change) (m block : ℕ) (rs : List Range) (r : Range) → EachPair (λ (s : Range) (t : Range). s.block ≡ t.block → ⊥) rs → range_of block rs ≡ Some r → IsChangeable change m r → AllByRecursion (IsWithinLimit m) rs → AllByRecursion (IsWithinLimit m) (changed_at block (changed_by change) rs)
+pub changed_within : (change : CounterChange) (m block : ℕ) (rs : List Range) (r : Range) → EachPair (λ (s : Range) (t : Range). s.block ≡ t.block → ⊥) rs → range_of block rs ≡ Some r → IsChangeable change m r → AllByRecursion (IsWithinLimit m) rs → AllByRecursion (IsWithinLimit m) (changed_at block (changed_by change) rs)
 changed_within (Raise counter) m block rs r own found below h = limit_raised m counter block rs r own found below h
 changed_within (Lower counter) m block rs r own found below h = limit_changed m block (fallen counter) rs (limit_fallen m counter) h
 changed_within Clear m block rs r own found below h = limit_changed m block cleared rs (limit_cleared m) h
 
-pub changed_keeps : (change : Change) → KeepsPlace (changed_by change)
+pub changed_keeps : (change : CounterChange) → KeepsPlace (changed_by change)
 changed_keeps (Raise counter) = risen_keeps counter
 changed_keeps (Lower counter) = fallen_keeps counter
 changed_keeps Clear = cleared_keeps

@@ -10,23 +10,23 @@ use Rattle.acc_base.specs.declared.mappings.Found.TheVariants.{Absent}
 use Rattle.acc_base.specs.Ranges.{range_of, range_from, where_is_apart, counter_in, risen, fallen, cleared}
 use Rattle.acc_base.specs.Register.{Region}
 use Rattle.acc_index.specs.Indexed.{IndexState, value_at}
-use Rattle.acc_ordered.specs.declared.entries.Entry.{Entry}
-use Rattle.acc_present.specs.declared.ranges.Change.{Change}
-use Rattle.acc_present.specs.declared.ranges.Change.TheVariants.{Raise, Lower, Clear}
+use Rattle.acc_ordered.specs.declared.entries.KeyValue.{KeyValue}
+use Rattle.acc_present.specs.declared.ranges.CounterChange.{CounterChange}
+use Rattle.acc_present.specs.declared.ranges.CounterChange.TheVariants.{Raise, Lower, Clear}
 use Rattle.acc_present.specs.Present.{AreMapped}
 
 -- ---- the ranges
 
 -- the range of an entry, whose key is its start
-abbrev pub range_in : Entry Range → Range
+abbrev pub range_in : KeyValue Range → Range
 range_in e = record { section = record { start = e.key; len = e.value.section.len }; block = e.value.block; structured = e.value.structured; dynamic = e.value.dynamic }
 
 -- the ranges of some entries
-abbrev pub ranges_in : List (Entry Range) → List Range
+abbrev pub ranges_in : List (KeyValue Range) → List Range
 ranges_in entries = map range_in entries
 
 -- the entry has the start of its range for a key, which is an address
-pub record IsKeyed (e : Entry Range) : Type 0 where
+pub record IsKeyed (e : KeyValue Range) : Type 0 where
   pub start : e.value.section.start ≡ e.key
   pub bound : e.key < 2 ^ 64
 
@@ -41,7 +41,7 @@ abbrev pub start_at : ℕ → List Range → Option ℕ
 start_at block ranges = option_map (λ r. r.section.start) (range_of block ranges)
 
 -- the ranges are mapped, each by its start, and the start of each block's range is kept
-pub record IsIndexed (entries : List (Entry Range)) (starts : ℕ → Option ℕ) : Type 0 where
+pub record IsIndexed (entries : List (KeyValue Range)) (starts : ℕ → Option ℕ) : Type 0 where
   pub mapped : AreMapped (ranges_in entries)
   pub keyed : AllByRecursion IsKeyed entries
   pub agrees : (block : ℕ) → starts block ≡ start_at block (ranges_in entries)
@@ -60,25 +60,25 @@ IsNext s blocks rs (Some r) = (range_from r.section.start rs ≡ Some r) × (whe
 -- ---- a change of a counter
 
 -- what it makes of a range
-abbrev pub changed_by : Change → Range → Range
+abbrev pub changed_by : CounterChange → Range → Range
 changed_by (Raise counter) = risen counter
 changed_by (Lower counter) = fallen counter
 changed_by Clear = cleared
 
 -- a counter that rises is below the limit
-abbrev pub IsChangeable : Change → ℕ → Range → Type 0
+abbrev pub IsChangeable : CounterChange → ℕ → Range → Type 0
 IsChangeable (Raise counter) most r = counter_in counter r < most
 IsChangeable (Lower counter) most r = ⊤
 IsChangeable Clear most r = ⊤
 
 -- the test of that
-abbrev pub allows : Change → ℕ → Range → Bool
+abbrev pub allows : CounterChange → ℕ → Range → Bool
 allows (Raise counter) most r = nat_lt (counter_in counter r) most
 allows (Lower counter) most r = true
 allows Clear most r = true
 
 -- what it makes of the range that is mapped to a block, where that is allowed
-abbrev pub recounted : ℕ → Change → ℕ → Range → Option Range
+abbrev pub recounted : ℕ → CounterChange → ℕ → Range → Option Range
 recounted block change most r = if r.block == block && allows change most r then Some (changed_by change r) else None
 
 -- ---- the open regions

@@ -11,11 +11,11 @@ ghost use Rattle.acc_ordered.specs.Listing.{seen};
 ghost use Rattle.acc_present.specs.Present.{IsWithinLimit, new_table, with_ranges, with_regions, HasRange, HasRegion, IsToldBy, IsRoomKept, IsRangeRoomTaken, IsRegionRoomTaken, IsRoomMissing, IsMemoryNeeded, IsLawful, region_of};
 ghost use Rattle.acc_present.specs.Kept.{IsNext, IsChangeable, changed_by};
 
-use crate::ranges::{Change, Recount, changed, told_by, value_of};
+use crate::ranges::{CounterChange, Recount, changed, told_by, value_of};
 use crate::register::{OpenRegion, Register};
 use acc_base::{Counter, Counters, Fault, Found, Holding, Range, Section, Steps};
 use acc_index::Index;
-use acc_ordered::{Entry, Found as InTree, Tree};
+use acc_ordered::{KeyValue, KeyValueRef, OrderedTree};
 use std::alloc::Global;
 use std::marker::Model;
 
@@ -25,13 +25,13 @@ use std::marker::Model;
 /// Contracts see the table, and the room that was made for more beside it. A refused call leaves the table as it was.
 /// Only `new`, `add`, `enter` and `reserve` allocate for it, and `copy_ranges` and `copy_regions` for their results.
 ///
-/// The ranges stand in a [`Tree`] by rising start. The start of each block's range stands in an [`Index`] beside it, and is
-/// found mostly without a search.
+/// The ranges stand in an [`OrderedTree`] by rising start. The start of each block's range stands in an [`Index`] beside
+/// it, and is found mostly without a search.
 #[derive(Drop)]
 pub struct Present {
     counter_max: u64,
     // By start.
-    ranges: Tree<Range>,
+    ranges: OrderedTree<Range>,
     // The host address at which the range of each block begins.
     starts: Index<u64>,
     register: Register,
@@ -57,7 +57,7 @@ impl Model for Present {
 
 /// The range that was found, if one was.
 #[inline]
-fn range_if(found: Option<InTree<'_, Range>>) -> Option<Range>
+fn range_if(found: Option<KeyValueRef<'_, Range>>) -> Option<Range>
     ensures { result ≡ option_map (λ e. e.value) (seen found.entry) }
 {
     Some(*found?.value)
@@ -95,7 +95,7 @@ impl Present {
         };
         Present {
             counter_max,
-            ranges: Tree::new(alloc, blank),
+            ranges: OrderedTree::new(alloc, blank),
             starts: Index::new(alloc),
             register: Register::new(alloc),
         }
@@ -321,7 +321,7 @@ impl Present {
         ensures room_holdings { self.old.room.holdings ≤ self.new.room.holdings }
     {
         let start = range.section.start;
-        self.ranges.insert(Entry {
+        self.ranges.insert(KeyValue {
             key: start,
             value: range,
         });
@@ -419,7 +419,7 @@ impl Present {
         ensures unchanged { OnErr result (self.new.table ≡ self.old.table) }
         ensures room { IsRoomKept self.old.room self.new.room }
     {
-        if self.change_near(Change::Raise(counter), block, at) {
+        if self.change_near(CounterChange::Raise(counter), block, at) {
             return Ok(());
         }
         self.count(counter, self.mapped(block))
@@ -438,14 +438,14 @@ impl Present {
         if self.counter_max <= value_of(counter, range) {
             return Err(Fault::CounterFull { item: 0 });
         }
-        self.change(Change::Raise(counter), range);
+        self.change(CounterChange::Raise(counter), range);
         Ok(())
     }
 
     /// Changes a counter of the range that is mapped to a block, if that is the last one that begins at or before the
     /// address `at`. A counter that rises has to be below the limit. It answers whether it changed one, by one search.
     #[inline]
-    fn change_near(&mut self, change: Change, block: u64, at: u64) -> bool
+    fn change_near(&mut self, change: CounterChange, block: u64, at: u64) -> bool
         ensures changed { OnTrue result (self.new.table ≡ with_ranges self.old.table (changed_at block (changed_by change) self.old.table.ranges)) }
         ensures below { OnTrue result ((range : Range) × (range_of block self.old.table.ranges ≡ Some range) × IsChangeable change self.old.table.counter_max range) }
         ensures unchanged { result ≡ false → self.new.table ≡ self.old.table }
@@ -461,7 +461,7 @@ impl Present {
     }
 
     /// Changes a counter of a mapped range. One that rises is below the limit.
-    fn change(&mut self, change: Change, range: Range)
+    fn change(&mut self, change: CounterChange, range: Range)
         requires there { range_of range.block self.old.table.ranges ≡ Some range }
         requires below { IsChangeable change self.old.table.counter_max range }
         ensures table { self.new.table ≡ with_ranges self.old.table (changed_at range.block (changed_by change) self.old.table.ranges) }
@@ -476,7 +476,10 @@ impl Present {
         ensures table { self.new.table ≡ with_ranges self.old.table (changed_at block (fallen Structured) self.old.table.ranges) }
         ensures room { IsRoomKept self.old.room self.new.room }
     {
-        self.change(Change::Lower(Counter::Structured), self.mapped(block));
+        self.change(
+            CounterChange::Lower(Counter::Structured),
+            self.mapped(block),
+        );
     }
 
     /// Lowers the dynamic counter of the range that is mapped to a block. One is. Zero stays zero.
@@ -485,7 +488,7 @@ impl Present {
         ensures table { self.new.table ≡ with_ranges self.old.table (changed_at block (fallen Dynamic) self.old.table.ranges) }
         ensures room { IsRoomKept self.old.room self.new.room }
     {
-        self.change(Change::Lower(Counter::Dynamic), self.mapped(block));
+        self.change(CounterChange::Lower(Counter::Dynamic), self.mapped(block));
     }
 
     /// Sets the dynamic counter of the range that is mapped to a block to 0 (OpenACC 3.3, the finalize clause). One is.
@@ -494,7 +497,7 @@ impl Present {
         ensures table { self.new.table ≡ with_ranges self.old.table (changed_at block cleared self.old.table.ranges) }
         ensures room { IsRoomKept self.old.room self.new.room }
     {
-        self.change(Change::Clear, self.mapped(block));
+        self.change(CounterChange::Clear, self.mapped(block));
     }
 
     /// Lowers a counter of the range that is mapped to a block, as [`Present::drop_structured`] and
@@ -505,8 +508,8 @@ impl Present {
         ensures table { self.new.table ≡ with_ranges self.old.table (changed_at block (fallen counter) self.old.table.ranges) }
         ensures room { IsRoomKept self.old.room self.new.room }
     {
-        if !self.change_near(Change::Lower(counter), block, at) {
-            self.change(Change::Lower(counter), self.mapped(block));
+        if !self.change_near(CounterChange::Lower(counter), block, at) {
+            self.change(CounterChange::Lower(counter), self.mapped(block));
         }
     }
 
@@ -517,8 +520,8 @@ impl Present {
         ensures table { self.new.table ≡ with_ranges self.old.table (changed_at block cleared self.old.table.ranges) }
         ensures room { IsRoomKept self.old.room self.new.room }
     {
-        if !self.change_near(Change::Clear, block, at) {
-            self.change(Change::Clear, self.mapped(block));
+        if !self.change_near(CounterChange::Clear, block, at) {
+            self.change(CounterChange::Clear, self.mapped(block));
         }
     }
 

@@ -79,7 +79,7 @@ pub fn value_of(counter: Counter, range: Range) -> u64
 
 /// What a call makes of a counter of a range.
 #[derive(Clone, Copy)]
-pub enum Change {
+pub enum CounterChange {
     /// It is one higher.
     Raise(Counter),
     /// It is one lower. Zero stays zero.
@@ -90,30 +90,32 @@ pub enum Change {
 
 /// The range with a counter changed.
 #[inline]
-pub fn changed(change: Change, mut range: Range) -> Range
+pub fn changed(change: CounterChange, mut range: Range) -> Range
     requires { IsChangeable change (2 ^ 32) range }
     ensures { result ≡ changed_by change range }
 {
     match change {
-        Change::Raise(Counter::Structured) => range.structured += 1,
-        Change::Raise(Counter::Dynamic) => range.dynamic += 1,
-        Change::Lower(Counter::Structured) => range.structured = range.structured.saturating_sub(1),
-        Change::Lower(Counter::Dynamic) => range.dynamic = range.dynamic.saturating_sub(1),
-        Change::Clear => range.dynamic = 0,
+        CounterChange::Raise(Counter::Structured) => range.structured += 1,
+        CounterChange::Raise(Counter::Dynamic) => range.dynamic += 1,
+        CounterChange::Lower(Counter::Structured) => range.structured = range
+            .structured
+            .saturating_sub(1),
+        CounterChange::Lower(Counter::Dynamic) => range.dynamic = range.dynamic.saturating_sub(1),
+        CounterChange::Clear => range.dynamic = 0,
     }
     range
 }
 
 /// Whether a range allows a change: a counter that rises is below its limit.
 #[inline]
-fn is_allowed(change: Change, most: u32, range: Range) -> bool
+fn is_allowed(change: CounterChange, most: u32, range: Range) -> bool
     ensures test { result ≡ allows change most range }
     ensures changeable { OnTrue result (IsChangeable change most range) }
 {
     match change {
-        Change::Raise(counter) => value_of(counter, range) < u64::from(most),
-        Change::Lower(_) => true,
-        Change::Clear => true,
+        CounterChange::Raise(counter) => value_of(counter, range) < u64::from(most),
+        CounterChange::Lower(_) => true,
+        CounterChange::Clear => true,
     }
 }
 
@@ -123,7 +125,7 @@ pub struct Recount {
     /// The block.
     pub block: u64,
     /// What becomes of the counter.
-    pub change: Change,
+    pub change: CounterChange,
     /// The greatest value of a counter.
     pub most: u32,
 }

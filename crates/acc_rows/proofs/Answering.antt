@@ -1,17 +1,16 @@
 -- What the calls on rows return, and how a value is written.
-use Rattle.std.proofs.Common.{ℕ, zero, suc, ◌≡◌, ◌+◌, ◌-◌, ◌<◌, refl, sym, ap, subst, ◌∙◌, Bool, true, false, cond, List, [], ◌∷◌, ◌++◌, length, get_or, set, take, Option, Some, None, IsSome, arith, rules}
+use Rattle.std.proofs.Common.{ℕ, zero, suc, ◌≡◌, ◌+◌, ◌-◌, ◌<◌, refl, sym, ap, ◌∙◌, Bool, true, false, cond, List, [], ◌∷◌, ◌++◌, length, get_or, set, Option, Some, None, IsSome, arith, rules}
 use Rattle.std.specs.Prelude.{◌==◌, map, slice_get}
 use Rattle.std.specs.declared.alloc.Global.{Global}
 use Rattle.std.specs.declared.vec.Vec.{Vec}
 use Rattle.std.proofs.lemmas.List.{set_at, map-append, set-append_left}
 use Rattle.acc_base.proofs.Results.{equal}
 use Rattle.acc_tree.specs.declared.entries.Entry.{Entry}
-use Rattle.acc_tree.specs.Listing.{KeysRise, at_key, last_before}
+use Rattle.acc_tree.specs.Listing.{KeysRise, at_key}
 use Rattle.acc_rows.specs.declared.places.Place.{Place}
 use Rattle.acc_rows.specs.Laid.{side_by_side, least_key, least_key_in, IsRow, AreInRows}
-use Rattle.acc_rows.specs.Spots.{index_of, IsRowAt, IsPlaceOf}
+use Rattle.acc_rows.specs.Spots.{index_of, IsRowAt}
 use Rattle.acc_rows.proofs.Laying.{row_number_at, sides_of_row}
-use Rattle.acc_rows.proofs.Searched.{IsSplitAt, none_before, last_of_before}
 use Rattle.acc_rows.proofs.Changing.{all_set, replaced}
 
 set_between : {X : Type 0} (f r b : List X) (j n : ℕ) (x : X) → n ≡ length f + j → j < length r → set (f ++ (r ++ b)) n x ≡ f ++ (set r j x ++ b)
@@ -20,25 +19,6 @@ set_between (y ∷ f) r b j zero x e lt = absurd (omega arith)
 set_between (y ∷ f) r b j (suc n) x e lt = ap (λ zs. y ∷ zs) (set_between f r b j n x (omega arith) lt)
 
 module _ {T : Type 0} where
-  -- ---- the entry before a key
-
-  pub nothing_before : (key : ℕ) (rows : List (Vec (Entry T) Global)) (place : Place) → IsPlaceOf key rows place → place.at ≡ 0 → last_before key (side_by_side rows) ≡ None
-  nothing_before key rows place p at =
-      let row = ap (λ r. length (side_by_side (take r rows))) (p.first at) in
-      let none : index_of rows place ≡ 0 = omega (arith, row) in
-      let s : IsSplitAt key (side_by_side rows) 0 = rw none at p.split in
-      none_before key (side_by_side rows) s.failed
-
-  pub before_some : (key : ℕ) (rows : List (Vec (Entry T) Global)) (place : Place) (e : Entry T) → IsPlaceOf key rows place → 0 < place.at → slice_get (side_by_side rows) (index_of rows place - 1) ≡ Some e → last_before key (side_by_side rows) ≡ Some e
-  before_some key rows place e p some is =
-      let next : index_of rows place ≡ suc (index_of rows place - 1) = omega arith in
-      let s : IsSplitAt key (side_by_side rows) (suc (index_of rows place - 1)) = subst (λ (n : ℕ). IsSplitAt key (side_by_side rows) n) next p.split in
-      last_of_before key (side_by_side rows) (index_of rows place - 1) s ∙ is
-
-  pub rows_some : (key : ℕ) (rows : List (Vec (Entry T) Global)) (place : Place) → IsPlaceOf key rows place → 0 < place.at → 0 < length rows
-  rows_some key [] place p some = absurd (omega (arith, p.split.bound))
-  rows_some key (row ∷ rows) place p some = omega arith
-
   pub got_rows : (rows : List (Vec (Entry T) Global)) (n : ℕ) (e : Entry T) → slice_get (side_by_side rows) n ≡ Some e → 0 < length rows
   got_rows [] n e is = cc
   got_rows (row ∷ rows) n e is = omega arith

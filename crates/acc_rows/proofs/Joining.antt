@@ -10,10 +10,9 @@ use Rattle.std.specs.declared.alloc.Global.{Global}
 use Rattle.std.specs.declared.vec.Vec.{Vec}
 use Rattle.std.proofs.lemmas.Grind.{flat_map-append}
 use Rattle.std.proofs.lemmas.List.{set_at, map-append, length-map, length-take-le}
-use Rattle.acc_base.proofs.Elements.{AllByRecursion-append}
+use Rattle.acc_base.proofs.Elements.{AllByRecursion-append, all_behind, all_in_front}
 use Rattle.acc_tree.specs.declared.entries.Entry.{Entry}
 use Rattle.acc_tree.specs.Listing.{KeysRise}
-use Rattle.acc_tree.proofs.Steps.{all_in_front, all_behind}
 use Rattle.acc_rows.specs.Laid.{side_by_side, least_key, least_key_in, IsRow, AreInRows}
 use Rattle.acc_rows.specs.Spots.{IsRowAt, FitTogether}
 

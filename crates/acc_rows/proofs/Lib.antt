@@ -9,4 +9,3 @@ pub mod NoRows
 pub mod Starting
 pub mod Answering
 pub mod Joining
-pub mod Walking

@@ -1,12 +1,12 @@
 -- Rows that are not there.
-use Rattle.std.proofs.Common.{ℕ, ◌≡◌, ◌<◌, refl, ap, Bool, true, List, [], ◌∷◌, ◌++◌, length, length-append, arith}
+use Rattle.std.proofs.Common.{◌≡◌, ◌<◌, refl, ap, Bool, true, List, [], ◌∷◌, ◌++◌, length, length-append, arith}
 use Rattle.std.specs.Prelude.{◌==◌}
 use Rattle.std.specs.List.{AllByRecursion}
 use Rattle.std.specs.declared.alloc.Global.{Global}
 use Rattle.std.specs.declared.vec.Vec.{Vec}
 use Rattle.std.proofs.lemmas.Bool.Decides.{nat_tests}
 use Rattle.acc_tree.specs.declared.entries.Entry.{Entry}
-use Rattle.acc_rows.specs.Laid.{side_by_side, IsRow, AreInRows}
+use Rattle.acc_rows.specs.Laid.{side_by_side, IsRow}
 
 module _ {T : Type 0} where
   -- there is no entry just where there is no row
@@ -17,8 +17,3 @@ module _ {T : Type 0} where
         λ e. grind (arith, nat_tests),
         λ e. let none : length (row.items ++ side_by_side rows) ≡ 0 = ap length e in absurd (omega (arith, some, none, length-append row.items (side_by_side rows))),
       )
-
-  -- where there are entries, there is a least key
-  pub some_first : (firsts : List ℕ) (rows : List (Vec (Entry T) Global)) → AreInRows firsts rows → 0 < length (side_by_side rows) → 0 < length firsts
-  some_first firsts [] h some = absurd (omega (arith, some))
-  some_first firsts (row ∷ rows) h some = omega (arith, ap length h.firsts_are)

@@ -11,10 +11,9 @@ use Rattle.std.proofs.lemmas.Bool.Decides.{nat_tests}
 use Rattle.std.proofs.lemmas.List.{length-map, take-append-le, drop-append-le}
 use Rattle.acc_base.specs.Accounts.{EachPair}
 use Rattle.acc_base.specs.Splits.{IsSplitBy}
-use Rattle.acc_base.proofs.Elements.{AllByRecursion-weaker, AllByRecursion-append}
+use Rattle.acc_base.proofs.Elements.{AllByRecursion-weaker, AllByRecursion-append, all_behind, all_in_front}
 use Rattle.acc_tree.specs.declared.entries.Entry.{Entry}
 use Rattle.acc_tree.specs.Listing.{KeysRise}
-use Rattle.acc_tree.proofs.Steps.{all_in_front, all_behind}
 use Rattle.acc_rows.specs.Laid.{side_by_side, least_key, least_key_in, IsRow, AreInRows}
 use Rattle.acc_rows.specs.Spots.{index_of, IsRowAt, IsInRow, IsPlaceOf}
 use Rattle.acc_rows.specs.declared.places.Place.{Place}
@@ -151,16 +150,6 @@ module _ {T : Type 0} where
       subst (λ (p : Place). IsPlaceOf key rows p) same (place_first key firsts rows h split))
 
   -- ---- how many there are
-
-  rows_few : (rows : List (Vec (Entry T) Global)) → AllByRecursion IsRow rows → length (map least_key_in rows) ≤ length (side_by_side rows)
-  rows_few [] each = omega arith
-  rows_few (row ∷ rows) each = omega (arith, rows_few rows each.1, each.0.some, length-append row.items (side_by_side rows))
-
-  pub firsts_few : (firsts : List ℕ) (rows : List (Vec (Entry T) Global)) → AreInRows firsts rows → length firsts ≤ length (side_by_side rows)
-  firsts_few firsts rows h = omega (arith, rows_few rows h.each, ap length h.firsts_are)
-
-  pub row_short : (rows : List (Vec (Entry T) Global)) (i : ℕ) (row : Vec (Entry T) Global) → IsRowAt rows i row → length row.items ≤ length (side_by_side rows)
-  row_short rows i row at = omega (arith, ap length (sides_of_row rows i row at), length-append (side_by_side at.before) (row.items ++ side_by_side at.behind), length-append row.items (side_by_side at.behind))
 
   pub firsts_bound : (firsts : List ℕ) (rows : List (Vec (Entry T) Global)) (n : ℕ) → AreInRows firsts rows → n ≤ length firsts → (n ≡ 0 → ⊥) → n - 1 < length rows
   firsts_bound firsts rows zero h le other = absurd (other refl)

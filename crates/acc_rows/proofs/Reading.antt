@@ -1,5 +1,5 @@
 -- What is read at a place of rows.
-use Rattle.std.proofs.Common.{ℕ, ◌≡◌, ◌+◌, ◌-◌, ◌<◌, ◌≤◌, sym, ap, ◌∙◌, true, List, [], ◌∷◌, Option, IsSome, IfSome, length, get_or, Some, None, inl, inr, rules, arith}
+use Rattle.std.proofs.Common.{ℕ, ◌≡◌, ◌+◌, ◌<◌, ◌≤◌, sym, ap, ◌∙◌, true, List, [], ◌∷◌, Option, IsSome, IfSome, length, get_or, Some, None, inl, inr, rules, arith}
 use Rattle.std.specs.Prelude.{slice_get, is_some}
 use Rattle.std.specs.List.{AllByRecursion}
 use Rattle.std.specs.Borrow.{Bor}
@@ -26,14 +26,6 @@ module _ {T : Type 0} where
 
   pub read_bound : (rows : List (Vec (Entry T) Global)) (place : Place) (row : Vec (Entry T) Global) → (w : IsInRow rows place) → row ≡ get_or rows place.row row → place.at ≤ length row.items
   read_bound rows place row w is = let same = ap (λ (r : Vec (Entry T) Global). length r.items) (read_row rows place.row w.row row w.row_is is) in omega (arith, w.bound, same)
-
-  -- the entry before a place within a row
-  pub read_before : (rows : List (Vec (Entry T) Global)) (place : Place) (row : Vec (Entry T) Global) (e : Entry T) → (w : IsInRow rows place) → 0 < place.at → row ≡ get_or rows place.row row → e ≡ get_or row.items (place.at - 1) e → slice_get (side_by_side rows) (index_of rows place - 1) ≡ Some e
-  read_before rows place row e w some is eis =
-      let at = read_at rows place.row w.row row w.row_is is in
-      let here = entry_in_row rows (record { row = place.row; at = place.at - 1 }) row e at (omega (arith, read_bound rows place row w is)) eis in
-      let number : index_of rows place - 1 ≡ index_of rows (record { row = place.row; at = place.at - 1 }) = omega (arith, some) in
-      ap (slice_get (side_by_side rows)) number ∙ here
 
   -- nothing is behind the last row
   pub read_past : (rows : List (Vec (Entry T) Global)) (place : Place) (row : Vec (Entry T) Global) → IsRowAt rows place.row row → place.at ≡ length row.items → place.row + 1 ≡ length rows → slice_get (side_by_side rows) (index_of rows place) ≡ None

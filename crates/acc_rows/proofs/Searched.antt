@@ -1,15 +1,14 @@
 -- Entries by rising key that are split at the place of a key: what a search finds there, and how they change there.
-use Rattle.std.proofs.Common.{ℕ, zero, suc, ◌≡◌, ◌<◌, refl, sym, ap, ◌∙◌, true, false, cond, List, [], ◌∷◌, length, set, insert, Some, None, IsSome, arith}
+use Rattle.std.proofs.Common.{ℕ, zero, suc, ◌≡◌, ◌<◌, refl, sym, ap, ◌∙◌, true, false, List, [], ◌∷◌, length, set, insert, Some, None, IsSome, arith}
 use Rattle.std.specs.Prelude.{◌==◌, slice_get, nat_lt, nat_le}
-use Rattle.std.specs.List.{AllByRecursion, remove}
-use Rattle.std.specs.Option.{option_or}
+use Rattle.std.specs.List.{remove}
 use Rattle.std.proofs.lemmas.Bool.Decides.{nat_tests}
 use Rattle.acc_base.specs.Splits.{IsSplitBy}
 use Rattle.acc_base.proofs.Elements.{find_none}
 use Rattle.acc_base.proofs.Splitting.{all_at}
 use Rattle.acc_base.proofs.Keyed as keyed
 use Rattle.acc_tree.specs.declared.entries.Entry.{Entry}
-use Rattle.acc_tree.specs.Listing.{KeysRise, at_key, first_from, last_before, with_entry, without_key, with_value}
+use Rattle.acc_tree.specs.Listing.{KeysRise, at_key, first_from, with_entry, without_key, with_value}
 use Rattle.acc_rows.proofs.Laying.{got, get_some}
 
 module _ {T : Type 0} where
@@ -29,18 +28,6 @@ module _ {T : Type 0} where
   first_of_from key [] n s = refl
   first_of_from key (e ∷ es) zero s = let f = s.failed.0 in let t : nat_le key e.key ≡ true = grind (arith, nat_tests) in rw t refl
   first_of_from key (e ∷ es) (suc n) s = let f = s.passed.0 in let t : nat_le key e.key ≡ false = grind (arith, nat_tests) in rw t (first_of_from key es n (rest_of key e es n s))
-
-  pub none_before : (key : ℕ) (es : List (Entry T)) → AllByRecursion (λ e. nat_lt e.key key ≡ false) es → last_before key es ≡ None
-  none_before key [] h = refl
-  none_before key (e ∷ es) h = rw (h.0, none_before key es h.1) refl
-
-  pub last_of_before : (key : ℕ) (es : List (Entry T)) (n : ℕ) → IsSplitAt key es (suc n) → last_before key es ≡ slice_get es n
-  last_of_before key [] n s = refl
-  last_of_before key (e ∷ es) zero s = rw (s.passed.0, none_before key es s.failed) refl
-  last_of_before key (e ∷ es) (suc n) s =
-      let some = get_some es n e (omega (arith, s.bound)) in
-      let rest = last_of_before key es n (rest_of key e es (suc n) s) in
-      ap (λ o. option_or o (cond (nat_lt e.key key) (Some e) None)) (rest ∙ some) ∙ sym some
 
   -- an entry is the one of its key
   pub at_got : (key : ℕ) (es : List (Entry T)) (n : ℕ) (e : Entry T) → KeysRise es → slice_get es n ≡ Some e → e.key ≡ key → at_key key es ≡ Some e

@@ -6,9 +6,9 @@ use Rattle.std.specs.Vec.{vec_capacity}
 use Rattle.std.specs.declared.alloc.Global.{Global}
 use Rattle.std.specs.declared.vec.Vec.{Vec}
 use Rattle.std.proofs.lemmas.List.{set_at, length-take-le, length-drop}
+use Rattle.acc_base.proofs.Elements.{all_behind, all_in_front}
 use Rattle.acc_tree.specs.declared.entries.Entry.{Entry}
 use Rattle.acc_tree.specs.Listing.{KeysRise}
-use Rattle.acc_tree.proofs.Steps.{all_in_front, all_behind}
 use Rattle.acc_rows.specs.Laid.{least_key, least_key_in, IsRow, IsWaiting, AreInRows}
 use Rattle.acc_rows.specs.Spots.{IsRowAt, IsCutInTwo}
 use Rattle.acc_rows.proofs.Changing.{insert_next}

@@ -1,56 +1,28 @@
 //! Where an entry stands, or would stand.
 ghost use Rattle.std.specs.Bool.{OnTrue};
-ghost use Rattle.std.specs.Prelude.{◌≡◌, ℕ, ◌+◌, ◌-◌, ◌*◌, ◌^◌, ◌<◌, ◌≤◌, length, IfSome, IsSome, None, slice_get};
+ghost use Rattle.std.specs.Prelude.{◌≡◌, ◌<◌, length, IfSome, IsSome, None, slice_get};
 ghost use Rattle.std.specs.List.{AllByRecursion};
 ghost use Rattle.acc_tree.specs.Listing.{at_key, seen};
 ghost use Rattle.acc_rows.specs.Laid.{side_by_side, IsRow, AreInRows};
 ghost use Rattle.acc_rows.specs.Spots.{index_of, IsTaken, IsInRow, IsPlaceOf, IsEntryAt};
 
 use crate::places::Place;
-use crate::search::{count_below, count_few, count_many, parts};
-use acc_base::Steps;
+use crate::search::{count_few, count_many, parts};
 use acc_tree::Entry;
 
-/// Where an entry of a key would be put: behind all entries of lower keys, in the row of the last of them.
+/// Where an entry of a key would be put: behind all entries of lower keys, in the row of the last of them. The search
+/// takes no branch by a key, since such branches are unpredictable.
 #[inline]
-pub fn find<T: Copy>(firsts: &[u128], rows: &[Vec<Entry<T>>], key: u128, steps: &mut Steps) -> Place
-    requires in_rows { AreInRows firsts.now rows.now }
-    requires limit { steps.old ≤ 2 ^ 32 }
-    ensures place { IsPlaceOf key rows.now result }
-    ensures not_fewer { steps.old ≤ steps.new }
-    ensures least { 0 < length (side_by_side rows.now) → steps.old < steps.new }
-    ensures steps { (d : ℕ) → length (side_by_side rows.now) < 2 ^ d → steps.new ≤ steps.old + 2 * d }
+pub fn place_of<T: Copy>(firsts: &[u128], rows: &[Vec<Entry<T>>], key: u128) -> Place
+    requires { AreInRows firsts.now rows.now }
+    ensures { IsPlaceOf key rows.now result }
 {
-    let behind = count_below(firsts, key, steps);
-    if behind == 0 {
-        return Place { row: 0, at: 0 };
-    }
-    let row = behind - 1;
-    let at = count_below(&rows[row], key, steps);
-    Place { row, at }
-}
-
-/// As [`find`], by at most thirty steps beside one for each binary digit of the number of entries. It takes no branch by a
-/// key: which one a search takes in the end cannot be foreseen.
-#[inline]
-pub fn place_of<T: Copy>(
-    firsts: &[u128],
-    rows: &[Vec<Entry<T>>],
-    key: u128,
-    steps: &mut Steps,
-) -> Place
-    requires in_rows { AreInRows firsts.now rows.now }
-    requires limit { steps.old ≤ 2 ^ 32 }
-    ensures place { IsPlaceOf key rows.now result }
-    ensures not_fewer { steps.old ≤ steps.new }
-    ensures steps { (d : ℕ) → length (side_by_side rows.now) < 2 ^ d → steps.new ≤ steps.old + d + 30 }
-{
-    let behind = count_many(firsts, key, steps);
+    let behind = count_many(firsts, key);
     if behind == 0 {
         return Place { row: 0, at: 0 };
     }
     let number = behind - 1;
-    let at = count_few(&rows[number], key, steps);
+    let at = count_few(&rows[number], key);
     Place { row: number, at }
 }
 
@@ -72,16 +44,6 @@ pub fn entry_from<'a, T: Copy>(rows: &'a [Vec<Entry<T>>], place: Place) -> Optio
         return None;
     }
     Some(&rows[place.row + 1][0])
-}
-
-/// The last entry before a place of a row, which is not its first.
-#[inline]
-pub fn entry_before<'a, T: Copy>(rows: &'a [Vec<Entry<T>>], place: Place) -> &'a Entry<T>
-    requires within { IsInRow rows.now place }
-    requires some { 0 < place.at }
-    ensures { slice_get (side_by_side rows.now) (index_of rows.now place - 1) ≡ Some result.now }
-{
-    &rows[place.row][place.at - 1]
 }
 
 /// The entry of a key, if it stands at a place.
@@ -130,7 +92,7 @@ pub fn find_near<T: Copy>(firsts: &[u128], rows: &[Vec<Entry<T>>], key: u128, ne
     if fits(firsts, rows, key, near) {
         return near;
     }
-    place_of(firsts, rows, key, &mut Steps::new())
+    place_of(firsts, rows, key)
 }
 
 /// As [`find_near`], but it is looked for first right behind the place.
@@ -184,5 +146,5 @@ pub fn locate<T: Copy>(firsts: &[u128], rows: &[Vec<Entry<T>>], key: u128, near:
     if entry_of(rows, key, near).is_some() {
         return near;
     }
-    ahead(rows, place_of(firsts, rows, key, &mut Steps::new()))
+    ahead(rows, place_of(firsts, rows, key))
 }

@@ -9,4 +9,4 @@ mod rows;
 mod search;
 
 pub use places::Place;
-pub use rows::{Around, Rows};
+pub use rows::Rows;

@@ -1,35 +1,21 @@
 //! A sorted list of entries in rows, each found by its key.
-ghost use Rattle.std.specs.Prelude.{◌≡◌, ◌↔◌, IsTrue, ℕ, ◌+◌, ◌*◌, ◌^◌, ◌<◌, ◌≤◌, [], length, min, Some, None, IsSome, IfErr, OnOk, OnErr};
-ghost use Rattle.acc_tree.specs.Listing.{KeysRise, at_key, first_from, last_before, with_entry, without_key, with_value, seen};
+ghost use Rattle.std.specs.Prelude.{◌≡◌, ◌↔◌, IsTrue, ◌+◌, ◌<◌, ◌≤◌, [], length, min, Some, None, IsSome, IfErr, OnOk, OnErr};
+ghost use Rattle.acc_tree.specs.Listing.{KeysRise, at_key, first_from, with_entry, without_key, with_value, seen};
 ghost use Rattle.acc_rows.specs.Laid.{side_by_side};
 
 use crate::changes::{make_place, make_rows, put, start, take_out, write};
 use crate::counting::count_in;
-use crate::finding::{
-    ahead, entry_before, entry_from, entry_of, find, find_behind, find_near, locate, place_of,
-};
+use crate::finding::{ahead, entry_from, find_behind, find_near, locate, place_of};
 use crate::places::Place;
-use acc_base::{Fault, Steps};
+use acc_base::Fault;
 use acc_tree::Entry;
 use std::alloc::Global;
 use std::marker::Model;
 
-/// The entries on both sides of a key.
-#[derive(Clone, Copy)]
-pub struct Around<'a, T> {
-    /// The entry of greatest key before it.
-    pub before: Option<&'a Entry<T>>,
-    /// Where that entry stands.
-    pub place: Place,
-    /// The entry of least key from it on.
-    pub from: Option<&'a Entry<T>>,
-}
-
 /// Entries by rising key, and room for more of them.
 ///
 /// They stand in rows of up to 64, and the least key of each row in a list of its own. A look-up is a search in that
-/// list and one in a row. Where steps are counted, both go by halves; else neither takes a branch by a key. A change
-/// moves entries of one row or two. Where a row comes or goes, it also moves the list of rows behind it, which grows with
+/// list and one in a row, and neither takes a branch by a key. A change moves entries of one row or two. Where a row comes or goes, it also moves the list of rows behind it, which grows with
 /// the number of entries. Memory is asked for by [`Rows::reserve`] alone: an entry more uses up at most one row that
 /// waits.
 #[derive(Drop)]
@@ -90,25 +76,12 @@ impl<T: Copy> Rows<T> {
         )
     }
 
-    /// The entry of a key, if it is there. It is looked for first near a place.
-    #[inline]
-    pub fn get(&self, key: u128, near: Place) -> Option<&Entry<T>>
-        ensures { seen result ≡ at_key key self.now.entries }
-    {
-        if let Some(entry) = entry_of(&self.rows, key, near) {
-            return Some(entry);
-        }
-        let place = place_of(&self.firsts, &self.rows, key, &mut Steps::new());
-        let entry = entry_from(&self.rows, place)?;
-        if entry.key == key { Some(entry) } else { None }
-    }
-
     /// The entry of a key, if it is there, and where it stands. Else the place is the one where it would be put.
     #[inline]
     pub fn look_up(&self, key: u128) -> (Option<&Entry<T>>, Place)
         ensures { seen result.0 ≡ at_key key self.now.entries }
     {
-        let place = place_of(&self.firsts, &self.rows, key, &mut Steps::new());
+        let place = place_of(&self.firsts, &self.rows, key);
         let Some(entry) = entry_from(&self.rows, place) else {
             return (None, place);
         };
@@ -116,45 +89,6 @@ impl<T: Copy> Rows<T> {
             (Some(entry), ahead(&self.rows, place))
         } else {
             (None, place)
-        }
-    }
-
-    /// The entries on both sides of a key.
-    #[inline]
-    pub fn around(&self, key: u128) -> Around<'_, T>
-        ensures before { seen result.before ≡ last_before key self.now.entries }
-        ensures from { seen result.from ≡ first_from key self.now.entries }
-    {
-        self.around_counted(key, &mut Steps::new())
-    }
-
-    /// The entries on both sides of a key, by at most two steps for each binary digit of the number of entries. There
-    /// is one at least where there are entries. At most 2^32 were counted before.
-    #[inline]
-    pub fn around_counted<'a>(&'a self, key: u128, steps: &mut Steps) -> Around<'a, T>
-        requires limit { steps.old ≤ 2 ^ 32 }
-        ensures before { seen result.before ≡ last_before key self.now.entries }
-        ensures from { seen result.from ≡ first_from key self.now.entries }
-        ensures not_fewer { steps.old ≤ steps.new }
-        ensures least { 0 < length self.now.entries → steps.old < steps.new }
-        ensures steps { (d : ℕ) → length self.now.entries < 2 ^ d → steps.new ≤ steps.old + 2 * d }
-    {
-        let place = find(&self.firsts, &self.rows, key, steps);
-        let from = entry_from(&self.rows, place);
-        if place.at == 0 {
-            return Around {
-                before: None,
-                place,
-                from,
-            };
-        }
-        Around {
-            before: Some(entry_before(&self.rows, place)),
-            place: Place {
-                row: place.row,
-                at: place.at - 1,
-            },
-            from,
         }
     }
 
@@ -171,7 +105,7 @@ impl<T: Copy> Rows<T> {
     pub fn next(&self, key: u128) -> Option<&Entry<T>>
         ensures { seen result ≡ first_from key self.now.entries }
     {
-        let place = place_of(&self.firsts, &self.rows, key, &mut Steps::new());
+        let place = place_of(&self.firsts, &self.rows, key);
         entry_from(&self.rows, place)
     }
 
@@ -190,18 +124,9 @@ impl<T: Copy> Rows<T> {
         (Some(entry), ahead(&self.rows, place))
     }
 
-    /// Puts an entry in its place by its key, which is not there yet, and returns where it stands. It needs no memory.
-    pub fn insert(&mut self, entry: Entry<T>) -> Place
-        requires room { 1 ≤ self.old.room }
-        requires new { at_key entry.key self.old.entries ≡ None }
-        ensures entries { self.new.entries ≡ with_entry entry self.old.entries }
-        ensures room { self.old.room ≤ self.new.room + 1 }
-    {
-        self.insert_near(entry, Place::default())
-    }
-
-    /// As [`Rows::insert`], but the place is looked for first near another.
-    pub fn insert_near(&mut self, entry: Entry<T>, near: Place) -> Place
+    /// Puts an entry in its place by its key, which is not there yet, and returns where it stands. The place is looked for
+    /// first near another. It needs no memory.
+    pub fn insert(&mut self, entry: Entry<T>, near: Place) -> Place
         requires room { 1 ≤ self.old.room }
         requires new { at_key entry.key self.old.entries ≡ None }
         ensures entries { self.new.entries ≡ with_entry entry self.old.entries }

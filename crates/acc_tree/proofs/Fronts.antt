@@ -7,11 +7,11 @@ use Rattle.std.specs.Borrow.{Bor}
 use Rattle.std.proofs.lemmas.Bool.Decides.{nat_tests}
 use Rattle.std.proofs.lemmas.Bool.{cases_lt}
 use Rattle.std.proofs.lemmas.List.Folds.{find-append}
-use Rattle.acc_base.proofs.Elements.{AllByRecursion-weaker, find-none, found_has}
+use Rattle.acc_base.proofs.Elements.{AllByRecursion-weaker, find-none, found_has, all_in_front, find-behind}
 use Rattle.acc_base.proofs.Keyed as keyed
 use Rattle.acc_tree.specs.declared.entries.Entry.{Entry}
 use Rattle.acc_tree.specs.Listing.{KeysRise, AreRanges, at_key, seen, first_large, first_large_from, greatest_size, cut_before, without_key, without_front}
-use Rattle.acc_tree.proofs.Steps.{Sides, all_in_front, find-behind, kept_over}
+use Rattle.acc_tree.proofs.Steps.{Sides, kept_over}
 
 or_left : {X : Type 0} (o p : Option X) → IsSome o → option_or o p ≡ o
 or_left None p some = cc

@@ -9,7 +9,7 @@ use Rattle.acc_tree.specs.Listing.{KeysRise, at_key, with_entry, without_key, va
 use Rattle.acc_tree.proofs.Values.{key-written}
 
 module _ {T : Type 0} where
-  put_entry : (new : Entry T) → IsPut new (λ e. nat_lt new.key e.key) (with_entry new)
+  pub put_entry : (new : Entry T) → IsPut new (λ e. nat_lt new.key e.key) (with_entry new)
   put_entry new = record { alone = refl; among = λ e es. refl }
 
   pub rise-with_entry : (new : Entry T) (es : List (Entry T)) → at_key new.key es ≡ None → KeysRise es → KeysRise (with_entry new es)

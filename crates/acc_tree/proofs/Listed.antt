@@ -1,25 +1,23 @@
 -- The entry of a key in a list of entries that changes.
 use Rattle.std.proofs.Common.{ℕ, ◌≡◌, ◌<◌, ◌≤◌, refl, subst, Bool, true, false, cond, List, [], ◌∷◌, Some, None, arith}
-use Rattle.std.specs.Prelude.{◌==◌, nat_lt, nat_le}
+use Rattle.std.specs.Prelude.{◌==◌, nat_le}
 use Rattle.std.proofs.lemmas.Bool.Decides.{nat_tests}
 use Rattle.acc_base.proofs.Results.{equal}
 use Rattle.acc_base.proofs.Elements.{found_has}
-use Rattle.acc_base.proofs.InPlace.{IsPut, find-put_other, find-put_new}
+use Rattle.acc_base.proofs.InPlace.{find-put_other, find-put_new}
 use Rattle.acc_base.proofs.Keyed as keyed
 use Rattle.acc_tree.specs.declared.entries.Entry.{Entry}
 use Rattle.acc_tree.specs.Listing.{KeysRise, at_key, first_from, with_entry, without_key}
+use Rattle.acc_tree.proofs.Kept.{put_entry}
 
 module _ {T : Type 0} where
-  pub put_in_entries : (new : Entry T) → IsPut new (λ e. nat_lt new.key e.key) (with_entry new)
-  put_in_entries new = record { alone = refl; among = λ e es. refl }
-
   -- once one more is in
   pub at-with_entry : (new : Entry T) (es : List (Entry T)) (key : ℕ) → at_key new.key es ≡ None → at_key key (with_entry new es) ≡ cond (new.key == key) (Some new) (at_key key es)
   at-with_entry new es key none = go (new.key == key) refl
     where
       go : (b : Bool) → (new.key == key) ≡ b → at_key key (with_entry new es) ≡ cond b (Some new) (at_key key es)
-      go true t = find-put_new (put_in_entries new) (λ e. e.key == key) es t (let same = equal new.key key t in subst (λ n. at_key n es ≡ None) same none)
-      go false t = find-put_other (put_in_entries new) (λ e. e.key == key) es t
+      go true t = find-put_new (put_entry new) (λ e. e.key == key) es t (let same = equal new.key key t in subst (λ n. at_key n es ≡ None) same none)
+      go false t = find-put_other (put_entry new) (λ e. e.key == key) es t
 
   -- once one is taken out
   pub at-without_key : (gone key : ℕ) (es : List (Entry T)) → at_key key (without_key gone es) ≡ cond (gone == key) None (at_key key es)

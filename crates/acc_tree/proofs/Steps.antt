@@ -1,41 +1,15 @@
 -- A step down a tree: what a search or a change at a key does to the entries before and behind one.
-use Rattle.std.proofs.Common.{ℕ, ◌≡◌, ◌<◌, ◌≤◌, refl, sym, ap, subst, ◌∙◌, Bool, true, false, cond, List, [], ◌∷◌, ◌++◌, Option, Some, None, arith}
-use Rattle.std.specs.Prelude.{◌==◌, not, find, nat_lt, nat_le}
+use Rattle.std.proofs.Common.{ℕ, ◌≡◌, ◌<◌, ◌≤◌, refl, sym, ap, ◌∙◌, Bool, true, false, cond, List, [], ◌∷◌, ◌++◌, Option, Some, None, arith}
+use Rattle.std.specs.Prelude.{◌==◌, not, nat_lt, nat_le}
 use Rattle.std.specs.List.{AllByRecursion}
 use Rattle.std.specs.Option.{option_or}
 use Rattle.std.proofs.lemmas.Bool.Decides.{nat_tests}
-use Rattle.std.proofs.lemmas.List.{map-append}
 use Rattle.std.proofs.lemmas.List.Elements.{filter-append}
 use Rattle.std.proofs.lemmas.List.Folds.{find-append}
-use Rattle.acc_base.proofs.Elements.{AllByRecursion-weaker, filter-kept, find-none}
-use Rattle.acc_tree.proofs.Leaves.{around}
+use Rattle.acc_base.proofs.Elements.{AllByRecursion-weaker, filter-kept, find-none, all_behind, all_in_front, find-behind, find-front}
+use Rattle.acc_base.proofs.Options.{or_none, or_or}
 use Rattle.acc_tree.specs.declared.entries.Entry.{Entry}
-use Rattle.acc_tree.specs.Listing.{KeysRise, at_key, first_from, last_before, with_entry, without_key, value_written, with_value}
-
--- ---- lists in two parts
-
-pub all_in_front : {X : Type 0} (P : X → Type 0) (l m : List X) → AllByRecursion P (l ++ m) → AllByRecursion P l
-all_in_front P [] m h = tt
-all_in_front P (x ∷ l) m h = (h.0, all_in_front P l m h.1)
-
-pub all_behind : {X : Type 0} (P : X → Type 0) (l m : List X) → AllByRecursion P (l ++ m) → AllByRecursion P m
-all_behind P [] m h = h
-all_behind P (x ∷ l) m h = all_behind P l m h.1
-
-pub find-front : {X : Type 0} (p : X → Bool) (l m : List X) → find p m ≡ None → find p (l ++ m) ≡ find p l
-find-front p [] m none = none
-find-front p (x ∷ l) m none = ap (λ o. cond (p x) (Some x) o) (find-front p l m none)
-
-pub find-behind : {X : Type 0} (p : X → Bool) (l m : List X) → find p l ≡ None → find p (l ++ m) ≡ find p m
-find-behind p l m none = find-append p l m ∙ rw none refl
-
-or_none : {X : Type 0} (o : Option X) → option_or o None ≡ o
-or_none None = refl
-or_none (Some x) = refl
-
-pub or_or : {X : Type 0} (a b c : Option X) → option_or (option_or a b) c ≡ option_or a (option_or b c)
-or_or None b c = refl
-or_or (Some x) b c = refl
+use Rattle.acc_tree.specs.Listing.{KeysRise, at_key, first_from, last_before, with_entry, without_key}
 
 module _ {T : Type 0} where
   -- what is known on the two sides of an entry
@@ -55,9 +29,6 @@ module _ {T : Type 0} where
         under = ((all_behind (λ e. h.key < e.key) l (x ∷ r) s.0).0, d.under);
         over = d.over;
       }
-
-  pub sides_of : (old l xs r : List (Entry T)) (x : Entry T) → old ≡ l ++ xs ++ r → xs ≡ x ∷ [] → KeysRise old → Sides l x r
-  sides_of old l xs r x e h s = sides l x r (subst (λ (es : List (Entry T)). KeysRise es) (around old l xs r x e h) s)
 
   -- ---- searches
 
@@ -143,28 +114,3 @@ module _ {T : Type 0} where
   without_right key l x r less d =
       let t : (x.key == key) ≡ false = grind (arith, nat_tests) in
       filter-append (λ e. not (e.key == key)) l (x ∷ r) ∙ rw t (ap (λ es. es ++ x ∷ without_key key r) (kept_under key x l (omega arith) d.under))
-
-  same_value : (key : ℕ) (value : T) (xs : List (Entry T)) → AllByRecursion (λ e. (e.key == key) ≡ false) xs → with_value key value xs ≡ xs
-  same_value key value [] other = refl
-  same_value key value (h ∷ xs) other = rw other.0 (ap (λ es. h ∷ es) (same_value key value xs other.1))
-
-  value_over : (key : ℕ) (value : T) (x : Entry T) (r : List (Entry T)) → key ≤ x.key → AllByRecursion (λ e. x.key < e.key) r → with_value key value r ≡ r
-  value_over key value x r le over = same_value key value r (AllByRecursion-weaker (λ e. x.key < e.key) (λ e. (e.key == key) ≡ false) r (λ e more. grind (arith, nat_tests)) over)
-
-  value_under : (key : ℕ) (value : T) (x : Entry T) (l : List (Entry T)) → x.key ≤ key → AllByRecursion (λ e. e.key < x.key) l → with_value key value l ≡ l
-  value_under key value x l le under = same_value key value l (AllByRecursion-weaker (λ e. e.key < x.key) (λ e. (e.key == key) ≡ false) l (λ e less. grind (arith, nat_tests)) under)
-
-  pub value_left : (key : ℕ) (value : T) (l : List (Entry T)) (x : Entry T) (r : List (Entry T)) → key < x.key → Sides l x r → with_value key value (l ++ x ∷ r) ≡ with_value key value l ++ x ∷ r
-  value_left key value l x r less d =
-      let t : (x.key == key) ≡ false = grind (arith, nat_tests) in
-      map-append (value_written key value) l (x ∷ r) ∙ rw t (ap (λ es. with_value key value l ++ x ∷ es) (value_over key value x r (omega arith) d.over))
-
-  pub value_here : (key : ℕ) (value : T) (l : List (Entry T)) (x : Entry T) (r : List (Entry T)) → x.key ≡ key → Sides l x r → with_value key value (l ++ x ∷ r) ≡ l ++ (record x { value = value }) ∷ r
-  value_here key value l x r is d =
-      let t : (x.key == key) ≡ true = grind (arith, nat_tests) in
-      map-append (value_written key value) l (x ∷ r) ∙ rw t (rw (value_under key value x l (omega arith) d.under, value_over key value x r (omega arith) d.over) refl)
-
-  pub value_right : (key : ℕ) (value : T) (l : List (Entry T)) (x : Entry T) (r : List (Entry T)) → x.key < key → Sides l x r → with_value key value (l ++ x ∷ r) ≡ l ++ x ∷ with_value key value r
-  value_right key value l x r less d =
-      let t : (x.key == key) ≡ false = grind (arith, nat_tests) in
-      map-append (value_written key value) l (x ∷ r) ∙ rw t (ap (λ es. es ++ x ∷ with_value key value r) (value_under key value x l (omega arith) d.under))

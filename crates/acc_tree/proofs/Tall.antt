@@ -12,11 +12,6 @@ pub tall_none : IsTall 0 0
 tall_none zero p = omega arith
 tall_none (suc k) p = absurd (omega arith)
 
-pub tall_leaf : IsTall 1 1
-tall_leaf zero p = omega arith
-tall_leaf (suc zero) p = omega arith
-tall_leaf (suc (suc k)) p = absurd (omega arith)
-
 pub tall_join : (hl hr nl nr : ℕ) → IsTall hl nl → IsTall hr nr → hl ≤ hr + 1 → hr ≤ hl + 1 → IsTall (max hl hr + 1) (nl + (nr + 1))
 tall_join hl hr nl nr a b p q zero le = omega (arith, pow_pos 0)
 tall_join hl hr nl nr a b p q (suc k) le =

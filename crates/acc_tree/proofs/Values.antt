@@ -1,28 +1,17 @@
 -- A value written in a tree, which stays balanced, and what the entries keep.
-use Rattle.std.proofs.Common.{ℕ, ◌≡◌, refl, sym, ap, subst, ◌∙◌, true, false, cond, List, [], ◌∷◌, length, Option, Some, None, Box, arith}
+use Rattle.std.proofs.Common.{ℕ, ◌≡◌, refl, sym, subst, ◌∙◌, true, false, cond, length, Option, Some, None, Box, arith}
 use Rattle.std.specs.Prelude.{◌==◌}
 use Rattle.std.specs.declared.alloc.Global.{Global}
 use Rattle.acc_tree.specs.declared.entries.Entry.{Entry}
-use Rattle.acc_tree.specs.Listing.{greatest_size, value_written, with_value}
+use Rattle.acc_tree.specs.Listing.{greatest_size, value_written}
 use Rattle.acc_tree.specs.Shape.{Shape}
 use Rattle.acc_tree.specs.Nodes.{entries_in, height_of, length_of, IsAlone, IsTall, IsAvl}
 use Rattle.acc_tree.specs.declared.nodes.Node.TheInside.{Inside}
 
 module _ {T : Type 0} where
-  -- an entry keeps its size and its key
-  pub size-written : (key : ℕ) (value : T) (e : Entry T) → (value_written key value e).size ≡ e.size
-  size-written key value e = elim (e.key == key) as (λ b. (cond b (record e { value = value }) e).size ≡ e.size) [ true ↦ refl | false ↦ refl ]
-
+  -- an entry keeps its key
   pub key-written : (key : ℕ) (value : T) (e : Entry T) → (value_written key value e).key ≡ e.key
   key-written key value e = elim (e.key == key) as (λ b. (cond b (record e { value = value }) e).key ≡ e.key) [ true ↦ refl | false ↦ refl ]
-
-  pub greatest-with_value : (key : ℕ) (value : T) (es : List (Entry T)) → greatest_size (with_value key value es) ≡ greatest_size es
-  greatest-with_value key value [] = refl
-  greatest-with_value key value (e ∷ es) = omega (arith, size-written key value e, greatest-with_value key value es)
-
-  pub length-with_value : (key : ℕ) (value : T) (es : List (Entry T)) → length (with_value key value es) ≡ length es
-  length-with_value key value [] = refl
-  length-with_value key value (e ∷ es) = omega (arith, length-with_value key value es)
 
   pub alone_same : (a b : Option (Box (Shape T) Global)) → length_of a ≡ length_of b → IsAlone b → IsAlone a
   alone_same None b e alone = tt
@@ -88,15 +77,3 @@ module _ {T : Type 0} where
     tall_left = avl.tall_left;
     tall_right = avl.tall_right;
   }
-
-  -- a node with other values in its left subtree
-  pub avl_left : (n : Inside T) (l : Option (Box (Shape T) Global)) (key : ℕ) (value : T) → IsAvl n → entries_in l ≡ with_value key value (entries_in n.left) → height_of l ≡ height_of n.left → length_of l ≡ length_of n.left → IsAvl (record n { left = l })
-  avl_left n l key value avl es high same =
-      kept_left n l n.greatest_left avl (record { many = ap length es ∙ length-with_value key value (entries_in n.left); high = high; behind = same })
-      (avl.greatest_left ∙ sym (ap greatest_size es ∙ greatest-with_value key value (entries_in n.left)))
-
-  -- in its right one
-  pub avl_right : (n : Inside T) (r : Option (Box (Shape T) Global)) (key : ℕ) (value : T) → IsAvl n → entries_in r ≡ with_value key value (entries_in n.right) → height_of r ≡ height_of n.right → length_of r ≡ length_of n.right → IsAvl (record n { right = r })
-  avl_right n r key value avl es high same =
-      kept_right n r n.greatest_right avl (record { many = ap length es ∙ length-with_value key value (entries_in n.right); high = high; behind = same })
-      (avl.greatest_right ∙ sym (ap greatest_size es ∙ greatest-with_value key value (entries_in n.right)))

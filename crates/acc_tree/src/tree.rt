@@ -1,6 +1,6 @@
 //! A balanced tree of entries, each found by its key in a walk from the top.
 ghost use Rattle.std.specs.Prelude.{◌≡◌, ℕ, ◌+◌, ◌*◌, ◌^◌, ◌<◌, ◌≤◌, [], length, Some, None, IsSome, IfSome, IfErr, OnOk, OnErr, MatchBool};
-ghost use Rattle.acc_tree.specs.Listing.{KeysRise, AreRanges, at_key, first_from, last_before, first_large, first_large_from, greatest_size, with_entry, without_key, with_value, without_front};
+ghost use Rattle.acc_tree.specs.Listing.{KeysRise, AreRanges, at_key, first_from, last_before, first_large, first_large_from, greatest_size, with_entry, without_key, without_front};
 ghost use Rattle.acc_tree.specs.Growing.{with_range, IsClear};
 ghost use Rattle.acc_tree.specs.Nodes.{length_of, IsChain};
 
@@ -118,46 +118,12 @@ impl<T: Copy> Tree<T> {
         }
     }
 
-    /// The entry of a key, if it is there.
-    pub fn get(&self, key: u128) -> Option<Entry<T>>
-        ensures { result ≡ at_key key self.now.entries }
-    {
-        self.get_counted(key, &mut Steps::new())
-    }
-
-    /// The entry of a key, if it is there, by at most two steps for each binary digit of the number of entries. There
-    /// is one at least where there are entries. At most 2^32 were counted before.
-    pub fn get_counted(&self, key: u128, steps: &mut Steps) -> Option<Entry<T>>
-        requires limit { steps.old ≤ 2 ^ 32 }
-        ensures found { result ≡ at_key key self.now.entries }
-        ensures not_fewer { steps.old ≤ steps.new }
-        ensures least { 0 < length self.now.entries → steps.old < steps.new }
-        ensures steps { (d : ℕ) → length self.now.entries < 2 ^ d → steps.new ≤ steps.old + 2 * d }
-    {
-        height_law(&self.root);
-        walks::find(&self.root, key, steps).copied()
-    }
-
     /// The entries on both sides of a key.
     pub fn around(&self, key: u128) -> Around<T>
         ensures before { result.before ≡ last_before key self.now.entries }
         ensures from { result.from ≡ first_from key self.now.entries }
     {
-        self.around_counted(key, &mut Steps::new())
-    }
-
-    /// The entries on both sides of a key, by at most two steps for each binary digit of the number of entries. There
-    /// is one at least where there are entries. At most 2^32 were counted before.
-    pub fn around_counted(&self, key: u128, steps: &mut Steps) -> Around<T>
-        requires limit { steps.old ≤ 2 ^ 32 }
-        ensures before { result.before ≡ last_before key self.now.entries }
-        ensures from { result.from ≡ first_from key self.now.entries }
-        ensures not_fewer { steps.old ≤ steps.new }
-        ensures least { 0 < length self.now.entries → steps.old < steps.new }
-        ensures steps { (d : ℕ) → length self.now.entries < 2 ^ d → steps.new ≤ steps.old + 2 * d }
-    {
-        height_law(&self.root);
-        let (before, from) = walks::find_around(&self.root, key, steps);
+        let (before, from) = walks::find_around(&self.root, key);
         Around {
             before: before.copied(),
             from: from.copied(),
@@ -169,21 +135,6 @@ impl<T: Copy> Tree<T> {
         ensures { result ≡ first_from key self.now.entries }
     {
         self.around(key).from
-    }
-
-    /// The entry of greatest key before `key`.
-    pub fn before(&self, key: u128) -> Option<Entry<T>>
-        ensures { result ≡ last_before key self.now.entries }
-    {
-        self.around(key).before
-    }
-
-    /// The entry of least key whose size is at least `size`, which is not 0.
-    pub fn first_fit(&self, size: u64) -> Option<Entry<T>>
-        requires some { 0 < size }
-        ensures { result ≡ first_large size self.now.entries }
-    {
-        self.first_fit_counted(size, &mut Steps::new())
     }
 
     /// The entry of least key whose size is at least `size`, which is not 0. It makes at most two steps for each binary
@@ -207,7 +158,7 @@ impl<T: Copy> Tree<T> {
     {
         // No key is below the least one, so none has to be compared.
         if key == 0 {
-            return self.first_fit(size);
+            return self.first_fit_counted(size, &mut Steps::new());
         }
         walks::find_large_from(&self.root, key, size).copied()
     }
@@ -242,15 +193,6 @@ impl<T: Copy> Tree<T> {
         self.spare = push(self.spare.take(), node);
         self.len -= 1;
         entry
-    }
-
-    /// Writes the value of a key that is there.
-    pub fn set(&mut self, key: u128, value: T)
-        requires there { IsSome (at_key key self.old.entries) }
-        ensures entries { self.new.entries ≡ with_value key value self.old.entries }
-        ensures room { self.new.room ≡ self.old.room }
-    {
-        walks::write_value(&mut self.root, key, value);
     }
 
     /// Moves the entry of a key that is there to the key `to`, and makes it as large as `size`, which is no less than it

@@ -1,6 +1,6 @@
 //! Walks down a tree.
 ghost use Rattle.std.specs.Prelude.{◌≡◌, ◌+◌, ◌^◌, ◌<◌, ◌≤◌, [], length, IsSome, IfSome, IfNone};
-ghost use Rattle.acc_tree.specs.Listing.{KeysRise, at_key, first_from, last_before, first_large, first_large_from, with_value};
+ghost use Rattle.acc_tree.specs.Listing.{KeysRise, at_key, first_from, last_before, first_large, first_large_from};
 ghost use Rattle.acc_tree.specs.Growing.{with_range};
 ghost use Rattle.acc_tree.specs.Nodes.{entries_in, height_of, length_of};
 ghost use Rattle.acc_tree.specs.Listing.{seen};
@@ -24,30 +24,6 @@ fn visit<'a, T: Copy>(tree: &'a Link<T>, steps: &mut Steps) -> Option<&'a Node<T
         Some(node) => {
             steps.tick();
             Some(node)
-        }
-    }
-}
-
-/// The entry of a key. Each node on the way is a step.
-pub fn find<'a, T: Copy>(tree: &'a Link<T>, key: u128, steps: &mut Steps) -> Option<&'a Entry<T>>
-    requires rising { KeysRise (entries_in tree.now) }
-    requires limit { steps.old + height_of tree.now < 2 ^ 33 }
-    ensures found { seen result ≡ at_key key (entries_in tree.now) }
-    ensures not_fewer { steps.old ≤ steps.new }
-    ensures least { 0 < length (entries_in tree.now) → steps.old < steps.new }
-    ensures steps { steps.new ≤ steps.old + height_of tree.now }
-{
-    match visit(tree, steps) {
-        None => None,
-        Some(node) => {
-            let here = node.entry.key;
-            if key < here {
-                find(&node.left, key, steps)
-            } else if here < key {
-                find(&node.right, key, steps)
-            } else {
-                Some(&node.entry)
-            }
         }
     }
 }
@@ -111,24 +87,20 @@ pub fn find_large_from<'a, T: Copy>(tree: &'a Link<T>, key: u128, size: u64) -> 
     }
 }
 
-/// The last entry before a key and the first from it on. Each node on the way is a step.
+/// The last entry before a key and the first from it on.
 pub fn find_around<'a, T: Copy>(
     tree: &'a Link<T>,
     key: u128,
-    steps: &mut Steps,
 ) -> (Option<&'a Entry<T>>, Option<&'a Entry<T>>)
     requires rising { KeysRise (entries_in tree.now) }
-    requires limit { steps.old + height_of tree.now < 2 ^ 33 }
     ensures before { seen result.0 ≡ last_before key (entries_in tree.now) }
     ensures from { seen result.1 ≡ first_from key (entries_in tree.now) }
-    ensures not_fewer { steps.old ≤ steps.new }
-    ensures least { 0 < length (entries_in tree.now) → steps.old < steps.new }
-    ensures steps { steps.new ≤ steps.old + height_of tree.now }
 {
     let mut before: Option<&'a Entry<T>> = None;
     let mut from: Option<&'a Entry<T>> = None;
     let mut rest = tree;
-    'down: while let Some(node) = visit(rest, steps) {
+    'down: while let Some(node) = rest {
+        let node: &Node<T> = node;
         let here = node.entry.key;
         if here < key {
             before = Some(&node.entry);
@@ -139,28 +111,6 @@ pub fn find_around<'a, T: Copy>(
         }
     }
     (before, from)
-}
-
-/// Writes the value of a key, if it is there.
-pub fn write_value<T: Copy>(tree: &mut Link<T>, key: u128, value: T)
-    requires rising { KeysRise (entries_in tree.old) }
-    ensures entries { entries_in tree.new ≡ with_value key value (entries_in tree.old) }
-    ensures height { height_of tree.new ≡ height_of tree.old }
-    ensures behind { length_of tree.new ≡ length_of tree.old }
-{
-    match tree {
-        None => {}
-        Some(node) => {
-            let node: &mut Node<T> = node;
-            if key < node.entry.key {
-                write_value(&mut node.left, key, value);
-            } else if node.entry.key < key {
-                write_value(&mut node.right, key, value);
-            } else {
-                node.entry.value = value;
-            }
-        }
-    }
 }
 
 /// Writes another key and a size that is no less at a key that is there. The greatest sizes are raised on the way down,

@@ -1,5 +1,5 @@
 use Rattle.std.proofs.Common.{◌≡◌, ◌++◌, List, Some, None, arith, sym, ap, subst, ◌∙◌, append_assoc}
-use Rattle.acc_ordered.specs.declared.entries.Entry.{Entry}
+use Rattle.acc_ordered.specs.declared.entries.KeyValue.{KeyValue}
 use Rattle.acc_ordered.specs.Listing.{KeysRise, at_key, with_entry}
 use Rattle.acc_ordered.specs.Shape.{Shape}
 use Rattle.acc_ordered.specs.Row.{HasEnds}
@@ -11,7 +11,7 @@ use Rattle.acc_ordered.proofs.changes.+insert.Goals as goal
 
 pub insert-left-requires : goal.insert-left-requires
 insert-left-requires g t c κs within =
-    let e : Entry g.row.T.Denot = c.args.entry in
+    let e : KeyValue g.row.T.Denot = c.args.entry in
     let l = entries_in c.split-left.result.0 in
     let w = c.split-left.result.1.value.entries in
     let r = entries_in c.split-left.result.2 in
@@ -21,14 +21,14 @@ insert-left-requires g t c κs within =
     let first = c.ends_of-first.result.0 in
     let last = c.ends_of-first.result.1 in
     let keys : HasEnds first last w = subst (λ (s : Shape g.row.T.Denot). HasEnds first last s.entries) c.deref.ensures c.ends_of-first.ensures in
-    let p : Parts first last l w r = parts first last l w r keys (subst (λ (es : List (Entry g.row.T.Denot)). KeysRise es) whole c.requires.rising) in
-    let new : at_key e.key (l ++ w ++ r) ≡ None = subst (λ (es : List (Entry g.row.T.Denot)). at_key e.key es ≡ None) whole c.requires.new in
+    let p : Parts first last l w r = parts first last l w r keys (subst (λ (es : List (KeyValue g.row.T.Denot)). KeysRise es) whole c.requires.rising) in
+    let new : at_key e.key (l ++ w ++ r) ≡ None = subst (λ (es : List (KeyValue g.row.T.Denot)). at_key e.key es ≡ None) whole c.requires.new in
     let d = left_beside e.key first last l w r p c.if-entry-first.true in
     (omega (arith, c.split-left.ensures.height), (within, (c.requires.leaf, (c.split-left.ensures.balanced.left, (omega (arith, c.split-left.ensures.height, c.requires.limit), (p.head.left, sym (at_left e.key l w r d) ∙ new))))))
 
 pub insert-right-requires : goal.insert-right-requires
 insert-right-requires g t c κs within =
-    let e : Entry g.row.T.Denot = c.args.entry in
+    let e : KeyValue g.row.T.Denot = c.args.entry in
     let l = entries_in c.split-left.result.0 in
     let w = c.split-left.result.1.value.entries in
     let r = entries_in c.split-left.result.2 in
@@ -38,14 +38,14 @@ insert-right-requires g t c κs within =
     let first = c.ends_of-first.result.0 in
     let last = c.ends_of-first.result.1 in
     let keys : HasEnds first last w = subst (λ (s : Shape g.row.T.Denot). HasEnds first last s.entries) c.deref.ensures c.ends_of-first.ensures in
-    let p : Parts first last l w r = parts first last l w r keys (subst (λ (es : List (Entry g.row.T.Denot)). KeysRise es) whole c.requires.rising) in
-    let new : at_key e.key (l ++ w ++ r) ≡ None = subst (λ (es : List (Entry g.row.T.Denot)). at_key e.key es ≡ None) whole c.requires.new in
+    let p : Parts first last l w r = parts first last l w r keys (subst (λ (es : List (KeyValue g.row.T.Denot)). KeysRise es) whole c.requires.rising) in
+    let new : at_key e.key (l ++ w ++ r) ≡ None = subst (λ (es : List (KeyValue g.row.T.Denot)). at_key e.key es ≡ None) whole c.requires.new in
     let d = right_beside e.key first last l w r p c.if-last-entry.true in
     (omega (arith, c.split-left.ensures.height), (within, (c.requires.leaf, (c.split-left.ensures.balanced.right, (omega (arith, c.split-left.ensures.height, c.requires.limit), (p.foot.right, sym (at_right e.key l w r d) ∙ new))))))
 
 pub cut-lower-requires-clause-more : goal.cut-lower-requires-clause-more
 cut-lower-requires-clause-more g t c =
-    let e : Entry g.row.T.Denot = c.args.entry in
+    let e : KeyValue g.row.T.Denot = c.args.entry in
     let l = entries_in c.split-left.result.0 in
     let w = c.split-left.result.1.value.entries in
     let r = entries_in c.split-left.result.2 in
@@ -55,14 +55,14 @@ cut-lower-requires-clause-more g t c =
     let first = c.ends_of-first.result.0 in
     let last = c.ends_of-first.result.1 in
     let keys : HasEnds first last w = subst (λ (s : Shape g.row.T.Denot). HasEnds first last s.entries) c.deref.ensures c.ends_of-first.ensures in
-    let p : Parts first last l w r = parts first last l w r keys (subst (λ (es : List (Entry g.row.T.Denot)). KeysRise es) whole c.requires.rising) in
-    let new : at_key e.key (l ++ w ++ r) ≡ None = subst (λ (es : List (Entry g.row.T.Denot)). at_key e.key es ≡ None) whole c.requires.new in
+    let p : Parts first last l w r = parts first last l w r keys (subst (λ (es : List (KeyValue g.row.T.Denot)). KeysRise es) whole c.requires.rising) in
+    let new : at_key e.key (l ++ w ++ r) ≡ None = subst (λ (es : List (KeyValue g.row.T.Denot)). at_key e.key es ≡ None) whole c.requires.new in
     let d = row_beside e.key first last l w r p c.if-entry-first.false c.if-last-entry.false in
     two_ends first last w keys (omega (arith, not_first e.key first last w keys (sym (at_beside e.key l w r d) ∙ new) c.if-entry-first.false, c.if-last-entry.false))
 
 pub cut-lower-requires-clause-rising : goal.cut-lower-requires-clause-rising
 cut-lower-requires-clause-rising g t c =
-    let e : Entry g.row.T.Denot = c.args.entry in
+    let e : KeyValue g.row.T.Denot = c.args.entry in
     let l = entries_in c.split-left.result.0 in
     let w = c.split-left.result.1.value.entries in
     let r = entries_in c.split-left.result.2 in
@@ -72,13 +72,13 @@ cut-lower-requires-clause-rising g t c =
     let first = c.ends_of-first.result.0 in
     let last = c.ends_of-first.result.1 in
     let keys : HasEnds first last w = subst (λ (s : Shape g.row.T.Denot). HasEnds first last s.entries) c.deref.ensures c.ends_of-first.ensures in
-    let p : Parts first last l w r = parts first last l w r keys (subst (λ (es : List (Entry g.row.T.Denot)). KeysRise es) whole c.requires.rising) in
-    let new : at_key e.key (l ++ w ++ r) ≡ None = subst (λ (es : List (Entry g.row.T.Denot)). at_key e.key es ≡ None) whole c.requires.new in
+    let p : Parts first last l w r = parts first last l w r keys (subst (λ (es : List (KeyValue g.row.T.Denot)). KeysRise es) whole c.requires.rising) in
+    let new : at_key e.key (l ++ w ++ r) ≡ None = subst (λ (es : List (KeyValue g.row.T.Denot)). at_key e.key es ≡ None) whole c.requires.new in
     p.rising
 
 pub cut-lower-requires-clause-new : goal.cut-lower-requires-clause-new
 cut-lower-requires-clause-new g t c =
-    let e : Entry g.row.T.Denot = c.args.entry in
+    let e : KeyValue g.row.T.Denot = c.args.entry in
     let l = entries_in c.split-left.result.0 in
     let w = c.split-left.result.1.value.entries in
     let r = entries_in c.split-left.result.2 in
@@ -88,14 +88,14 @@ cut-lower-requires-clause-new g t c =
     let first = c.ends_of-first.result.0 in
     let last = c.ends_of-first.result.1 in
     let keys : HasEnds first last w = subst (λ (s : Shape g.row.T.Denot). HasEnds first last s.entries) c.deref.ensures c.ends_of-first.ensures in
-    let p : Parts first last l w r = parts first last l w r keys (subst (λ (es : List (Entry g.row.T.Denot)). KeysRise es) whole c.requires.rising) in
-    let new : at_key e.key (l ++ w ++ r) ≡ None = subst (λ (es : List (Entry g.row.T.Denot)). at_key e.key es ≡ None) whole c.requires.new in
+    let p : Parts first last l w r = parts first last l w r keys (subst (λ (es : List (KeyValue g.row.T.Denot)). KeysRise es) whole c.requires.rising) in
+    let new : at_key e.key (l ++ w ++ r) ≡ None = subst (λ (es : List (KeyValue g.row.T.Denot)). at_key e.key es ≡ None) whole c.requires.new in
     let d = row_beside e.key first last l w r p c.if-entry-first.false c.if-last-entry.false in
     sym (at_beside e.key l w r d) ∙ new
 
 pub returns-then-entry-first-clause-entries : goal.returns-then-entry-first-clause-entries
 returns-then-entry-first-clause-entries g t c =
-    let e : Entry g.row.T.Denot = c.args.entry in
+    let e : KeyValue g.row.T.Denot = c.args.entry in
     let l = entries_in c.split-left.result.0 in
     let w = c.split-left.result.1.value.entries in
     let r = entries_in c.split-left.result.2 in
@@ -105,14 +105,14 @@ returns-then-entry-first-clause-entries g t c =
     let first = c.ends_of-first.result.0 in
     let last = c.ends_of-first.result.1 in
     let keys : HasEnds first last w = subst (λ (s : Shape g.row.T.Denot). HasEnds first last s.entries) c.deref.ensures c.ends_of-first.ensures in
-    let p : Parts first last l w r = parts first last l w r keys (subst (λ (es : List (Entry g.row.T.Denot)). KeysRise es) whole c.requires.rising) in
-    let new : at_key e.key (l ++ w ++ r) ≡ None = subst (λ (es : List (Entry g.row.T.Denot)). at_key e.key es ≡ None) whole c.requires.new in
+    let p : Parts first last l w r = parts first last l w r keys (subst (λ (es : List (KeyValue g.row.T.Denot)). KeysRise es) whole c.requires.rising) in
+    let new : at_key e.key (l ++ w ++ r) ≡ None = subst (λ (es : List (KeyValue g.row.T.Denot)). at_key e.key es ≡ None) whole c.requires.new in
     let d = left_beside e.key first last l w r p c.if-entry-first.true in
-    c.balance.ensures.entries ∙ ap (λ (es : List (Entry g.row.T.Denot)). es ++ w ++ r) c.insert-left.ensures.entries ∙ sym (with_left_part e l w r d) ∙ sym (ap (with_entry e) whole)
+    c.balance.ensures.entries ∙ ap (λ (es : List (KeyValue g.row.T.Denot)). es ++ w ++ r) c.insert-left.ensures.entries ∙ sym (with_left_part e l w r d) ∙ sym (ap (with_entry e) whole)
 
 pub returns-then-last-entry-clause-entries : goal.returns-then-last-entry-clause-entries
 returns-then-last-entry-clause-entries g t c =
-    let e : Entry g.row.T.Denot = c.args.entry in
+    let e : KeyValue g.row.T.Denot = c.args.entry in
     let l = entries_in c.split-left.result.0 in
     let w = c.split-left.result.1.value.entries in
     let r = entries_in c.split-left.result.2 in
@@ -122,14 +122,14 @@ returns-then-last-entry-clause-entries g t c =
     let first = c.ends_of-first.result.0 in
     let last = c.ends_of-first.result.1 in
     let keys : HasEnds first last w = subst (λ (s : Shape g.row.T.Denot). HasEnds first last s.entries) c.deref.ensures c.ends_of-first.ensures in
-    let p : Parts first last l w r = parts first last l w r keys (subst (λ (es : List (Entry g.row.T.Denot)). KeysRise es) whole c.requires.rising) in
-    let new : at_key e.key (l ++ w ++ r) ≡ None = subst (λ (es : List (Entry g.row.T.Denot)). at_key e.key es ≡ None) whole c.requires.new in
+    let p : Parts first last l w r = parts first last l w r keys (subst (λ (es : List (KeyValue g.row.T.Denot)). KeysRise es) whole c.requires.rising) in
+    let new : at_key e.key (l ++ w ++ r) ≡ None = subst (λ (es : List (KeyValue g.row.T.Denot)). at_key e.key es ≡ None) whole c.requires.new in
     let d = right_beside e.key first last l w r p c.if-last-entry.true in
-    c.balance-then-last-entry.ensures.entries ∙ ap (λ (es : List (Entry g.row.T.Denot)). l ++ w ++ es) c.insert-right.ensures.entries ∙ sym (with_right_part e l w r d) ∙ sym (ap (with_entry e) whole)
+    c.balance-then-last-entry.ensures.entries ∙ ap (λ (es : List (KeyValue g.row.T.Denot)). l ++ w ++ es) c.insert-right.ensures.entries ∙ sym (with_right_part e l w r d) ∙ sym (ap (with_entry e) whole)
 
 pub returns-else-last-entry-clause-entries : goal.returns-else-last-entry-clause-entries
 returns-else-last-entry-clause-entries g t c =
-    let e : Entry g.row.T.Denot = c.args.entry in
+    let e : KeyValue g.row.T.Denot = c.args.entry in
     let l = entries_in c.split-left.result.0 in
     let w = c.split-left.result.1.value.entries in
     let r = entries_in c.split-left.result.2 in
@@ -139,15 +139,15 @@ returns-else-last-entry-clause-entries g t c =
     let first = c.ends_of-first.result.0 in
     let last = c.ends_of-first.result.1 in
     let keys : HasEnds first last w = subst (λ (s : Shape g.row.T.Denot). HasEnds first last s.entries) c.deref.ensures c.ends_of-first.ensures in
-    let p : Parts first last l w r = parts first last l w r keys (subst (λ (es : List (Entry g.row.T.Denot)). KeysRise es) whole c.requires.rising) in
-    let new : at_key e.key (l ++ w ++ r) ≡ None = subst (λ (es : List (Entry g.row.T.Denot)). at_key e.key es ≡ None) whole c.requires.new in
+    let p : Parts first last l w r = parts first last l w r keys (subst (λ (es : List (KeyValue g.row.T.Denot)). KeysRise es) whole c.requires.rising) in
+    let new : at_key e.key (l ++ w ++ r) ≡ None = subst (λ (es : List (KeyValue g.row.T.Denot)). at_key e.key es ≡ None) whole c.requires.new in
     let d = row_beside e.key first last l w r p c.if-entry-first.false c.if-last-entry.false in
     let lower = c.cut-lower.result.0.value.entries in
     let upper = c.cut-lower.result.1.value.entries in
     c.balance-else-last-entry.ensures.entries
-    ∙ ap (λ (es : List (Entry g.row.T.Denot)). l ++ lower ++ es) c.put_first-right.ensures.entries
+    ∙ ap (λ (es : List (KeyValue g.row.T.Denot)). l ++ lower ++ es) c.put_first-right.ensures.entries
     ∙ sym (append_assoc (l ++ lower) upper r)
-    ∙ ap (λ (es : List (Entry g.row.T.Denot)). es ++ r) (append_assoc l lower upper)
-    ∙ ap (λ (es : List (Entry g.row.T.Denot)). l ++ es ++ r) (sym c.cut-lower.ensures.entries)
+    ∙ ap (λ (es : List (KeyValue g.row.T.Denot)). es ++ r) (append_assoc l lower upper)
+    ∙ ap (λ (es : List (KeyValue g.row.T.Denot)). l ++ es ++ r) (sym c.cut-lower.ensures.entries)
     ∙ sym (with_beside e l w r d)
     ∙ sym (ap (with_entry e) whole)

@@ -1,5 +1,5 @@
 use Rattle.std.proofs.Common.{◌++◌, List, Some, arith, sym, subst, ◌∙◌}
-use Rattle.acc_ordered.specs.declared.entries.Entry.{Entry}
+use Rattle.acc_ordered.specs.declared.entries.KeyValue.{KeyValue}
 use Rattle.acc_ordered.specs.Listing.{last_before}
 use Rattle.acc_ordered.specs.Nodes.{entries_in}
 use Rattle.acc_ordered.specs.Rewritten.{IsWalked}
@@ -36,7 +36,7 @@ returns-then-key-first-clause-walked g t c =
     let f = g.C.Rewriting.becomes c.args.change.now in
     let o = opened c.args.tree.now c.in-Some.node n c.in-Some.is (c.node.view_is ∙ c.deref_mut-node.ensures.value) c.node.invariant c.requires.rising in
     let k = entries_in c.rewrite_before.new.tree in
-    subst (λ (es : List (Entry g.row.T.Denot)). IsWalked f (last_before c.args.key es) c.rewrite_before.result es (k ++ w ++ r)) (sym o.entries) (walked_left f c.args.key n.first n.last l k w r c.rewrite_before.result o.parts c.if-key-first.true c.rewrite_before.ensures.walked)
+    subst (λ (es : List (KeyValue g.row.T.Denot)). IsWalked f (last_before c.args.key es) c.rewrite_before.result es (k ++ w ++ r)) (sym o.entries) (walked_left f c.args.key n.first n.last l k w r c.rewrite_before.result o.parts c.if-key-first.true c.rewrite_before.ensures.walked)
 
 pub returns-in-Some-rewrite_before-clause-walked : goal.returns-in-Some-rewrite_before-clause-walked
 returns-in-Some-rewrite_before-clause-walked g t c =
@@ -49,7 +49,7 @@ returns-in-Some-rewrite_before-clause-walked g t c =
     let k = entries_in c.rewrite_before-then-last-key.new.tree in
     let done = c.in-Some-rewrite_before.done in
     let walked = rw c.in-Some-rewrite_before.is at c.rewrite_before-then-last-key.ensures.walked in
-    subst (λ (es : List (Entry g.row.T.Denot)). IsWalked f (last_before c.args.key es) (Some done) es (l ++ w ++ k)) (sym o.entries) (walked_right f c.args.key n.first n.last l w r k done o.parts c.if-last-key.true walked)
+    subst (λ (es : List (KeyValue g.row.T.Denot)). IsWalked f (last_before c.args.key es) (Some done) es (l ++ w ++ k)) (sym o.entries) (walked_right f c.args.key n.first n.last l w r k done o.parts c.if-last-key.true walked)
 
 pub returns-in-None-rewrite_before-clause-walked : goal.returns-in-None-rewrite_before-clause-walked
 returns-in-None-rewrite_before-clause-walked g t c =
@@ -63,7 +63,7 @@ returns-in-None-rewrite_before-clause-walked g t c =
     let v = c.rewrite_before-in-None-rewrite_before.new.self in
     let done = c.rewrite_before-in-None-rewrite_before.result in
     let none = rw c.in-None-rewrite_before.is at c.rewrite_before-then-last-key.ensures.walked in
-    subst (λ (es : List (Entry g.row.T.Denot)). IsWalked f (last_before c.args.key es) (Some done) es (l ++ v ++ k)) (sym o.entries) (walked_foot f c.args.key n.first n.last l w v r k done o.parts c.if-last-key.true none c.rewrite_before-in-None-rewrite_before.ensures.walked)
+    subst (λ (es : List (KeyValue g.row.T.Denot)). IsWalked f (last_before c.args.key es) (Some done) es (l ++ v ++ k)) (sym o.entries) (walked_foot f c.args.key n.first n.last l w v r k done o.parts c.if-last-key.true none c.rewrite_before-in-None-rewrite_before.ensures.walked)
 
 pub returns-else-last-key-clause-walked : goal.returns-else-last-key-clause-walked
 returns-else-last-key-clause-walked g t c =
@@ -75,4 +75,4 @@ returns-else-last-key-clause-walked g t c =
     let o = opened c.args.tree.now c.in-Some.node n c.in-Some.is (c.node.view_is ∙ c.deref_mut-node.ensures.value) c.node.invariant c.requires.rising in
     let v = c.rewrite_before-else-last-key.new.self in
     let done = c.rewrite_before-else-last-key.result in
-    subst (λ (es : List (Entry g.row.T.Denot)). IsWalked f (last_before c.args.key es) (Some done) es (l ++ v ++ r)) (sym o.entries) (walked_row f c.args.key n.first n.last l w v r done o.parts c.if-last-key.false c.rewrite_before-else-last-key.ensures.walked)
+    subst (λ (es : List (KeyValue g.row.T.Denot)). IsWalked f (last_before c.args.key es) (Some done) es (l ++ v ++ r)) (sym o.entries) (walked_row f c.args.key n.first n.last l w v r done o.parts c.if-last-key.false c.rewrite_before-else-last-key.ensures.walked)

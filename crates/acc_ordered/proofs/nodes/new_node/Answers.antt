@@ -1,5 +1,5 @@
 use Rattle.std.proofs.Common.{◌≡◌, ◌∷◌, [], List, refl, arith, sym, subst}
-use Rattle.acc_ordered.specs.declared.entries.Entry.{Entry}
+use Rattle.acc_ordered.specs.declared.entries.KeyValue.{KeyValue}
 use Rattle.acc_ordered.specs.Row.{HasEnds}
 use Rattle.acc_ordered.proofs.Ends.{ends_one}
 use Rattle.acc_ordered.proofs.Tall.{tall_leaf}
@@ -7,7 +7,7 @@ use Rattle.acc_ordered.proofs.nodes.new_node.Goals as goal
 
 pub invariant_of-node : goal.invariant_of-node
 invariant_of-node g c =
-    let e : Entry g.row.T.Denot = c.args.blank in
+    let e : KeyValue g.row.T.Denot = c.args.blank in
     let row : c.in_ok-row.row ≡ e ∷ [] = rw c.in_ok-row.was at c.new.ensures in
     record {
       left = tt;
@@ -16,7 +16,7 @@ invariant_of-node g c =
       height = refl;
       not_left = omega arith;
       not_right = omega arith;
-      row = subst (λ (es : List (Entry g.row.T.Denot)). HasEnds e.key e.key es) (sym row) (ends_one e);
+      row = subst (λ (es : List (KeyValue g.row.T.Denot)). HasEnds e.key e.key es) (sym row) (ends_one e);
       tall = tall_leaf;
       wide_left = omega arith;
       wide_right = omega arith;

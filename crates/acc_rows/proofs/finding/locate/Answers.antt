@@ -17,10 +17,10 @@ returns-then-is_some-clause-entry g c =
     near_found c.args.key c.args.rows.now c.args.near c.entry_of.result c.requires.in_rows.rising some c.entry_of.ensures.there c.entry_of.ensures.key
 
 pub ahead-requires-clause-within : goal.ahead-requires-clause-within
-ahead-requires-clause-within g c = c.place_of.ensures.place.within (some_rows c.args.key c.args.rows.now c.requires.there)
+ahead-requires-clause-within g c = c.place_of.ensures.within (some_rows c.args.key c.args.rows.now c.requires.there)
 
 pub ahead-requires-clause-some : goal.ahead-requires-clause-some
-ahead-requires-clause-some g c = split_bound c.args.key (side_by_side c.args.rows.now) (index_of c.args.rows.now c.place_of.result) c.place_of.ensures.place.split c.requires.there
+ahead-requires-clause-some g c = split_bound c.args.key (side_by_side c.args.rows.now) (index_of c.args.rows.now c.place_of.result) c.place_of.ensures.split c.requires.there
 
 pub returns-clause-entry : goal.returns-clause-entry
-returns-clause-entry g c = ap (slice_get (side_by_side c.args.rows.now)) c.ahead.ensures.number ∙ at_split c.args.key (side_by_side c.args.rows.now) (index_of c.args.rows.now c.place_of.result) c.requires.in_rows.rising c.place_of.ensures.place.split c.requires.there
+returns-clause-entry g c = ap (slice_get (side_by_side c.args.rows.now)) c.ahead.ensures.number ∙ at_split c.args.key (side_by_side c.args.rows.now) (index_of c.args.rows.now c.place_of.result) c.requires.in_rows.rising c.place_of.ensures.split c.requires.there

@@ -10,8 +10,6 @@ loop-eighth-preserved g c =
     record {
       whole = c.loop-eighth.invariant.whole;
       rest = c.loop-eighth.invariant.rest;
-      not_fewer = omega arith;
-      most = omega arith;
       eighths = eighth_step g.K.Keyed.key_of c.args.key c.args.items.now c.loop-eighth.eighth c.loop-eighth.low c.one_if_below.result c.index-items-eighth.result c.requires.rising (omega arith) c.loop-eighth.invariant.eighths (c.one_if_below.ensures ∙ ap (λ (k : ℕ). if nat_lt k c.args.key then 1 else 0) is);
     }
 

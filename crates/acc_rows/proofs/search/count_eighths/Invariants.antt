@@ -6,7 +6,5 @@ abbrev pub invariant-loop-eighth : goal.invariant-loop-eighth
 invariant-loop-eighth g l = record {
   whole : 8 * l.eighth-end ≤ length l.items;
   rest : length l.items < 8 * l.eighth-end + 8;
-  not_fewer : l.initial.steps ≤ l.steps;
-  most : l.steps ≤ l.initial.steps + l.eighth;
   eighths : IsEighths g.K.Keyed.key_of l.key l.items l.eighth l.low;
 }

@@ -10,12 +10,10 @@ loop-nth-preserved g c =
     record {
       bound = c.loop-nth.invariant.bound;
       first = omega arith;
-      not_fewer = omega arith;
-      most = omega arith;
       counted = counted_step g.K.Keyed.key_of c.args.key c.args.items.now c.loop-nth.nth c.loop-nth.place c.one_if_below-place.result c.index-items-nth.result c.requires.rising (omega arith) c.loop-nth.invariant.counted (c.one_if_below-place.ensures ∙ ap (λ (k : ℕ). if nat_lt k c.args.key then 1 else 0) is);
     }
 
-pub returns-clause-split : goal.returns-clause-split
-returns-clause-split g c =
+pub returns : goal.returns
+returns g c =
     let end : c.loop-nth.nth ≡ c.min-high.result = omega arith in
     counted_split g.K.Keyed.key_of c.args.key c.args.items.now c.loop-nth.nth c.loop-nth.place (omega arith) c.loop-nth.invariant.counted (high_behind g.K.Keyed.key_of c.args.key c.args.items.now c.count_eighths-low.result c.min-high.result c.loop-nth.nth c.min-high.ensures end c.count_eighths-low.ensures.failed)

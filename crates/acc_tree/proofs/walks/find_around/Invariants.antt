@@ -1,4 +1,4 @@
-use Rattle.std.proofs.Common.{◌≡◌, ◌+◌, ◌<◌, ◌≤◌, ◌⊎◌}
+use Rattle.std.proofs.Common.{◌≡◌}
 use Rattle.std.specs.Option.{option_or}
 use Rattle.acc_tree.specs.Listing.{KeysRise, seen, first_from, last_before}
 use Rattle.acc_tree.specs.Nodes.{entries_in, height_of}
@@ -9,9 +9,6 @@ invariant-down g l = record {
   rising : KeysRise (entries_in l.rest);
   before : option_or (last_before l.key (entries_in l.rest)) (seen l.before) ≡ last_before l.key (entries_in l.tree);
   from : option_or (first_from l.key (entries_in l.rest)) (seen l.from) ≡ first_from l.key (entries_in l.tree);
-  not_fewer : l.initial.steps ≤ l.steps;
-  least : (entries_in l.rest ≡ entries_in l.tree) ⊎ (l.initial.steps < l.steps);
-  steps : l.steps + height_of l.rest ≤ l.initial.steps + height_of l.tree;
 }
 
 abbrev pub decreases-down : goal.decreases-down

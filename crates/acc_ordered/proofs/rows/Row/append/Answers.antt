@@ -1,6 +1,6 @@
 use Rattle.std.proofs.Common.{◌++◌, List, length, ap, ◌∙◌, arith}
 use Rattle.std.specs.Prelude.{IsOk}
-use Rattle.acc_ordered.specs.declared.entries.Entry.{Entry}
+use Rattle.acc_ordered.specs.declared.entries.KeyValue.{KeyValue}
 use Rattle.acc_ordered.specs.Paired.{paired}
 use Rattle.acc_ordered.proofs.Paired.{paired_length, paired_append}
 use Rattle.acc_ordered.proofs.rows.Row.append.Goals as goal
@@ -25,5 +25,5 @@ returns g c =
     ap (λ a. paired a c.extend_from_slice-2.new.self.items) ((rw ok at c.extend_from_slice.ensures.items) ∙ ap (λ b. ks ++ b) c.deref.ensures.value)
     ∙ ap (λ a. paired (ks ++ c.upper.inside.keys.items) a) ((rw ok_values at c.extend_from_slice-2.ensures.items) ∙ ap (λ b. vs ++ b) c.deref-2.ensures.value)
     ∙ paired_append c.self.inside.keys.items c.self.inside.values.items c.upper.inside.keys.items c.upper.inside.values.items c.self.invariant.each
-    ∙ ap (λ (es : List (Entry g.row.T.Denot)). es ++ paired c.upper.inside.keys.items c.upper.inside.values.items) c.self.view_is
-    ∙ ap (λ (es : List (Entry g.row.T.Denot)). c.args.self.now ++ es) c.upper.view_is
+    ∙ ap (λ (es : List (KeyValue g.row.T.Denot)). es ++ paired c.upper.inside.keys.items c.upper.inside.values.items) c.self.view_is
+    ∙ ap (λ (es : List (KeyValue g.row.T.Denot)). c.args.self.now ++ es) c.upper.view_is

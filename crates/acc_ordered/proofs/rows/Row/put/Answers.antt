@@ -1,6 +1,6 @@
 use Rattle.std.proofs.Common.{◌≡◌, List, length, insert, sym, ap, ◌∙◌, arith}
 use Rattle.std.specs.Prelude.{IsOk}
-use Rattle.acc_ordered.specs.declared.entries.Entry.{Entry}
+use Rattle.acc_ordered.specs.declared.entries.KeyValue.{KeyValue}
 use Rattle.acc_ordered.specs.Paired.{paired}
 use Rattle.acc_ordered.proofs.Paired.{paired_length, paired_insert}
 use Rattle.acc_ordered.proofs.Within.{with_split}
@@ -28,11 +28,11 @@ returns-clause-entries g c =
     let ok : IsOk c.insert.result = c.insert.ensures.succeeds (omega (arith, c.requires.free, c.self.invariant.keys, ap length c.self.view_is, paired_length c.self.inside.keys.items c.self.inside.values.items c.self.invariant.each, c.self.invariant.each, c.self.inside.keys.ok.0, c.self.inside.values.ok.0)) in
     let ok_values : IsOk c.insert-2.result = c.insert-2.ensures.succeeds (omega (arith, c.requires.free, c.self.invariant.values, ap length c.self.view_is, paired_length c.self.inside.keys.items c.self.inside.values.items c.self.invariant.each, c.self.invariant.each, c.self.inside.keys.ok.0, c.self.inside.values.ok.0)) in
     let place = c.place-place.result in
-    let e : Entry g.row.T.Denot = c.args.entry in
+    let e : KeyValue g.row.T.Denot = c.args.entry in
     ap (λ ks. paired ks c.insert-2.new.self.items) (rw ok at c.insert.ensures.items)
     ∙ ap (λ vs. paired (insert c.self.inside.keys.items place e.key) vs) (rw ok_values at c.insert-2.ensures.items)
     ∙ paired_insert c.self.inside.keys.items c.self.inside.values.items place e.key e.value c.self.invariant.each
-    ∙ ap (λ (es : List (Entry g.row.T.Denot)). insert es place e) c.self.view_is
+    ∙ ap (λ (es : List (KeyValue g.row.T.Denot)). insert es place e) c.self.view_is
     ∙ sym (with_split e c.args.self.now place c.place-place.ensures c.requires.new)
 
 pub returns-clause-len : goal.returns-clause-len

@@ -1,7 +1,7 @@
 use Rattle.std.proofs.Common.{◌≡◌, ◌-◌, List, length, get_or, set, Some, None, refl, sym, ap, ◌∙◌, true, false, arith}
 use Rattle.std.specs.Prelude.{slice_get}
 use Rattle.std.proofs.lemmas.Option.{slice_get-get_or}
-use Rattle.acc_ordered.specs.declared.entries.Entry.{Entry}
+use Rattle.acc_ordered.specs.declared.entries.KeyValue.{KeyValue}
 use Rattle.acc_ordered.specs.Listing.{last_before}
 use Rattle.acc_ordered.proofs.Paired.{paired_length, paired_set}
 use Rattle.acc_ordered.proofs.Within.{before_at}
@@ -21,7 +21,7 @@ returns-in-Some-clause-walked g c =
     let ks = c.self.inside.keys.items in
     let vs = c.self.inside.values.items in
     let n = c.place-place.result - 1 in
-    let d : Entry g.row.T.Denot = record { key = c.args.key; value = c.in-Some.value } in
+    let d : KeyValue g.row.T.Denot = record { key = c.args.key; value = c.in-Some.value } in
     let lt = (place_in c.args.key c.args.first c.args.last es c.place-place.result c.requires.ends c.requires.behind c.place-place.ensures).1 in
     let here : slice_get es n ≡ Some (get_or es n d) = slice_get-get_or es n d lt in
     let value = value_read es ks vs n d c.index.result.now c.self.view_is c.self.invariant.each lt c.index.ensures in
@@ -29,7 +29,7 @@ returns-in-Some-clause-walked g c =
     (before_at c.args.key c.args.first c.args.last es c.place-place.result (get_or es n d) c.requires.ends c.requires.behind c.place-place.ensures here)
     (sym c.in-Some.is ∙ c.rewrite.ensures ∙ ap f value)
     lt
-    (refl, paired_set ks vs n c.in-Some.value d c.self.invariant.each ∙ ap (λ (xs : List (Entry g.row.T.Denot)). set xs n (record (get_or xs n d) { value = c.in-Some.value })) c.self.view_is)
+    (refl, paired_set ks vs n c.in-Some.value d c.self.invariant.each ∙ ap (λ (xs : List (KeyValue g.row.T.Denot)). set xs n (record (get_or xs n d) { value = c.in-Some.value })) c.self.view_is)
 
 pub returns-in-Some-clause-ends : goal.returns-in-Some-clause-ends
 returns-in-Some-clause-ends g c = ends_walked (g.C.Rewriting.becomes c.args.change.now) c.args.first c.args.last (last_before c.args.key c.args.self.now) true c.args.self.now _ (returns-in-Some-clause-walked g c) c.requires.ends
@@ -39,7 +39,7 @@ returns-in-None-clause-walked g c =
     let f = g.C.Rewriting.becomes c.args.change.now in
     let es = c.args.self.now in
     let n = c.place-place.result - 1 in
-    let d : Entry g.row.T.Denot = record { key = c.args.key; value = c.index.result.now } in
+    let d : KeyValue g.row.T.Denot = record { key = c.args.key; value = c.index.result.now } in
     let lt = (place_in c.args.key c.args.first c.args.last es c.place-place.result c.requires.ends c.requires.behind c.place-place.ensures).1 in
     let here : slice_get es n ≡ Some (get_or es n d) = slice_get-get_or es n d lt in
     let value = value_read es c.self.inside.keys.items c.self.inside.values.items n d c.index.result.now c.self.view_is c.self.invariant.each lt c.index.ensures in

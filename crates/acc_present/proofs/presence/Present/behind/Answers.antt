@@ -2,7 +2,7 @@ use Rattle.std.proofs.Common.{◌≡◌, ◌+◌, ◌≤◌, ◌^◌, Option, ap
 use Rattle.std.specs.Prelude.{ℕ, option_map}
 use Rattle.acc_base.specs.declared.mappings.Range.{Range}
 use Rattle.acc_base.specs.Ranges.{range_from}
-use Rattle.acc_ordered.specs.declared.entries.Entry.{Entry}
+use Rattle.acc_ordered.specs.declared.entries.KeyValue.{KeyValue}
 use Rattle.acc_present.specs.Present.{PresentState}
 use Rattle.acc_present.proofs.Mapping.{first_value, none_past}
 use Rattle.acc_present.proofs.presence.Present.behind.Goals as goal
@@ -15,4 +15,4 @@ returns-in_err-checked_add c =
 pub returns : goal.returns
 returns c =
     let from : c.in_ok-checked_add.field-0 ≡ c.args.range.section.start + 1 = c.in_ok-checked_add.ensures.1 in
-    c.range_if.ensures ∙ ap (λ (o : Option (Entry Range)). option_map (λ (e : Entry Range). e.value) o) c.next.ensures ∙ first_value c.in_ok-checked_add.field-0 c.self.inside.ranges.entries c.self.invariant.2.keyed ∙ ap (λ (p : PresentState). range_from c.in_ok-checked_add.field-0 p.table.ranges) c.self.view_is ∙ ap (λ (k : ℕ). range_from k c.args.self.now.table.ranges) from
+    c.range_if.ensures ∙ ap (λ (o : Option (KeyValue Range)). option_map (λ (e : KeyValue Range). e.value) o) c.next.ensures ∙ first_value c.in_ok-checked_add.field-0 c.self.inside.ranges.entries c.self.invariant.2.keyed ∙ ap (λ (p : PresentState). range_from c.in_ok-checked_add.field-0 p.table.ranges) c.self.view_is ∙ ap (λ (k : ℕ). range_from k c.args.self.now.table.ranges) from

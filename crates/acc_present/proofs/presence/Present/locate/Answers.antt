@@ -3,7 +3,7 @@ use Rattle.std.specs.Prelude.{option_map, IfSome}
 use Rattle.std.proofs.lemmas.Bool.Decides.{nat_tests}
 use Rattle.acc_base.specs.declared.mappings.Range.{Range}
 use Rattle.acc_base.specs.Ranges.{range_from, range_of, where_is_apart}
-use Rattle.acc_ordered.specs.declared.entries.Entry.{Entry}
+use Rattle.acc_ordered.specs.declared.entries.KeyValue.{KeyValue}
 use Rattle.acc_ordered.specs.Listing.{seen}
 use Rattle.acc_present.specs.Present.{PresentState}
 use Rattle.acc_present.specs.Kept.{ranges_in, IsNext}
@@ -31,7 +31,7 @@ returns-in-Some-told_by-clause-found c =
 
 -- the first range from the address on that was searched for
 first : (c : goal.After-range_if-2) → c.range_if-2.result ≡ range_from c.saturating_add.result (ranges_in c.self.inside.ranges.entries)
-first c = c.range_if-2.ensures ∙ ap (option_map (λ (e : Entry Range). e.value)) c.around_counted-around.ensures.from ∙ first_value c.saturating_add.result c.self.inside.ranges.entries c.self.invariant.2.keyed
+first c = c.range_if-2.ensures ∙ ap (option_map (λ (e : KeyValue Range). e.value)) c.around_counted-around.ensures.from ∙ first_value c.saturating_add.result c.self.inside.ranges.entries c.self.invariant.2.keyed
 
 pub returns-clause-next : goal.returns-clause-next
 returns-clause-next c =

@@ -6,7 +6,7 @@ use Rattle.acc_base.specs.Ranges.{where_is, range_of, with_range}
 use Rattle.acc_base.proofs.RangeChanges.{all_with}
 use Rattle.acc_index.specs.Indexed.{value_at}
 use Rattle.acc_index.proofs.Indexing.{value-with}
-use Rattle.acc_ordered.specs.declared.entries.Entry.{Entry}
+use Rattle.acc_ordered.specs.declared.entries.KeyValue.{KeyValue}
 use Rattle.acc_present.specs.Present.{PresentState, IsWithinLimit, with_ranges}
 use Rattle.acc_present.specs.Kept.{start_in, ranges_in}
 use Rattle.acc_present.proofs.Mapping.{absent_start, start_new, with_entry-ranges, mapped_now}
@@ -27,7 +27,7 @@ invariant_of-self c =
     let es = c.self.inside.ranges.entries in
     let most = c.self.inside.counter_max in
     let whole = sym (ap (λ (p : PresentState). p.table.ranges) c.self.view_is) in
-    let new : Entry Range = record { key = c.args.range.section.start; value = c.args.range } in (
+    let new : KeyValue Range = record { key = c.args.range.section.start; value = c.args.range } in (
       c.self.invariant.0,
       subst (λ (rs : List Range). AllByRecursion (IsWithinLimit most) rs) (sym (ranges c)) (all_with (IsWithinLimit most) c.args.range (ranges_in es) (subst (λ (n : ℕ). IsWithinLimit n c.args.range) (sym (ap (λ (p : PresentState). p.table.counter_max) c.self.view_is)) c.requires.within) c.self.invariant.1),
       rw c.insert.ensures.entries (mapped_now new es (start_in c.self.inside.starts) (start_in c.insert-2.new.self) c.self.invariant.2 (record { start = refl; bound = omega arith })

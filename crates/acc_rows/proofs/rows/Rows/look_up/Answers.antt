@@ -10,13 +10,13 @@ use Rattle.acc_rows.proofs.rows.Rows.look_up.Goals as goal
 pub returns-in_default : goal.returns-in_default
 returns-in_default g c =
     let is : side_by_side c.self.inside.rows.items ≡ c.args.self.now.entries = ap (λ (l : Listing g.row.T.Denot). l.entries) c.self.view_is in
-    let place = rw c.deref-2.ensures.value at c.place_of-place.ensures.place in
+    let place = rw c.deref-2.ensures.value at c.place_of-place.ensures in
     let found = rw c.deref-3.ensures.value at c.entry_from.ensures in
     sym (at_none c.args.key (side_by_side c.self.inside.rows.items) (index_of c.self.inside.rows.items c.place_of-place.result) c.self.invariant.in_rows.rising place.split (sym found ∙ ap seen c.in_default.is)) ∙ ap (at_key c.args.key) is
 
 pub ahead-requires-clause-within : goal.ahead-requires-clause-within
 ahead-requires-clause-within g c =
-    let place = rw c.deref-2.ensures.value at c.place_of-place.ensures.place in
+    let place = rw c.deref-2.ensures.value at c.place_of-place.ensures in
     let found = rw c.deref-3.ensures.value at c.entry_from.ensures in
     rw c.deref-then-entry-key.ensures.value (place.within (got_rows c.self.inside.rows.items (index_of c.self.inside.rows.items c.place_of-place.result) c.in-Some.entry.now (sym found ∙ ap seen c.in-Some.is)))
 
@@ -35,6 +35,6 @@ returns-then-entry-key g c =
 pub returns-else-entry-key : goal.returns-else-entry-key
 returns-else-entry-key g c =
     let is : side_by_side c.self.inside.rows.items ≡ c.args.self.now.entries = ap (λ (l : Listing g.row.T.Denot). l.entries) c.self.view_is in
-    let place = rw c.deref-2.ensures.value at c.place_of-place.ensures.place in
+    let place = rw c.deref-2.ensures.value at c.place_of-place.ensures in
     let found = rw c.deref-3.ensures.value at c.entry_from.ensures in
     sym (at_other c.args.key (side_by_side c.self.inside.rows.items) (index_of c.self.inside.rows.items c.place_of-place.result) c.in-Some.entry.now c.self.invariant.in_rows.rising place.split (sym found ∙ ap seen c.in-Some.is) c.if-entry-key.false) ∙ ap (at_key c.args.key) is

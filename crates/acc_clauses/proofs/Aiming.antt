@@ -19,10 +19,6 @@ use Rattle.acc_clauses.specs.declared.environments.Environment.{Environment}
 use Rattle.acc_clauses.specs.Contents.{Numbers, WithHost, beside, AreMarked, state_of, bare_state}
 use Rattle.acc_clauses.specs.Acts.{CanDetach, pointers_of, IsAimedBy}
 
--- the parts with eight bytes written over a pointer in a block that is mapped from an address on
-abbrev with_bytes_put : ℕ → ℕ → WithHost → ℕ → List ℕ → WithHost
-with_bytes_put pointer block x start bytes = record x { device = record x.device { memories = map (memory_changed block (written_bytes (covers (pointer_at pointer)) (λ a. slice_index bytes (a - pointer)) start)) x.device.memories } }
-
 -- the eight bytes of a target are written over a pointer
 pub target_put : (pointer block target start : ℕ) (x : Environment) (new : DeviceState) (bytes : List ℕ)
     → new ≡ record x.device { memories = map (memory_changed block (written_bytes (covers (pointer_at pointer)) (λ a. slice_index bytes (a - pointer)) start)) x.device.memories }

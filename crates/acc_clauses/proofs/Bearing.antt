@@ -27,12 +27,11 @@ use Rattle.acc_dev.specs.Marks.{new_mark, IsMarkOf}
 use Rattle.acc_dev.specs.Device.{DeviceState}
 use Rattle.acc_clauses.specs.Contents.{WithHost, AreMarked, IsMarkRight, state_of, room_of, bare_state}
 use Rattle.acc_clauses.specs.Overlays.{is_queue, puts_by}
-use Rattle.acc_clauses.specs.Acts.{CanBear, CanPut, CanQueue, HasPutRoom, IsMade, bytes_made, moved_state, filled_later, IsChangedBy, IsFilledLater, IsActedBy}
+use Rattle.acc_clauses.specs.Acts.{CanBear, CanPut, CanQueue, HasPutRoom, IsBlockMade, bytes_made, moved_state, filled_later, IsChangedBy, IsFilledLater, IsActedBy}
 use Rattle.acc_clauses.proofs.Runs.{written-same}
 use Rattle.acc_clauses.proofs.Copying.{moved-clear, born_copied, changed-last}
 use Rattle.acc_clauses.proofs.Changes.{state_from_parts, same_state, both}
 use Rattle.acc_clauses.proofs.Marked.{marks_born, marks_old}
-use Rattle.acc_clauses.proofs.Steps.{changed-with}
 use Rattle.acc_clauses.proofs.Giving.{step_puts}
 
 -- ---- the block, its range and its bytes
@@ -67,7 +66,7 @@ born_marked counter item queue k births x number unpinned zip born marked =
     (ap (λ n. pins_of n x.queues.queues) own ∙ unpinned) marked)
 
 pub born_changes : (counter : Counter) (item : Item RegionClause) (queue : Option ℕ) (copied : Bool) (k place : ℕ) (x : WithHost) (r : PresentState) (e : DeviceState)
-    → CanBear x.present.table.counter_max x.device.memory (section_of (Enter counter item queue)) k place (bare_state x) → IsMade x.device e copied (section_of (Enter counter item queue)) item.clause x.host
+    → CanBear x.present.table.counter_max x.device.memory (section_of (Enter counter item queue)) k place (bare_state x) → IsBlockMade x.device e copied (section_of (Enter counter item queue)) item.clause x.host
     → r.table ≡ with_ranges x.present.table (with_range (risen counter (bare_range (section_of (Enter counter item queue)) k)) x.present.table.ranges) → x.present.room.ranges ≤ r.room.ranges + 1 → x.present.room.regions ≤ r.room.regions → x.present.room.holdings ≤ r.room.holdings
     → AllZip IsMarkOf x.device.marks x.device.blocks → AllByRecursion (λ b. b.number ≤ x.device.births) x.device.blocks → AreMarked x
     → IsChangedBy (born_state counter item queue copied k place) ((section_of (Enter counter item queue)).len ∷ []) 0 (λ n. 0) x (record x { present = r; device = e })
@@ -93,7 +92,7 @@ born_changes counter item queue copied k place x r e can made put ranges regions
 
 -- the copy to the new block can be put into the queue
 pub born_can_put : (counter : Counter) (item : Item RegionClause) (queue : Option ℕ) (copied : Bool) (k place q : ℕ) (x : WithHost) (r : PresentState) (e : DeviceState) → CanQueue (Enter counter item queue) (Born k place) x → HasPutRoom (λ n. puts_by n (Enter counter item queue) (Born k place)) (room_of x)
-    → k ≡ x.device.births + 1 → IsMade x.device e copied (section_of (Enter counter item queue)) item.clause x.host → AllByRecursion (λ b. b.number ≤ x.device.births) x.device.blocks → queue ≡ Some q → copies_in item.clause ≡ true
+    → k ≡ x.device.births + 1 → IsBlockMade x.device e copied (section_of (Enter counter item queue)) item.clause x.host → AllByRecursion (λ b. b.number ≤ x.device.births) x.device.blocks → queue ≡ Some q → copies_in item.clause ≡ true
     → CanPut q (record { block = k; offset = 0; section = section_of (Enter counter item queue); out = false }) x.queues e
 born_can_put counter item queue copied k place q x r e can puts number made born named copies =
     step_puts (Enter counter item queue) (Born k place) q (record { block = k; offset = 0; section = section_of (Enter counter item queue); out = false }) x (record x { present = r; device = e }) named (rw copies refl) copies can puts refl there

@@ -29,10 +29,6 @@ room_same puts x y h same spare queues = record { births_are = sym same; ranges 
 pub none_taken : (r : present.Room) → present.IsRoomKept r r
 none_taken r = record { ranges = omega arith; regions = omega arith; holdings = omega arith }
 
--- two rooms one after the other
-pub kept_twice : (a b c : present.Room) → present.IsRoomKept a b → present.IsRoomKept b c → present.IsRoomKept a c
-kept_twice a b c h k = record { ranges = omega (arith, h.ranges, k.ranges); regions = omega (arith, h.regions, k.regions); holdings = omega (arith, h.holdings, k.holdings) }
-
 -- a change that leads to the same, and takes no more room
 pub changed_to : (f g : State → State) (bs : List ℕ) (m : ℕ) (u v : ℕ → ℕ) (x y : WithHost) → ((next : Numbers) → f (state_of x next) ≡ g (state_of x next)) → ((q : ℕ) → u q ≤ v q) → IsChangedBy f bs m u x y → IsChangedBy g bs m v x y
 changed_to f g bs m u v x y same less a = grind (arith, nat_tests)

@@ -85,9 +85,6 @@ plan_known d c p bounds h planned = grind (arith, nat_tests, asked_with, planned
 below_differs : (a n : ℕ) → a < n → (a == n) ≡ false
 below_differs a n h = grind (arith, nat_tests)
 
-some_region : (o : Option Region) (hs : List Holding) → option_map (λ (r : Region). r.holdings) o ≡ Some hs → IsSome o
-some_region o hs e = grind (arith, nat_tests)
-
 -- the transfers that a plan without tasks makes are of no block that is lent
 free_then : (d : Directive) (c f : Contents) (p : Planned) → IsPlanOf c.limits d c.state p → [] ≡ p.tasks → f.state ≡ act_all_state p.tasks p.dids c.state → none_lent (transfers_in d f.state.records.queues) f.state.records.loans ≡ Ok tt
 free_then d c f p planned none acted = subst (λ (x : State). none_lent (transfers_in d x.records.queues) x.records.loans ≡ Ok tt) (sym (acted ∙ still c.limits d c.state p planned none)) planned.free
@@ -162,10 +159,6 @@ within_after d c p bounds h planned = by_register (λ x. AreHoldingsWithin v x.r
 
     entered : (device : ℕ) (items : List (Item RegionClause)) → d ≡ directives.Enter device items → AllByRecursion (IsHoldingWithin v) (holdings_by p.tasks p.dids)
     entered device items is = grind (arith, nat_tests, w, asked, judged, held_asked, entered_within)
-
--- what is done to the parts is what the plan says
-pub all_finished : (d : Directive) (p : Planned) (ts : List Task) (ds : List Did) (s t u : State) → ts ≡ p.tasks → ds ≡ p.dids → t ≡ act_all_state ts ds s → u ≡ finished d p t → u ≡ finished d p (act_all_state p.tasks p.dids s)
-all_finished d p ts ds s t u a b e f = f ∙ ap (finished d p) (e ∙ ap (λ x. act_all_state x ds s) a ∙ ap (λ x. act_all_state p.tasks x s) b)
 
 -- ---- queued transfers leave what is held
 

@@ -28,10 +28,6 @@ free-first : (ts : List Transfer) (loans : List Loan) → AreFree ts loans → A
 free-first [] loans h = h
 free-first (t ∷ ts) loans h = rw (then_ok (not_lent (Some t.block) loans) (none_lent ts loans) tt h).0 refl
 
--- the first transfer of a queue is not of a block that is lent
-pub first_free : (q : ℕ) (queues : List (List Transfer)) (loans : List Loan) (t : Transfer) → head_of q queues ≡ Some t → none_lent (take 1 (queue_at q queues)) loans ≡ Ok tt → is_lent t.block loans ≡ false
-first_free q queues loans t = grind (arith, nat_tests)
-
 -- ---- a queue after some of its steps
 
 queue-set : (queues : List (List Transfer)) (q : ℕ) → queue_at q (popped q queues) ≡ drop 1 (queue_at q queues)

@@ -26,10 +26,9 @@ use Rattle.acc_attach.specs.Attached.{AttachedState}
 use Rattle.acc_clauses.specs.Contents.{WithHost, AreMarked, state_of, bare_state, bare_numbers}
 use Rattle.acc_clauses.specs.Overlays.{puts_by}
 use Rattle.acc_clauses.specs.Acts.{CanCount, CanDrop, IsEnter, given_state, moved_state, IsChangedBy, IsGivenBy, IsActedBy}
-use Rattle.acc_clauses.proofs.Changes.{state_from_parts, room_same, kept_twice, both}
+use Rattle.acc_clauses.proofs.Changes.{state_from_parts, room_same, both}
 use Rattle.acc_clauses.proofs.Marked.{IsMarkAt, mark_told, marks_ended, marks_gone}
 use Rattle.acc_clauses.proofs.Putting.{unused, used_pinned}
-use Rattle.acc_clauses.proofs.Steps.{without-changed}
 
 -- ---- after the copy to host memory
 
@@ -56,14 +55,6 @@ loans_kept task k x y given free =
 -- the range is there still
 pub range_there : (task : Task) (k : ℕ) (ended : Bool) (x y : WithHost) (can : CanDrop task k ended (bare_state x)) → IsGivenBy task k x y → range_of k y.present.table.ranges ≡ Some can.move.range
 range_there task k ended x y can given = ap (range_of k) (same_ranges task k x y given) ∙ can.move.range_is
-
--- and it ends by the task
-pub range_ends : (task : Task) (k : ℕ) (ended : Bool) (x y : WithHost) (can : CanDrop task k ended (bare_state x)) → IsGivenBy task k x y → ends_by (recounted task) k y.present.table.ranges ≡ ended
-range_ends task k ended x y can given = ap (ends_by (recounted task) k) (same_ranges task k x y given) ∙ can.ends
-
--- a task that does not enter raises no counter
-pub falls : (most : ℕ) (task : Task) (k : ℕ) (ranges : List Range) (r : Range) → (IsEnter task → ⊥) → range_of k ranges ≡ Some r → CanCount most task k ranges
-falls most task k ranges r other is = grind (arith, nat_tests)
 
 pub end_there : (task : Task) (k : ℕ) (ended : Bool) (x y : WithHost) → CanDrop task k ended (bare_state x) → IsGivenBy task k x y → IsSome (block_at k y.device.blocks)
 end_there task k ended x y can given = rw (same_blocks task k x y given) can.move.there

@@ -21,13 +21,6 @@ use Rattle.acc_clauses.proofs.Changes.{changed_to}
 
 -- ---- a section that is inside the range of a block
 
--- the range of the block begins at or below the section
-first_low : (section : Section) (k : ℕ) (x : State) → CanMove section k x → start_of k x.records.ranges ≤ section.start
-first_low section k x m = grind (arith, nat_tests)
-
-first_is : (task : Task) (k : ℕ) (x : State) → CanMove (section_of task) k x → first_address (transfer_at task k x.records.ranges) ≡ start_of k x.records.ranges
-first_is task k x m = let low : start_of k x.records.ranges ≤ (section_of task).start = first_low (section_of task) k x m in omega (arith, low)
-
 -- the section is within the bytes of a block that is not lent
 pub within_block : (section : Section) (k start : ℕ) (x : State) → CanMove section k x → is_lent k x.records.loans ≡ false → start ≡ start_of k x.records.ranges → is_within section (record { start = start; len = length (bytes_of k x.memories) }) ≡ true
 within_block section k start x m free e = grind (arith, nat_tests)

@@ -65,9 +65,6 @@ counters_found o = record { structured = unwrap_or (option_map (counter_in Struc
 abbrev IsReferenced : Range → Type 0
 IsReferenced r = 0 < r.structured + r.dynamic
 
-unless : (z x y : Bool) → z ≡ false → x ≡ y → x ≡ (not z && y)
-unless z x y e f = grind (arith, nat_tests)
-
 ends_found : (task : Task) (o : Option Range) → IfSome o IsReferenced → unwrap_or (option_map (λ r. is_unused (recounted task r)) o) false ≡ (not (are_zero (counters_found o)) && are_zero (recount task (counters_found o)))
 ends_found task o above = grind (arith, nat_tests)
 

@@ -42,11 +42,6 @@ mapped_around l w section k o h e =
     found_has (λ r. range_of r.block w.ranges ≡ Some r) (λ r. is_within section r.section) w.ranges found.0 (at-own (λ (r : Range). r.block) w.ranges h.one_block_each.distinct) found.1.around in
     record { range = found.0; range_is = subst (λ n. range_of n w.ranges ≡ Some found.0) found.1.block_is has.0; within = has.1 }
 
--- what holds of the range of a block
-record IsWhole (l : Limits) (w : Records) (r : Range) : Type 0 where
-  mapped : IsMapped w.blocks r
-  in_host : IsHostSection l r.section
-
 pub can_move : (l : Limits) (s : State) (section : Section) (k : ℕ) → IsWithinBounds l → AreRecordsSound l s.records → AreMemoriesSized l s → IsMappedAround s.records section k → CanMove section k s
 can_move l s section k bounds h m around = grind (arith, nat_tests, found_has, equal, host_end, is_some, bytes_of-len)
 

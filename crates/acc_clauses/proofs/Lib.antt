@@ -35,7 +35,6 @@ mod Doing
 mod Remaining
 mod Holding
 mod Entering
-mod Storing
 pub mod Spared
 mod AfterPlan
 mod Committing

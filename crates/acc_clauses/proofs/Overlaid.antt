@@ -38,9 +38,6 @@ counters-left : (task : Task) (step : Step) (b : ℕ) (ranges left : List Range)
     → ((c : Counter) → counter_of c b left ≡ cond (names b step) (moved_by c task (counter_of c b ranges)) (counter_of c b ranges)) → counters_at b left ≡ counters_by b (counters_at b ranges) task step
 counters-left task step b ranges left each = grind (arith, nat_tests)
 
-new_section : (task : Task) (k : ℕ) (s : Section) → (recounted task (bare_range s k)).section ≡ s
-new_section task k s = (recounted_keeps task).section (bare_range s k)
-
 -- where a section lies after the step of a task that enters
 found-step : (l : Limits) (task : Task) (step : Step) (w : Records) (s : Section) → IsJudgedTo l task step w → enters task ≡ true
     → found_by s (where_is s w.ranges) task step ≡ where_is s (act_step task step w).ranges

@@ -62,10 +62,6 @@ used_pinned k w some = grind (arith, nat_tests)
 abbrev pub taken : QueuesState → WithHost → WithHost
 taken queues x = record x { queues = queues }
 
--- the records once it is gone
-abbrev pub left : ℕ → WithHost → Records
-left q x = record (bare_state x).records { queues = popped q x.queues.queues }
-
 -- the block of the first transfer has a mark
 pub head_mark : (q : ℕ) (t : Transfer) (x y : WithHost) (queues : QueuesState) → AreMarked x → y ≡ transfer_made t (taken queues x) → AllZip IsMarkOf y.device.marks y.device.blocks → IsSome (block_at t.block x.device.blocks)
     → IsMarkAt x.present.table.ranges x.queues.queues y.device.marks t.block

@@ -47,10 +47,6 @@ pub one_room : (d : Directive) (c : Contents) (p : Planned) (named : ℕ) (room 
     → HasPutRoom (λ q. puts_in q p.tasks p.dids) room
 one_room d c p named room h planned is enough = grind (arith, nat_tests, none_in, planned_queue)
 
--- there is the queue that a planned directive names
-pub named_queue_there : (l : Limits) (d : Directive) (s : State) (p : Planned) (named : ℕ) → IsPlanOf l d s p → queue_in d ≡ Some named → named < QUEUE_COUNT
-named_queue_there l d s p named h is = known_queue named (queue_in d) is h.known
-
 -- ---- all room
 
 -- where room is made, it is for all that a plan of a directive takes in

@@ -68,11 +68,6 @@ pub changed-twice : (block : ℕ) (f g h : List ℕ → List ℕ) (ms : List Mem
 changed-twice block f g h [] e = refl
 changed-twice block f g h (m ∷ ms) e = grind (arith, nat_tests, changed-twice block f g h ms e)
 
--- two changes that agree
-pub changed_same : (block : ℕ) (f g : List ℕ → List ℕ) (ms : List Memory) → ((bytes : List ℕ) → f bytes ≡ g bytes) → map (memory_changed block f) ms ≡ map (memory_changed block g) ms
-changed_same block f g [] e = refl
-changed_same block f g (m ∷ ms) e = grind (arith, nat_tests, changed_same block f g ms e)
-
 pub changed-none : (block : ℕ) (f : List ℕ → List ℕ) (ms : List Memory) → ((bytes : List ℕ) → f bytes ≡ bytes) → map (memory_changed block f) ms ≡ ms
 changed-none block f [] e = refl
 changed-none block f (m ∷ ms) e = grind (arith, nat_tests, changed-none block f ms e)
@@ -88,7 +83,7 @@ pub run_within : (s run : Section) (at stop : ℕ) → s.start ≤ at → at < e
 run_within s run at stop low inside first len most = grind (arith, nat_tests)
 
 -- a run at which a copy has arrived, with where it ends
-pub record IsRun (s run : Section) (block : ℕ) (attached : List Attachment) (at stop : ℕ) : Type 0 where
+pub record IsByteRun (s run : Section) (block : ℕ) (attached : List Attachment) (at stop : ℕ) : Type 0 where
   pub low : s.start ≤ at
   pub inside : at < end_of s
   pub first : run.start ≡ at
@@ -96,7 +91,7 @@ pub record IsRun (s run : Section) (block : ℕ) (attached : List Attachment) (a
   pub ends : IsRunEnd block attached at (end_of s) stop
 
 -- bytes that were written below an address, and then in the run from it on
-pub written_next : (s run : Section) (block : ℕ) (attached : List Attachment) (at stop : ℕ) (source : ℕ → ℕ) (first : ℕ) (old : List ℕ) → IsRun s run block attached at stop
+pub written_next : (s run : Section) (block : ℕ) (attached : List Attachment) (at stop : ℕ) (source : ℕ → ℕ) (first : ℕ) (old : List ℕ) → IsByteRun s run block attached at stop
     → written_bytes (covers run) source first (written_bytes (moved_below s block attached at) source first old) ≡ written_bytes (moved_below s block attached (stop + 8)) source first old
 written_next s run block attached at stop source first old h = search (written-twice, below_next)
 

@@ -26,26 +26,10 @@ use Rattle.acc_clauses.proofs.Marked.{marks_counted}
 
 -- ---- ranges
 
--- no range has the block, so none changes
-changed-absent : (k : ℕ) (f : Range → Range) (rs : List Range) → AllByRecursion (λ r. r.block ≡ k → ⊥) rs → changed_at k f rs ≡ rs
-changed-absent k f [] h = refl
-changed-absent k f (r ∷ rs) h = grind (arith, nat_tests, changed-absent k f rs h.1)
-
--- a new range changes where it is put
-pub changed-with : (k : ℕ) (f : Range → Range) (new : Range) (rs : List Range) → new.block ≡ k → (f new).section ≡ new.section → AllByRecursion (λ r. r.block ≡ k → ⊥) rs
-    → changed_at k f (with_range new rs) ≡ with_range (f new) rs
-changed-with k f new [] e s h = let same : (new.block == k) ≡ true = rw e (equal_self k) in rw same refl
-changed-with k f new (r ∷ rs) e s h = grind (arith, nat_tests, changed-with k f new rs e s h.1, equal_self, equal, changed-absent)
-
 -- a change that leaves each range
 pub changed-same_ranges : (k : ℕ) (f : Range → Range) (rs : List Range) → ((r : Range) → f r ≡ r) → changed_at k f rs ≡ rs
 changed-same_ranges k f [] h = refl
 changed-same_ranges k f (r ∷ rs) h = grind (arith, nat_tests, changed-same_ranges k f rs h)
-
--- what changed is gone
-pub without-changed : (k : ℕ) (f : Range → Range) (rs : List Range) → ((r : Range) → (f r).block ≡ r.block) → without_range k (changed_at k f rs) ≡ without_range k rs
-without-changed k f [] h = refl
-without-changed k f (r ∷ rs) h = grind (arith, nat_tests, without-changed k f rs h)
 
 pub is_some : {X : Type 0} (o : Option X) (x : X) → o ≡ Some x → IsSome o
 is_some o x e = rw e refl
@@ -59,10 +43,6 @@ none_put o queues = grind (arith, nat_tests)
 -- nor made at once
 pub none_made : (o : Option ℕ) → at_once o None ≡ None
 none_made o = grind (arith, nat_tests)
-
--- the parts stay
-pub stays : (change : State → State) (puts : ℕ → ℕ) (x : WithHost) → AreMarked x → ((next : Numbers) → state_of x next ≡ change (state_of x next)) → IsChangedBy change [] 0 puts x x
-stays change puts x marked same = grind (arith, nat_tests)
 
 pub nothing_acts : (task : Task) (x : WithHost) → AreMarked x → IsActedBy task Nothing x x
 unfolding step_state act_step act_row

@@ -317,7 +317,7 @@ abbrev pub is_copied_now : RegionClause → Option ℕ → Bool
 is_copied_now clause queue = copies_in clause && is_none queue
 
 -- the new device is the old one with a block more, which has these bytes
-pub record IsMade (old new : DeviceState) (copied : Bool) (section : Section) (clause : RegionClause) (host : List ℕ) : Type 0 where
+pub record IsBlockMade (old new : DeviceState) (copied : Bool) (section : Section) (clause : RegionClause) (host : List ℕ) : Type 0 where
   pub place : ℕ
   pub place_is : birth_place old section.len ≡ Some place
   pub memory : new.memory ≡ old.memory

@@ -10,7 +10,7 @@ ghost use Rattle.acc_base.specs.declared.events.Step.TheVariants.{Born, Dropped,
 ghost use Rattle.acc_present.specs.Present.{HasRange, with_ranges, IsRoomKept};
 ghost use Rattle.acc_clauses.specs.Contents.{AreMarked, beside, room_of, bare_state};
 ghost use Rattle.acc_clauses.specs.Overlays.{puts_by};
-ghost use Rattle.acc_clauses.specs.Acts.{CanAct, CanCount, CanBear, CanMove, CanDrop, HasRoomFor, IsRoomLeft, IsActedBy, CanMake, IsMade, is_copied_now, birth_of, CanDo, IsDoneBy, pointers_of, CanPut, CanQueue, CanNeed, HasPutRoom, IsFilledLater, IsGivenBy};
+ghost use Rattle.acc_clauses.specs.Acts.{CanAct, CanCount, CanBear, CanMove, CanDrop, HasRoomFor, IsRoomLeft, IsActedBy, CanMake, IsBlockMade, is_copied_now, birth_of, CanDo, IsDoneBy, pointers_of, CanPut, CanQueue, CanNeed, HasPutRoom, IsFilledLater, IsGivenBy};
 
 use crate::environments::Environment;
 use crate::pointers::aim_on;
@@ -68,7 +68,7 @@ fn make_block(
     clause: RegionClause,
 )
     requires can { CanMake device.old host.now section }
-    ensures { IsMade device.old device.new copied section clause host.now }
+    ensures { IsBlockMade device.old device.new copied section clause host.now }
 {
     if copied {
         let Some(bytes) = host.read(section) else {

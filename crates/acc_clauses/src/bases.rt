@@ -1,9 +1,6 @@
 //! What the devices of a table had at one moment.
 
-ghost use Rattle.std.specs.Prelude.{◌≡◌, map};
-ghost use Rattle.std.specs.Vec.{vec_items};
-ghost use Rattle.acc_dev.specs.Device.{memory_saved};
-ghost use Rattle.acc_present.specs.Present.{region_of};
+ghost use Rattle.std.specs.Prelude.{◌≡◌};
 
 use acc_base::{Attachment, Block, Loan, Range, Transfer};
 use acc_dev::SavedBlock;
@@ -45,56 +42,6 @@ impl DeviceBase {
         ensures { result.now ≡ self.now.records.ranges }
     {
         &self.ranges
-    }
-
-    /// The device blocks by rising number, those too whose mapping had ended.
-    pub fn blocks(&self) -> &[Block]
-        ensures { result.now ≡ self.now.records.blocks }
-    {
-        &self.blocks
-    }
-
-    /// The attachment counters above zero, by rising block and host address (OpenACC 3.3, section 2.6.8).
-    pub fn attached(&self) -> &[Attachment]
-        ensures { result.now ≡ self.now.records.attached }
-    {
-        &self.attached
-    }
-
-    /// How many blocks were born until then, those too that were given back. They are numbered from 1 on.
-    pub fn births(&self) -> u64
-        ensures { result ≡ self.now.records.births }
-    {
-        self.births
-    }
-
-    /// The blocks that were lent, by rising number.
-    pub fn loans(&self) -> &[Loan]
-        ensures { result.now ≡ self.now.records.loans }
-    {
-        &self.loans
-    }
-
-    /// The transfers that waited in each queue, the next one first (OpenACC 3.3, section 2.16, asynchronous behavior).
-    pub fn queues(&self) -> &[Vec<Transfer>]
-        ensures { map vec_items result.now ≡ self.now.records.queues }
-    {
-        &self.queues
-    }
-
-    /// The open data regions by rising number, each with what its entry counted (OpenACC 3.3, section 2.6.5).
-    pub fn regions(&self) -> &[OpenRegion]
-        ensures { map region_of result.now ≡ self.now.regions }
-    {
-        &self.regions
-    }
-
-    /// The bytes of each block by rising number, where traces are full: of a block that was lent, as they were before.
-    /// None where traces are counted.
-    pub fn memories(&self) -> &[SavedBlock]
-        ensures { map memory_saved result.now ≡ self.now.memories }
-    {
-        &self.memories
     }
 }
 
@@ -152,26 +99,5 @@ impl Base {
         ensures { result.now ≡ self.now.state.devices }
     {
         &self.devices
-    }
-
-    /// The number that the next region gets.
-    pub fn next_region(&self) -> u64
-        ensures { result ≡ self.now.state.next }
-    {
-        self.next_region
-    }
-
-    /// The number that the next loan gets.
-    pub fn next_serial(&self) -> u64
-        ensures { result ≡ self.now.state.serial }
-    {
-        self.next_serial
-    }
-
-    /// The bytes of host memory by rising address, where traces are full; none where they are counted.
-    pub fn host(&self) -> &[u8]
-        ensures { result.now ≡ self.now.state.host }
-    {
-        &self.host
     }
 }

@@ -2,17 +2,14 @@
 
 ghost use Rattle.std.specs.Prelude.{ℕ, ◌≡◌, ◌+◌, ◌<◌, ◌≤◌, ◌^◌, [], IfOk, IfErr, OnOk, OnErr, MatchResult, Ok, Err, IfSome, IfNone, length, true};
 ghost use Rattle.acc_base.specs.declared.faults.Fault.TheVariants.{Memory};
-ghost use Rattle.acc_base.specs.Limits.{IsWithinBounds, limits_on, recorded};
+ghost use Rattle.acc_base.specs.Limits.{limits_on, recorded};
 ghost use Rattle.acc_base.specs.Clauses.{in_host};
-ghost use Rattle.acc_base.specs.Section.{device_memory};
-ghost use Rattle.acc_base.specs.Holes.{IsDevice};
 ghost use Rattle.acc_base.specs.Bytes.{host_after_write};
 ghost use Rattle.acc_base.specs.Acting.{after};
 ghost use Rattle.acc_base.specs.declared.items.Section.{Section};
 ghost use Rattle.acc_base.specs.declared.events.Event.TheVariants.{Lent};
 ghost use Rattle.acc_base.specs.Judge.{verdict_of, plan_of, lend_event, leased, gathered, gather_event};
 ghost use Rattle.acc_clauses.specs.Lending.{IsLoanPlanned};
-ghost use Rattle.acc_base.specs.Accounts.{IsSound};
 ghost use Rattle.acc_host.specs.Host.{bytes_in, IsRead, IsOutOfHost};
 ghost use Rattle.acc_clauses.specs.Contents.{AreNew};
 ghost use Rattle.acc_clauses.specs.Devices.{device_in_view, in_use};
@@ -102,16 +99,6 @@ impl Store {
         }
     }
 
-    /// The state is sound, and the limits lie within their bounds. The blocks and the holes that [`Store::hole`]
-    /// returns are the device, with no address in two of them. Nothing is done.
-    pub fn laws(&self)
-        ensures sound { IsSound self.now.limits self.now.state }
-        ensures limits { IsWithinBounds self.now.limits }
-        ensures holes { IsDevice (device_memory self.now.limits) self.now.state.records.blocks }
-    {
-        self.device.laws();
-    }
-
     /// Judges a directive whole. It returns the first refusal, or writes what each item will do over what the plan
     /// held. It allocates nothing, and nothing of the store changes.
     ///
@@ -130,7 +117,7 @@ impl Store {
         ensures judged { let s = self.now.state in MatchResult result (λ _. plan_of self.now.limits directive.now s ≡ Ok (verdict_of self.now.limits.number directive.now s plan.new.dids)) (λ fault. plan_of self.now.limits directive.now s ≡ Err fault) }
         ensures planned { OnOk result (IsPlanOf self.now.limits directive.now self.now.state plan.new) }
     {
-        self.laws();
+        self.device.laws();
         planning::plan(&self.view(), directive, plan)
     }
 

@@ -7,9 +7,9 @@ use denote.Param.Send.{IsSend, IsSync, sendable, param_send, arg_send, struct_se
 use denote.Struct.Declared.{shape}
 use Rattle.std.proofs.Crossing.{crosses}
 use Rattle.acc_table.proofs.Crossing.{table_send}
-use Rattle.acc_runtime.proofs.laws.Books.TheSendSync.{the_send as books_send, the_field_send as books_field_send}
-use Rattle.acc_runtime.specs.contracts.laws.Locked as Locked
-use Rattle.acc_runtime.specs.contracts.laws.Locked.TheInside as inside_locked
+use Rattle.acc_runtime.proofs.locked.Books.TheSendSync.{the_send as books_send, the_field_send as books_field_send}
+use Rattle.acc_runtime.specs.contracts.locked.Locked as Locked
+use Rattle.acc_runtime.specs.contracts.locked.Locked.TheInside as inside_locked
 use Rattle.acc_runtime.specs.contracts.lock.Runtime as Runtime
 
 locked_send : (L M N : RattleType) (b : Limits L.Denot) (l : Ghosts L.Denot) (m : Ghosts M.Denot) (n : Ghosts N.Denot) → IsSend L → IsSend M → IsSend N → IsSend (Locked.the_row L M N b l m n)

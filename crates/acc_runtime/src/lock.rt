@@ -2,8 +2,8 @@
 
 ghost use Rattle.std.specs.Prelude.{◌≡◌};
 
-use crate::laws::Locked;
 use crate::ledgers::Limited;
+use crate::locked::Locked;
 use acc_base::Config;
 use std::marker::Model;
 use std::sync::ledger::Ledger;

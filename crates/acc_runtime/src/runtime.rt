@@ -14,9 +14,9 @@ ghost use Rattle.acc_runtime.specs.Shared.{WasAccepted, WasRefused, WasRead, Was
 
 use crate::callers::Caller;
 use crate::calls;
-use crate::laws::Locked;
 use crate::ledgers::{Blanks, Limited};
 use crate::lock::Runtime;
+use crate::locked::Locked;
 use crate::outcomes::{Outcome, done, drained, entered, exited, gathered, leased, stepped};
 use crate::regions::Region;
 use acc_base::{

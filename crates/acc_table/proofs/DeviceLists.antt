@@ -14,11 +14,6 @@ used_there n [] h = absurd h
 used_there zero (x ∷ xs) h = omega arith
 used_there (suc n) (x ∷ xs) h = let later : n < length xs = used_there n xs h.1 in omega arith
 
-pub none_used : (n : ℕ) (xs : List (Option Parked)) → IsOnlyNone n xs → slice_index_or xs n None ≡ None
-none_used n [] h = refl
-none_used zero (x ∷ xs) h = h.0
-none_used (suc n) (x ∷ xs) h = none_used n xs h.1
-
 pub device_used : (y : OneDevice) (n : ℕ) (xs : List (Option Parked)) → IsOnlyNone n xs → device_at n (map (device_or y) xs) ≡ y
 device_used y n [] h = absurd h
 device_used y zero (x ∷ xs) h = ap (device_or y) h.0

@@ -15,19 +15,8 @@ use Rattle.acc_base.specs.Calls.{Base, World, judge, ticket, trace_room, loan_on
 use Rattle.acc_base.proofs.Views.{device_beyond}
 use Rattle.acc_clauses.specs.Lending.{IsLoanPlanned}
 use Rattle.acc_table.specs.declared.devices.Devices.{Devices}
-use Rattle.acc_table.specs.Devices.{whole_of, AreSet}
 use Rattle.acc_table.specs.Making.{IsLoanJudged, IsLeaseJudged}
-use Rattle.acc_table.proofs.Verdicts.{world_in, state_used}
-
--- ---- the device in use
-
--- what holds of the store holds of the view of its device
-pub in_view : (l : Limits) (x : Devices) (d : ℕ) (P : Limits → State → Type 0) → AreSet l x → x.current ≡ d → P x.store.limits x.store.state → P (limits_on d l) (view d (whole_of x))
-in_view l x d P set on h = subst (λ n. P (limits_on n l) (view n (whole_of x))) on (subst (λ m. P m (view x.current (whole_of x))) set.used (subst (λ s. P x.store.limits s) (sym (state_used l x set)) h))
-
--- and the other way round
-pub of_view : (l : Limits) (x : Devices) (d : ℕ) (P : Limits → State → Type 0) → AreSet l x → x.current ≡ d → P (limits_on d l) (view d (whole_of x)) → P x.store.limits x.store.state
-of_view l x d P set on h = subst (λ s. P x.store.limits s) (state_used l x set) (subst (λ m. P m (view x.current (whole_of x))) (sym set.used) (subst (λ n. P (limits_on n l) (view n (whole_of x))) (sym on) h))
+use Rattle.acc_table.proofs.InUse.{AreDevicesOf, in_view}
 
 -- ---- loans
 
@@ -41,49 +30,11 @@ made_from r e h = rw h refl
 refused_from : (r : Result Event Fault) (fault : Fault) → r ≡ Err fault → ◌≡◌ {A = Result Verdict Fault} (r >>= λ e. Ok (Makes e)) (Err fault)
 refused_from r fault h = rw h refl
 
--- a loan that was planned in the store of its device is judged so
-pub loan_judged : (l : Limits) (base : Base) (x : Devices) (trace : List Event) (w : World) (region : ℕ) (section : Section) (r : Result Loan Fault) → AreSet l x → world_in l base x trace ≡ w → x.current ≡ device_of_region region w.state → ticket w ≡ Ok tt → trace_room w ≡ Ok tt
-    → MatchResult r (λ loan. IsLoanPlanned x.store.limits region section x.store.state loan) (λ fault. lend_event x.store.limits x.store.limits.number region section x.store.state ≡ Err fault)
-    → IsLoanJudged w region section r
-loan_judged l base x trace w region section r set same on ticket_is room_is h = subst (λ (v : World). IsLoanJudged v region section r) same (go r (in_view l x d (λ m s. MatchResult r (λ loan. IsLoanPlanned m region section s loan) (λ fault. lend_event m m.number region section s ≡ Err fault)) set here h))
-  where
-    v : World
-    v = world_in l base x trace
-
-    d : ℕ
-    d = device_of_region region (whole_of x)
-
-    here : x.current ≡ d
-    here = on ∙ ap (λ (u : World). device_of_region region u.state) (sym same)
-
-    judgement : judge v (Lend region section) ≡ (loan_on v d region section >>= λ e. Ok (Makes e))
-    judgement = loan_judgement v region section (ap (λ (u : World). ticket u) same ∙ ticket_is) (ap (λ (u : World). trace_room u) same ∙ room_is)
-
-    go : (q : Result Loan Fault) → MatchResult q (λ loan. IsLoanPlanned (limits_on d l) region section (view d (whole_of x)) loan) (λ fault. lend_event (limits_on d l) d region section (view d (whole_of x)) ≡ Err fault) → IsLoanJudged v region section q
-    go (Ok loan) planned = (planned, judgement ∙ made_from (loan_on v d region section) (Lent d region section loan.block loan.serial) planned.event)
-    go (Err fault) refused = judgement ∙ refused_from (loan_on v d region section) fault refused
-
 -- ---- leases
 
 lease_judgement : (w : World) (lease : Leased) → ticket w ≡ Ok tt → trace_room w ≡ Ok tt → judge w (Gather lease) ≡ (gather_event (limits_on lease.device w.limits) lease (view lease.device w.state) >>= λ e. Ok (Makes e))
 unfolding judge
 lease_judgement w lease ticket_is room_is = rw (ticket_is, room_is) refl
-
--- a lease that was compared in the store of its device is judged so
-pub lease_judged : (l : Limits) (base : Base) (x : Devices) (trace : List Event) (w : World) (lease : Leased) (r : Result ⊤ Fault) → AreSet l x → world_in l base x trace ≡ w → x.current ≡ lease.device → ticket w ≡ Ok tt → trace_room w ≡ Ok tt
-    → MatchResult r (λ _. gather_event x.store.limits lease x.store.state ≡ Ok (gathered x.store.limits.full lease)) (λ fault. gather_event x.store.limits lease x.store.state ≡ Err fault)
-    → IsLeaseJudged w lease r
-lease_judged l base x trace w lease r set same on ticket_is room_is h = subst (λ (v : World). IsLeaseJudged v lease r) same (go r (in_view l x lease.device (λ m s. MatchResult r (λ _. gather_event m lease s ≡ Ok (gathered m.full lease)) (λ fault. gather_event m lease s ≡ Err fault)) set on h))
-  where
-    v : World
-    v = world_in l base x trace
-
-    judgement : judge v (Gather lease) ≡ (gather_event (limits_on lease.device l) lease (view lease.device (whole_of x)) >>= λ e. Ok (Makes e))
-    judgement = lease_judgement v lease (ap (λ (u : World). ticket u) same ∙ ticket_is) (ap (λ (u : World). trace_room u) same ∙ room_is)
-
-    go : (q : Result ⊤ Fault) → MatchResult q (λ _. gather_event (limits_on lease.device l) lease (view lease.device (whole_of x)) ≡ Ok (gathered l.full lease)) (λ fault. gather_event (limits_on lease.device l) lease (view lease.device (whole_of x)) ≡ Err fault) → IsLeaseJudged v lease q
-    go (Ok t) made = (made, judgement ∙ made_from _ (gathered l.full lease) made)
-    go (Err fault) refused = judgement ∙ refused_from _ fault refused
 
 -- a device that has nothing has lent nothing
 gather_none : (l : Limits) (lease : Leased) (s : State) (x : OneDevice) → s.records ≡ x.records → x ≡ new_device → gather_event l lease s ≡ Err (NoLease lease.serial)
@@ -93,3 +44,33 @@ gather_none l lease s x records new = let none : s.records ≡ new_device.record
 -- so a lease of a device that is not there is refused
 pub lease_beyond : (w : World) (lease : Leased) → length w.state.devices ≤ lease.device → ticket w ≡ Ok tt → trace_room w ≡ Ok tt → judge w (Gather lease) ≡ Err (NoLease lease.serial)
 lease_beyond w lease beyond ticket_is room_is = lease_judgement w lease ticket_is room_is ∙ refused_from _ (NoLease lease.serial) (gather_none (limits_on lease.device w.limits) lease (view lease.device w.state) (device_at lease.device w.state.devices) refl (device_beyond lease.device w.state.devices beyond))
+
+-- ---- on the device in use
+
+module _ {l : Limits} {base : Base} {x : Devices} {trace : List Event} {w : World} (t : AreDevicesOf l base x trace w) (ticket_is : ticket w ≡ Ok tt) (room_is : trace_room w ≡ Ok tt) where
+  -- a loan that was planned in the store of its device is judged so
+  pub loan_judged : (region : ℕ) (section : Section) (r : Result Loan Fault) → x.current ≡ device_of_region region w.state
+      → MatchResult r (λ loan. IsLoanPlanned x.store.limits region section x.store.state loan) (λ fault. lend_event x.store.limits x.store.limits.number region section x.store.state ≡ Err fault) → IsLoanJudged w region section r
+  loan_judged region section r on h = go r (in_view t d (λ m s. MatchResult r (λ loan. IsLoanPlanned m region section s loan) (λ fault. lend_event m m.number region section s ≡ Err fault)) on h)
+    where
+      d : ℕ
+      d = device_of_region region w.state
+
+      judgement : judge w (Lend region section) ≡ (loan_on w d region section >>= λ e. Ok (Makes e))
+      judgement = loan_judgement w region section ticket_is room_is
+
+      go : (q : Result Loan Fault) → MatchResult q (λ loan. IsLoanPlanned (limits_on d w.limits) region section (view d w.state) loan) (λ fault. lend_event (limits_on d w.limits) d region section (view d w.state) ≡ Err fault) → IsLoanJudged w region section q
+      go (Ok loan) planned = (planned, judgement ∙ made_from (loan_on w d region section) (Lent d region section loan.block loan.serial) planned.event)
+      go (Err fault) refused = judgement ∙ refused_from (loan_on w d region section) fault refused
+
+  -- so is a lease that was compared in it
+  pub lease_judged : (lease : Leased) (r : Result ⊤ Fault) → x.current ≡ lease.device
+      → MatchResult r (λ _. gather_event x.store.limits lease x.store.state ≡ Ok (gathered x.store.limits.full lease)) (λ fault. gather_event x.store.limits lease x.store.state ≡ Err fault) → IsLeaseJudged w lease r
+  lease_judged lease r on h = go r (in_view t lease.device (λ m s. MatchResult r (λ _. gather_event m lease s ≡ Ok (gathered m.full lease)) (λ fault. gather_event m lease s ≡ Err fault)) on h)
+    where
+      judgement : judge w (Gather lease) ≡ (gather_event (limits_on lease.device w.limits) lease (view lease.device w.state) >>= λ e. Ok (Makes e))
+      judgement = lease_judgement w lease ticket_is room_is
+
+      go : (q : Result ⊤ Fault) → MatchResult q (λ _. gather_event (limits_on lease.device w.limits) lease (view lease.device w.state) ≡ Ok (gathered w.limits.full lease)) (λ fault. gather_event (limits_on lease.device w.limits) lease (view lease.device w.state) ≡ Err fault) → IsLeaseJudged w lease q
+      go (Ok _) made = (made, judgement ∙ made_from _ (gathered w.limits.full lease) made)
+      go (Err fault) refused = judgement ∙ refused_from _ fault refused

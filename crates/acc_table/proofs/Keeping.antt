@@ -1,8 +1,8 @@
 -- Each accepted call keeps what a table keeps.
 use Rattle.std.proofs.Common.{ℕ, zero, suc, replicate, ◌≡◌, ◌+◌, ◌*◌, ◌^◌, ◌≤◌, ◌<◌, refl, sym, ◌∙◌, ap, subst, Bool, true, false, List, [], ◌∷◌, ◌++◌, length, Result, Ok, Err, arith, length-append}
 use Rattle.std.specs.Prelude.{◌==◌, slice_index_or, IfOk, OnOk, OnErr}
-use Rattle.acc_clauses.specs.Words.{Fault, Directive, Call, Task, Did, Event}
-use Rattle.acc_base.specs.declared.calls.Call.TheVariants.{Do}
+use Rattle.acc_clauses.specs.Words.{Section, Fault, Directive, Call, Task, Did, Event}
+use Rattle.acc_base.specs.declared.calls.Call.TheVariants.{Do, HostWrite}
 use Rattle.acc_base.specs.Loans.{Leased}
 use Rattle.acc_base.specs.declared.events.Event.TheVariants.{Entered, Left, Lent}
 use Rattle.acc_base.specs.Limits.{Limits, IsWithinBounds}
@@ -13,8 +13,9 @@ use Rattle.acc_base.specs.Steps.{act, act_all}
 use Rattle.acc_base.specs.Waits.{records_drained}
 use Rattle.acc_base.specs.Walk.{walk, asked_in, done_in, stepped_in, loaned, register_after}
 use Rattle.acc_base.specs.Acting.{after}
-use Rattle.acc_base.specs.Calls.{Base, World, base_of, event_count, judge, world_after, bytes_brought, new_world, rebased}
-use Rattle.acc_base.specs.Judge.{Verdict, Makes, Idle, verdict_of}
+use Rattle.acc_base.specs.Calls.{Base, World, base_of, event_count, judge, device_for, world_after, bytes_brought, new_world, rebased}
+use Rattle.acc_base.specs.Judge.{Verdict, Makes, Idle, plan_of, written}
+use Rattle.acc_base.specs.Bytes.{host_after_write}
 use Rattle.acc_base.proofs.SameMapping.{mapping-act}
 use Rattle.acc_base.proofs.Walked.{layout-after}
 use Rattle.acc_base.proofs.Accounted.{accepted_accounted, new_accounted, rebased_accounted, sound_on, register-after}
@@ -24,14 +25,17 @@ use Rattle.acc_base.proofs.Views.{view-own, view-other}
 use Rattle.acc_base.proofs.Births.{births_most, births-drained}
 use Rattle.acc_clauses.specs.Contents.{Contents}
 use Rattle.acc_table.specs.declared.devices.Devices.{Devices}
-use Rattle.acc_table.specs.declared.tables.Kept.{Kept}
 use Rattle.acc_table.specs.Devices.{whole_of, IsParkedFor, AreSet}
 use Rattle.acc_clauses.specs.Planned.{Planned, IsPlanOf}
 use Rattle.acc_clauses.proofs.Events.{planned_asked}
 use Rattle.acc_table.specs.declared.calls.Reply.{Reply}
-use Rattle.acc_table.specs.Kept.{IsKept, world_of}
-use Rattle.acc_table.specs.Making.{planned_verdict, IsMadeInto, IsCommitted, IsAsBefore}
-use Rattle.acc_table.proofs.Verdicts.{with_store, world_in, event_made, unchanged, state_used, number_used, device_told}
+use Rattle.acc_table.specs.declared.calls.Reply.TheVariants.{Done}
+use Rattle.acc_table.specs.Calls.{IsDone}
+use Rattle.acc_table.specs.Tables.{IsTableSound, world_of}
+use Rattle.acc_clauses.specs.Acts.{CanWrite}
+use Rattle.acc_table.specs.Making.{admitted, write_admitted, planned_verdict, IsMadeInto, IsCommitted, IsAsBefore}
+use Rattle.acc_table.proofs.InUse.{with_store, world_in, AreDevicesOf, seen_in, event_made, unchanged}
+use Rattle.acc_table.proofs.Verdicts.{told_on, made_done, directive_done, directive_judged, write_made, judged_write, can_write}
 
 -- ---- births, of which a directive has at most 64
 
@@ -106,7 +110,7 @@ set_written l x new host set limits state = set_after l x new set limits (subst 
 -- ---- a call
 
 -- an accepted call keeps it whose event asks 64 tasks at most
-kept_after : (w : World) (call : Call Leased) (e : Event) (tasks : List Task) → IsKept w → judge w call ≡ Ok (Makes e) → asked_in e (view (device_in e) w.state).register ≡ tasks → length tasks ≤ 64 → IsKept (world_after call e w)
+kept_after : (w : World) (call : Call Leased) (e : Event) (tasks : List Task) → IsTableSound w → judge w call ≡ Ok (Makes e) → asked_in e (view (device_in e) w.state).register ≡ tasks → length tasks ≤ 64 → IsTableSound (world_after call e w)
 unfolding world_after
 kept_after w call e tasks k h asked few =
     record {
@@ -149,50 +153,17 @@ kept_after w call e tasks k h asked few =
         (subst (λ (t : State). t.records.births ≤ 64 * (w.history.base.events + length (w.history.trace ++ e ∷ []))) (sym (view-own d made w.state ok.there)) (omega (arith, births, few, more, k.births d)))
     born n false other = subst (λ (t : State). t.records.births ≤ 64 * (w.history.base.events + length (w.history.trace ++ e ∷ []))) (sym (view-other d n made w.state (differ n d other))) (omega (arith, more, k.births n))
 
--- so a directive does that was planned in the store of the device in use
-pub kept_directive : (l : Limits) (base : Base) (x : Devices) (trace : List Event) (d : Directive) (p : Planned) (e : Event) → AreSet l x → IsKept (world_in l base x trace) → IsPlanOf x.store.limits d x.store.state p → verdict_of x.store.limits.number d x.store.state p.dids ≡ Makes e → judge (world_in l base x trace) (Do d) ≡ Ok (Makes e)
-    → IsKept (world_after (Do d) e (world_in l base x trace))
-kept_directive l base x trace d p e set k planned is h =
-    let on : device_in e ≡ x.current = (device_told x.store.limits.number d x.store.state p.dids e is ∙ number_used l x set) in
-    let asked : asked_in e x.store.state.register ≡ p.tasks = planned_asked x.store.limits x.store.limits.number d x.store.state p e planned is in
-    let seen : x.store.state ≡ view (device_in e) (whole_of x) = sym (ap (λ n. view n (whole_of x)) on ∙ state_used l x set) in
-    kept_after (world_in l base x trace) (Do d) e p.tasks k h (subst (λ (s : State). asked_in e s.register ≡ p.tasks) seen asked) planned.few
-
 -- and a call whose event asks none: a write of the host, a loan, a lease that is back
-pub kept_alone : (w : World) (call : Call Leased) (e : Event) → IsKept w → judge w call ≡ Ok (Makes e) → asked_in e (view (device_in e) w.state).register ≡ [] → IsKept (world_after call e w)
+pub kept_alone : (w : World) (call : Call Leased) (e : Event) → IsTableSound w → judge w call ≡ Ok (Makes e) → asked_in e (view (device_in e) w.state).register ≡ [] → IsTableSound (world_after call e w)
 kept_alone w call e k h none = kept_after w call e [] k h none (omega arith)
 
--- what the devices and a trace keep that were made into those after an event, or only had room made
-pub kept_called : (l : Limits) (base : Base) (x : Devices) (new : Contents) (call : Call Leased) (e : Event) (trace longer : List Event) (reply : Reply) → AreSet l x → device_in e ≡ x.current → IsKept (world_after call e (world_in l base x trace)) → IsMadeInto e (bytes_brought call) reply x.store new trace longer
-    → IsKept (world_in l base (with_store x new) longer) × AreSet l (with_store x new)
-kept_called l base x new call e trace longer reply set on k m = (subst (λ (w : World). IsKept w) (sym (event_made l base x new call e reply trace longer set on m)) k, set_made l x new e call reply trace longer set m)
-
-pub kept_same : (l : Limits) (base : Base) (x : Devices) (new : Contents) (trace same : List Event) → AreSet l x → IsKept (world_in l base x trace) → IsAsBefore x.store new trace same → IsKept (world_in l base (with_store x new) same) × AreSet l (with_store x new)
-kept_same l base x new trace same set k h = (subst (λ (w : World). IsKept w) (sym (unchanged l base x new trace same h)) k, set_same l x new trace same set h)
-
-pub kept_either : (l : Limits) (base : Base) {E : Type 0} (x : Devices) (new : Contents) (call : Call Leased) (e : Event) (trace longer : List Event) (r : Result Reply E) → AreSet l x → device_in e ≡ x.current → IsKept (world_in l base x trace) → IsKept (world_after call e (world_in l base x trace))
-    → IfOk r (λ reply. IsMadeInto e (bytes_brought call) reply x.store new trace longer) → OnErr r (IsAsBefore x.store new trace longer) → IsKept (world_in l base (with_store x new) longer) × AreSet l (with_store x new)
-kept_either l base x new call e trace longer (Ok reply) set on k next m same = kept_called l base x new call e trace longer reply set on next m
-kept_either l base x new call e trace longer (Err back) set on k next m same = kept_same l base x new trace longer set k same
-
--- what the devices and a trace keep that carried a directive out, or were asked in vain
-pub kept_carried : (l : Limits) (base : Base) (x : Devices) (new : Contents) (d : Directive) (p : Planned) (trace longer : List Event) (r : Result Reply (Directive × Fault)) → AreSet l x → IsKept (world_in l base x trace) → OnOk r (IsPlanOf x.store.limits d x.store.state p)
-    → OnOk r (judge (world_in l base x trace) (Do d) ≡ Ok (planned_verdict d p x.store)) → IfOk r (λ reply. IsCommitted (planned_verdict d p x.store) reply x.store new trace longer) → OnErr r (IsAsBefore x.store new trace longer)
-    → IsKept (world_in l base (with_store x new) longer) × AreSet l (with_store x new)
-kept_carried l base x new d p trace longer (Ok reply) set k planned h done same = go (planned_verdict d p x.store) refl done
-  where
-    go : (v : Verdict) → planned_verdict d p x.store ≡ v → IsCommitted v reply x.store new trace longer → IsKept (world_in l base (with_store x new) longer) × AreSet l (with_store x new)
-    go (Makes e) is m = kept_called l base x new (Do d) e trace longer reply set ((device_told x.store.limits.number d x.store.state p.dids e is ∙ number_used l x set)) (kept_directive l base x trace d p e set k planned is (h ∙ ap Ok is)) m
-    go Idle is m = kept_same l base x new trace longer set k m.1
-kept_carried l base x new d p trace longer (Err back) set k planned h done same = kept_same l base x new trace longer set k same
-
 -- host memory has its size
-pub host_sized : (w : World) → IsKept w → length w.state.host ≡ w.limits.host
+pub host_sized : (w : World) → IsTableSound w → length w.state.host ≡ w.limits.host
 host_sized w k = (k.accounted.devices 0 (omega (arith, k.bounds.devices.0))).sound.memories_sized.host
 
 -- ---- a new table
 
-pub new_world_kept : (l : Limits) → IsWithinBounds l → IsKept (new_world l)
+pub new_world_kept : (l : Limits) → IsWithinBounds l → IsTableSound (new_world l)
 new_world_kept l bounds = record { bounds = bounds; accounted = new_accounted l bounds; births = none; regions = omega arith; serials = omega arith }
   where
     births_of : (count d : ℕ) → (slice_index_or (replicate count new_device) d new_device).records.births ≡ 0
@@ -203,47 +174,72 @@ new_world_kept l bounds = record { bounds = bounds; accounted = new_accounted l 
     none : (d : ℕ) → (view d (new_whole l.devices l.host)).records.births ≤ 64 * 0
     none d = omega (arith, births_of l.devices d)
 
-pub new_kept : (l : Limits) (base : Base) (x : Devices) → IsWithinBounds l → AreSet l x → whole_of x ≡ new_whole l.devices l.host → base ≡ base_of l.full (whole_of x) 0 → IsKept (world_in l base x []) × AreSet l x
+pub new_kept : (l : Limits) (base : Base) (x : Devices) → IsWithinBounds l → AreSet l x → whole_of x ≡ new_whole l.devices l.host → base ≡ base_of l.full (whole_of x) 0 → IsTableSound (world_in l base x []) × AreSet l x
 new_kept l base x bounds set new is =
     let same : world_in l base x [] ≡ new_world l = ap (λ b. world_in l b x []) is ∙ ap (λ (w : Whole). world_of l (base_of l.full w 0) w []) new in
-    (subst (λ w. IsKept w) (sym same) (new_world_kept l bounds), set)
+    (subst (λ w. IsTableSound w) (sym same) (new_world_kept l bounds), set)
 
 -- ---- a new base
 
-pub rebased_kept : (w : World) → IsKept w → IsKept (rebased w)
+pub rebased_kept : (w : World) → IsTableSound w → IsTableSound (rebased w)
 rebased_kept w k = record { bounds = k.bounds; accounted = rebased_accounted w k.bounds k.accounted; births = λ d. omega (arith, k.births d); regions = omega (arith, k.regions); serials = omega (arith, k.serials) }
 
-pub kept_rebased : (l : Limits) (base new : Base) (x : Devices) (trace : List Event) → IsKept (world_in l base x trace) → new ≡ base_of l.full (whole_of x) (event_count (world_in l base x trace).history) → IsKept (world_in l new x [])
-kept_rebased l base new x trace k is = subst (λ b. IsKept (world_in l b x [])) (sym is) (rebased_kept (world_in l base x trace) k)
+pub kept_rebased : (l : Limits) (base new : Base) (x : Devices) (trace : List Event) → IsTableSound (world_in l base x trace) → new ≡ base_of l.full (whole_of x) (event_count (world_in l base x trace).history) → IsTableSound (world_in l new x [])
+kept_rebased l base new x trace k is = subst (λ b. IsTableSound (world_in l b x [])) (sym is) (rebased_kept (world_in l base x trace) k)
 
 -- ---- a table, whichever device is in use
 
--- these devices are those of a table that is this world
-pub record AreDevicesOf (l : Limits) (base : Base) (x : Devices) (trace : List Event) (w : World) : Type 0 where
-  pub set : AreSet l x
-  pub kept : IsKept (world_in l base x trace)
-  pub same : world_in l base x trace ≡ w
+module _ {l : Limits} {base : Base} {x : Devices} {trace : List Event} {w : World} (t : AreDevicesOf l base x trace w) where
+  -- what the devices and a trace keep that were made into those after an event
+  pub kept_called : (new : Contents) (call : Call Leased) (e : Event) (reply : Reply) (longer : List Event) → device_in e ≡ x.current → IsTableSound (world_after call e w) → IsMadeInto e (bytes_brought call) reply x.store new trace longer → IsTableSound (world_in l base (with_store x new) longer) × AreSet l (with_store x new)
+  kept_called new call e reply longer on k m = (subst (λ v. IsTableSound v) (sym (event_made t new call e reply longer on m)) k, set_made l x new e call reply trace longer t.set m)
 
--- what is in the box is what a call on the box hands out
-pub opened : (k j : Kept) (w : World) → j ≡ k → IsKept (world_in k.config k.base k.devices k.trace.items) × AreSet k.config k.devices → world_in k.config k.base k.devices k.trace.items ≡ w → AreDevicesOf j.config j.base j.devices j.trace.items w
-opened k j w e h is = subst (λ (o : Kept). AreDevicesOf o.config o.base o.devices o.trace.items w) (sym e) (record { set = h.1; kept = h.0; same = is })
+  -- or only had room made
+  pub kept_same : (new : Contents) (same : List Event) → IsAsBefore x.store new trace same → IsTableSound (world_in l base (with_store x new) same) × AreSet l (with_store x new)
+  kept_same new same h = (subst (λ v. IsTableSound v) (t.same ∙ sym (unchanged t new same h)) t.kept, set_same l x new trace same t.set h)
 
--- so are they where another one was put in use
-pub selected : (l : Limits) (base : Base) (y x : Devices) (trace : List Event) (w : World) → IsKept (world_in l base y trace) × AreSet l y → world_in l base y trace ≡ w → AreSet l x → whole_of x ≡ whole_of y → AreDevicesOf l base x trace w
-selected l base y x trace w k is set same =
-    let one : world_in l base x trace ≡ world_in l base y trace = ap (λ s. world_of l base s trace) same in
-    record { set = set; kept = subst (λ v. IsKept v) (sym one) k.0; same = one ∙ is }
+  -- a call whose event asks no task is done, and keeps it, or only room was made
+  pub made_alone : {E : Type 0} (new : Contents) (call : Call Leased) (e : Event) (longer : List Event) (r : Result Reply E) → device_in e ≡ x.current → judge w call ≡ Ok (Makes e) → asked_in e (view (device_in e) w.state).register ≡ []
+      → IfOk r (λ reply. IsMadeInto e (bytes_brought call) reply x.store new trace longer) → OnErr r (IsAsBefore x.store new trace longer)
+      → (IsTableSound (world_in l base (with_store x new) longer) × AreSet l (with_store x new)) × IfOk r (λ reply. IsDone w call reply (world_in l base (with_store x new) longer))
+  made_alone new call e longer (Ok reply) on h none m same = (kept_called new call e reply longer on (kept_alone w call e (subst (λ v. IsTableSound v) t.same t.kept) h none) m, made_done t new call e reply longer on h m)
+  made_alone new call e longer (Err back) on h none m same = (kept_same new longer same, tt)
 
--- the store of the device in use has room for 64 births more
-pub births_fit : (l : Limits) (base : Base) (x : Devices) (trace : List Event) (w : World) → AreDevicesOf l base x trace w → x.store.state.records.births + 64 ≤ 2 ^ 48
-births_fit l base x trace w h =
-    let seen : (view x.current (whole_of x)).records.births ≡ x.store.state.records.births = ap (λ (s : State). s.records.births) (state_used l x h.set) in
-    let most : (view x.current (whole_of x)).records.births ≤ 64 * event_count (world_in l base x trace).history = h.kept.births x.current in
-    omega (arith, seen, most, h.kept.accounted.books_counted.tickets, h.kept.bounds.tickets.1)
+  -- so do they that carried a directive out, or were asked in vain
+  directive_kept : (d : Directive) (p : Planned) (e : Event) → IsPlanOf x.store.limits d x.store.state p → planned_verdict d p x.store ≡ Makes e → judge w (Do d) ≡ Ok (Makes e) → IsTableSound (world_after (Do d) e w)
+  directive_kept d p e planned is h =
+      let asked : asked_in e x.store.state.register ≡ p.tasks = planned_asked x.store.limits x.store.limits.number d x.store.state p e planned is in
+      kept_after w (Do d) e p.tasks (subst (λ v. IsTableSound v) t.same t.kept) h (subst (λ (s : State). asked_in e s.register ≡ p.tasks) (seen_in t e (told_on t d p e is)) asked) planned.few
 
--- and for one number of a region and one of a loan
-pub region_fits : (l : Limits) (base : Base) (x : Devices) (trace : List Event) (w : World) → AreDevicesOf l base x trace w → x.store.state.register.next < 2 ^ 48
-region_fits l base x trace w h = omega (arith, h.kept.regions, h.kept.accounted.books_counted.tickets, h.kept.bounds.tickets.1)
+  kept_carried : (new : Contents) (d : Directive) (p : Planned) (longer : List Event) (r : Result Reply (Directive × Fault)) → OnOk r (IsPlanOf x.store.limits d x.store.state p) → OnOk r (judge w (Do d) ≡ Ok (planned_verdict d p x.store))
+      → IfOk r (λ reply. IsCommitted (planned_verdict d p x.store) reply x.store new trace longer) → OnErr r (IsAsBefore x.store new trace longer) → IsTableSound (world_in l base (with_store x new) longer) × AreSet l (with_store x new)
+  kept_carried new d p longer (Ok reply) planned h done same = go (planned_verdict d p x.store) refl done
+    where
+      go : (v : Verdict) → planned_verdict d p x.store ≡ v → IsCommitted v reply x.store new trace longer → IsTableSound (world_in l base (with_store x new) longer) × AreSet l (with_store x new)
+      go (Makes e) is m = kept_called new (Do d) e reply longer (told_on t d p e is) (directive_kept d p e planned is (h ∙ ap Ok is)) m
+      go Idle is m = kept_same new longer m.1
+  kept_carried new d p longer (Err back) planned h done same = kept_same new longer same
 
-pub serial_fits : (l : Limits) (base : Base) (x : Devices) (trace : List Event) (w : World) → AreDevicesOf l base x trace w → x.store.state.register.serial < 2 ^ 48
-serial_fits l base x trace w h = omega (arith, h.kept.serials, h.kept.accounted.books_counted.tickets, h.kept.bounds.tickets.1)
+  pub carried : (new : Contents) (d : Directive) (p : Planned) (longer : List Event) (r : Result Reply (Directive × Fault)) → x.current ≡ device_for d w.state → admitted w d ≡ Ok tt → OnOk r (plan_of x.store.limits d x.store.state ≡ Ok (planned_verdict d p x.store)) → OnOk r (IsPlanOf x.store.limits d x.store.state p)
+      → IfOk r (λ reply. IsCommitted (planned_verdict d p x.store) reply x.store new trace longer) → OnErr r (IsAsBefore x.store new trace longer)
+      → (IsTableSound (world_in l base (with_store x new) longer) × AreSet l (with_store x new)) × IfOk r (λ reply. IsDone w (Do d) reply (world_in l base (with_store x new) longer))
+  carried new d p longer r for ok plan planned done same = let judged = directive_judged t d p r for ok plan in (kept_carried new d p longer r planned judged done same, directive_done t new d p longer r judged done)
+
+  -- the addresses of a write of the host that is not refused are in host memory
+  pub may_write : (s : Section) → write_admitted w s ≡ Ok tt → CanWrite s x.store.state.host
+  may_write s ok = can_write (world_in l base x trace) s (subst (λ (v : World). write_admitted v s ≡ Ok tt) (sym t.same) ok) (host_sized (world_in l base x trace) t.kept)
+
+  -- such a write is done, and keeps it
+  pub written_so : (new : Contents) (addr : ℕ) (bytes : List ℕ) (longer : List Event) → write_admitted w (record { start = addr; len = length bytes }) ≡ Ok tt → new.limits ≡ x.store.limits
+      → new.state ≡ record x.store.state { host = host_after_write addr (length bytes) bytes x.store.state.host } → longer ≡ trace ++ written x.store.limits.full addr bytes ∷ []
+      → (IsTableSound (world_in l base (with_store x new) longer) × AreSet l (with_store x new)) × IsDone w (HostWrite addr bytes) Done (world_in l base (with_store x new) longer)
+  written_so new addr bytes longer ok limits state is =
+      let v : World = world_in l base x trace in
+      let call : Call Leased = HostWrite addr bytes in
+      let judged : judge v call ≡ Ok (Makes (written l.full addr bytes)) = judged_write v addr bytes (subst (λ (v : World). write_admitted v (record { start = addr; len = length bytes }) ≡ Ok tt) (sym t.same) ok) in
+      let full : longer ≡ trace ++ written l.full addr bytes ∷ [] = is ∙ ap (λ (m : Limits). trace ++ written m.full addr bytes ∷ []) t.set.used in
+      let made : world_in l base (with_store x new) longer ≡ world_after call (written l.full addr bytes) v = write_made l base x new addr bytes trace longer state full in
+      let done : IsDone v call Done (world_in l base (with_store x new) longer) = rw judged (refl, made) in (
+        (subst (λ u. IsTableSound u) (sym made) (kept_alone v call (written l.full addr bytes) t.kept judged refl), set_written l x new _ t.set limits state),
+        subst (λ (u : World). IsDone u call Done (world_in l base (with_store x new) longer)) t.same done,
+      )

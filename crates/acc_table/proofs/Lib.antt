@@ -2,6 +2,7 @@ pub mod DeviceLists
 pub mod NewDevices
 pub mod Selecting
 pub mod AllDevices
+pub mod InUse
 pub mod Nothing
 pub mod Verdicts
 pub mod Judging

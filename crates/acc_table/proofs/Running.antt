@@ -29,11 +29,12 @@ use Rattle.acc_base.specs.Limits.{Limits, limits_on}
 use Rattle.acc_base.specs.Devices.{view, device_in}
 use Rattle.acc_table.specs.declared.devices.Devices.{Devices}
 use Rattle.acc_table.specs.Devices.{AreSet}
-use Rattle.acc_table.specs.Kept.{IsKept}
+use Rattle.acc_table.specs.Tables.{IsTableSound}
 use Rattle.acc_table.specs.Making.{is_loan, IsLeaseJudged, IsMadeInto}
 use Rattle.acc_table.specs.Turns.{is_meant, brought_back, asked_by, kept_by, lent_by, refuse_back, StaysRefused, MayCome, MayAnswer, IsRun}
 use Rattle.acc_table.specs.Turning.{is_lend, lends_in, IsTurnMade, IsRefusalOf, IsTurnRefused}
-use Rattle.acc_table.proofs.Verdicts.{with_store, world_in, directive_no_loan, write_no_loan, gather_rewritten, judged_rewritten, refused_rewritten, judged_refused, made_wanted, made_done}
+use Rattle.acc_table.proofs.InUse.{with_store, world_in, AreDevicesOf, of_view, gathers_in}
+use Rattle.acc_table.proofs.Verdicts.{directive_no_loan, write_no_loan, gather_rewritten, judged_rewritten, refused_rewritten, judged_refused, made_wanted, made_done}
 use Rattle.acc_table.proofs.Keeping.{kept_alone, kept_called}
 
 -- ---- which call lends
@@ -57,24 +58,6 @@ directive_lends_none w next d reply done = let none : lent_by reply ≡ [] = len
 
 pub write_lends_none : (w next : World) (addr : ℕ) (bytes : List ℕ) (reply : Reply) → IsDone w (HostWrite addr bytes) reply next → length (lent_by reply) ≤ 0
 write_lends_none w next addr bytes reply done = let none : lent_by reply ≡ [] = lends_none w next (HostWrite addr bytes) reply (write_no_loan w addr bytes) done in omega (arith, ap length none)
-
--- ---- one turn
-
--- and to one that was refused
-pub refused_turn : (w next : World) (leases rest : List Leased) (turn : Turn) (fault : Fault) → IsTurnRefused w leases turn fault next rest → MayAnswer w leases turn (asked_by turn leases) (Refused fault) next rest
-refused_turn w next leases rest turn fault h = go (asked_by turn leases) h.told
-  where
-    stays : (told : Fault) → fault ≡ told → StaysRefused w leases told (Refused fault) next rest
-    stays told same = record { answer_is = ap Refused same; same = h.same; same_leases = h.same_leases }
-
-    come : (call : Call Leased) (r : Result Verdict Fault) → MatchResult r (λ verdict. MayWantMemory verdict fault) (λ refusal. fault ≡ refusal) → MayCome w leases (kept_by turn leases) call r (Refused fault) next rest
-    come call (Ok (Makes e)) t = inl (stays _ t)
-    come call (Ok Idle) t = absurd t
-    come call (Err refusal) t = stays _ t
-
-    go : (r : Result (Call Leased) Fault) → IsRefusalOf w r fault → MayAnswer w leases turn r (Refused fault) next rest
-    go (Ok call) told = come call (judge w call) told
-    go (Err unknown) told = rw told (stays _ refl)
 
 -- ---- a lease that is brought back
 
@@ -138,42 +121,40 @@ pub record IsReturned (w : World) (serial : ℕ) (bytes : List ℕ) (leases : Li
   pub stored : bytes ≡ section lease
 
 -- so does that which was judged in its place before these bytes were written over those that it lends
-pub returned : {serial : ℕ} {bytes written : List ℕ} {leases : List Leased} {at : ℕ} {lease removed taken : Leased} {w now : World} → IsBackAt serial bytes leases at lease → removed ≡ slice_index_or leases at removed → taken ≡ with_section removed written → written ≡ bytes → w ≡ now → IsLoan lease → IsLeaseJudged now lease (Ok tt) → IsReturned w serial bytes leases at taken
-returned {serial = serial} {bytes = bytes} {leases = leases} {at = at} {lease = lease} {removed = removed} {taken = taken} {w = w} back is taken_is same_bytes same loan judged =
+pub returned : {serial : ℕ} {bytes written : List ℕ} {leases : List Leased} {at : ℕ} {lease removed taken : Leased} {w : World} → IsBackAt serial bytes leases at lease → removed ≡ slice_index_or leases at removed → taken ≡ with_section removed written → written ≡ bytes → IsLoan lease → IsLeaseJudged w lease (Ok tt) → IsReturned w serial bytes leases at taken
+returned {serial = serial} {bytes = bytes} {leases = leases} {at = at} {lease = lease} {removed = removed} {taken = taken} {w = w} back is taken_is same_bytes loan judged =
     let taken_of : with_section lease bytes ≡ taken = ap (λ (l : Leased). with_section l bytes) (sym (same_back back is)) ∙ (ap (with_section removed) (sym same_bytes) ∙ sym taken_is) in
-    let before : IsLeaseJudged w lease (Ok tt) = subst (λ (x : World). IsLeaseJudged x lease (Ok tt)) (sym same) judged in
     subst (λ (l : Leased). IsReturned w serial bytes leases at l) taken_of (record {
       asked = back.asked;
       kept = back.kept;
-      event = gather_rewritten (limits_on lease.device w.limits) lease bytes (view lease.device w.state) loan back.len before.0;
-      judged = judged_rewritten w lease bytes loan back.len before.1;
+      event = gather_rewritten (limits_on lease.device w.limits) lease bytes (view lease.device w.state) loan back.len judged.0;
+      judged = judged_rewritten w lease bytes loan back.len judged.1;
       stored = sym (section_written lease bytes loan back.len);
     })
 
--- the event of the store is that of the table
-made_full : (l : Limits) (x : Devices) (new : Contents) (lease : Leased) (reply : Reply) (trace room longer : List Event) → AreSet l x → room ≡ trace → IsMadeInto (gathered x.store.limits.full lease) lease.bytes reply x.store new room longer → IsMadeInto (gathered l.full lease) lease.bytes reply x.store new trace longer
-made_full l x new lease reply trace room longer set same m =
-    subst (λ (before : List Event). IsMadeInto (gathered l.full lease) lease.bytes reply x.store new before longer) same
-    (subst (λ (k : Limits). IsMadeInto (gathered k.full lease) lease.bytes reply x.store new room longer) set.used m)
+module _ {l : Limits} {base : Base} {x : Devices} {trace : List Event} {w : World} (t : AreDevicesOf l base x trace w) {serial : ℕ} {bytes : List ℕ} {leases : List Leased} {at : ℕ} {lease : Leased} (back : IsReturned w serial bytes leases at lease) (on : lease.device ≡ x.current) where
+  -- it may come back to the store
+  pub back_ready : gather_event x.store.limits lease x.store.state ≡ Ok (gathered x.store.limits.full lease)
+  back_ready = of_view t lease.device (λ m s. gather_event m lease s ≡ Ok (gathered m.full lease)) (sym on) back.event
 
--- what the devices and a trace keep that took it back
-pub back_kept : (l : Limits) (base : Base) {serial : ℕ} {bytes : List ℕ} {leases : List Leased} {at : ℕ} {lease : Leased} {reply : Reply} (x : Devices) (new : Contents) (trace room longer : List Event) → AreSet l x → lease.device ≡ x.current → IsKept (world_in l base x trace) → IsReturned (world_in l base x trace) serial bytes leases at lease → room ≡ trace
-    → IsMadeInto (gathered x.store.limits.full lease) lease.bytes reply x.store new room longer → IsKept (world_in l base (with_store x new) longer) × AreSet l (with_store x new)
-back_kept l base {lease = lease} {reply = reply} x new trace room longer set on k returned same m =
-    kept_called l base x new (Gather lease) (gathered l.full lease) trace longer reply set on (kept_alone (world_in l base x trace) (Gather lease) (gathered l.full lease) k returned.judged refl) (made_full l x new lease reply trace room longer set same m)
-
--- the turn is made that brought it back
-pub back_made : (l : Limits) (base : Base) {serial : ℕ} {bytes : List ℕ} {leases : List Leased} {at : ℕ} {lease : Leased} {reply : Reply} (x : Devices) (new : Contents) (trace room longer : List Event) → AreSet l x → lease.device ≡ x.current → IsReturned (world_in l base x trace) serial bytes leases at lease → room ≡ trace
-    → IsMadeInto (gathered x.store.limits.full lease) lease.bytes reply x.store new room longer → IsTurnMade (world_in l base x trace) leases (Back serial bytes) reply (world_in l base (with_store x new) longer) (remove leases at)
-back_made l base {lease = lease} {reply = reply} x new trace room longer set on returned same m =
-    record {
-      call = Gather lease;
-      asked = returned.asked;
-      done = made_done l base x new (Gather lease) (gathered l.full lease) reply trace longer set on returned.judged (made_full l x new lease reply trace room longer set same m);
-      kept_is = returned.kept;
-      idle = λ idle. (let both : ◌≡◌ {A = Reply} replies.Done replies.Idle = sym m.reply ∙ idle in cc);
-      few = (let none : lent_by reply ≡ [] = ap lent_by m.reply in omega (arith, ap length none));
-    }
+  -- what the devices and a trace keep that took it back, and the turn that brought it back
+  pub back_made : (new : Contents) (reply : Reply) (room longer : List Event) → room ≡ trace → IsMadeInto (gathered x.store.limits.full lease) lease.bytes reply x.store new room longer
+      → (IsTableSound (world_in l base (with_store x new) longer) × AreSet l (with_store x new)) × IsTurnMade w leases (Back serial bytes) reply (world_in l base (with_store x new) longer) (remove leases at)
+  back_made new reply room longer same m =
+      let e : Event = gathered x.store.limits.full lease in
+      let judged : judge w (Gather lease) ≡ Ok (Makes e) = gathers_in t lease back.judged in
+      let made : IsMadeInto e lease.bytes reply x.store new trace longer = subst (λ (events : List Event). IsMadeInto e lease.bytes reply x.store new events longer) same m in
+      let none : lent_by reply ≡ [] = ap lent_by m.reply in (
+        kept_called t new (Gather lease) e reply longer on (kept_alone w (Gather lease) e (subst (λ v. IsTableSound v) t.same t.kept) judged refl) made,
+        record {
+          call = Gather lease;
+          asked = back.asked;
+          done = made_done t new (Gather lease) e reply longer on judged made;
+          kept_is = back.kept;
+          idle = λ idle. (let both : ◌≡◌ {A = Reply} replies.Done replies.Idle = sym m.reply ∙ idle in cc);
+          few = omega (arith, ap length none);
+        },
+      )
 
 -- ---- one turn after the other
 

@@ -17,7 +17,7 @@ abbrev pub parked_from : Contents → Parked
 parked_from c = record { limits = c.limits; device = device_in_view c.state; next = c.state.register.next; serial = c.state.register.serial }
 
 -- the devices are set, and this one stands apart
-pub record IsApart (l : Limits) (x : Devices) (d : ℕ) (p : Parked) : Type 0 where
+pub record StandsApart (l : Limits) (x : Devices) (d : ℕ) (p : Parked) : Type 0 where
   pub set : AreSet l x
   pub there : d < length x.spares.items
   pub other : d ≡ x.current → ⊥
@@ -30,7 +30,7 @@ at_place zero (x ∷ xs) o there is = sym is
 at_place (suc d) (x ∷ xs) o there is = at_place d xs o (omega (arith, there)) is
 
 -- the device that stands apart fits the store
-pub apart_host : (l : Limits) (x : Devices) (d : ℕ) (p : Parked) → IsApart l x d p → p.limits.host ≡ x.store.limits.host
+pub apart_host : (l : Limits) (x : Devices) (d : ℕ) (p : Parked) → StandsApart l x d p → p.limits.host ≡ x.store.limits.host
 apart_host l x d p h = ap (λ (m : Limits). m.host) (h.set.apart d p h.is).limits ∙ sym (ap (λ (m : Limits). m.host) h.set.used)
 
 -- a device that is there and not in use stands apart
@@ -43,7 +43,7 @@ is_apart l x d set there other none = let some : IsSome (slice_index_or x.spares
 
 -- ---- after it is put in use
 
-pub set_moved : (l : Limits) (x y : Devices) (d : ℕ) (p q : Parked) → IsApart l x d p → y.store.limits ≡ p.limits → y.store.state ≡ in_use p.device x.store.state → q ≡ parked_from x.store → y.current ≡ d → y.spares.items ≡ moved x.current d q x.spares.items → AreSet l y
+pub set_moved : (l : Limits) (x y : Devices) (d : ℕ) (p q : Parked) → StandsApart l x d p → y.store.limits ≡ p.limits → y.store.state ≡ in_use p.device x.store.state → q ≡ parked_from x.store → y.current ≡ d → y.spares.items ≡ moved x.current d q x.spares.items → AreSet l y
 set_moved l x y d p q h limits state parked current items = record {
   count = ap length items ∙ (length-set (slice_set xs d None) x.current (Some q) ∙ (length-set xs d None ∙ h.set.count));
   only = subst (λ n. IsOnlyNone n y.spares.items) (sym current) (subst (IsOnlyNone d) (sym items) (only_moved x.current d q xs h.set.only h.other h.there));
@@ -90,7 +90,7 @@ set_moved l x y d p q h limits state parked current items = record {
         still k r (h.set.apart k r (sym old ∙ is))
 
 -- no device has other than before
-pub whole_moved : (l : Limits) (x : Devices) (d : ℕ) (p q : Parked) (t : State) (ys : List (Option Parked)) → IsApart l x d p → t ≡ in_use p.device x.store.state → q ≡ parked_from x.store → ys ≡ moved x.current d q x.spares.items → whole_with ys t ≡ whole_of x
+pub whole_moved : (l : Limits) (x : Devices) (d : ℕ) (p q : Parked) (t : State) (ys : List (Option Parked)) → StandsApart l x d p → t ≡ in_use p.device x.store.state → q ≡ parked_from x.store → ys ≡ moved x.current d q x.spares.items → whole_with ys t ≡ whole_of x
 whole_moved l x d p q t ys h state parked items =
     ap (λ (s : State). whole_with ys s) state
     ∙ (ap (λ (xs : List (Option Parked)). whole_with xs (in_use p.device x.store.state)) items

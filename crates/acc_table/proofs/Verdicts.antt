@@ -34,9 +34,10 @@ use Rattle.acc_table.specs.declared.calls.Reply.{Reply}
 use Rattle.acc_table.specs.declared.calls.Reply.TheVariants.{Done}
 use Rattle.acc_table.specs.Calls.{reply_of, IsCarriedOut, IsDone, IsRefusal}
 use Rattle.acc_table.specs.declared.devices.Devices.{Devices}
-use Rattle.acc_table.specs.Devices.{whole_with, whole_of, AreSet}
-use Rattle.acc_table.specs.Kept.{world_of}
-use Rattle.acc_table.proofs.DeviceLists.{view_used, whole_put, set_own}
+use Rattle.acc_table.specs.Devices.{whole_with, whole_of}
+use Rattle.acc_table.specs.Tables.{world_of}
+use Rattle.acc_table.proofs.DeviceLists.{set_own}
+use Rattle.acc_table.proofs.InUse.{with_store, world_in, AreDevicesOf, number_used, in_view, seen_in, event_made, unchanged}
 use Rattle.acc_table.specs.Making.{is_idle, number_told, event_told, reply_told, is_loan, admitted, write_admitted, planned_verdict, MayBeToldOf, IsMadeInto, IsCommitted, IsAsBefore}
 
 -- ---- the event
@@ -66,45 +67,14 @@ told_idle n _ s dids e = cc
 
 -- ---- the world
 
--- the devices with another store
-abbrev pub with_store : Devices → Contents → Devices
-with_store x new = record { store = new; current = x.current; spares = x.spares }
-
--- the world of these devices
-abbrev pub world_in : Limits → Base → Devices → List Event → World
-world_in l base x trace = world_of l base (whole_of x) trace
-
--- what the device in use is made into is put back
-pub state_put : (l : Limits) (x : Devices) (new : Contents) → AreSet l x → whole_of (with_store x new) ≡ with_view x.current new.state (whole_of x)
-state_put l x new set = whole_put x.current x.spares.items x.store.state new.state set.only
-
--- and its view is the state of the store
-pub state_used : (l : Limits) (x : Devices) → AreSet l x → view x.current (whole_of x) ≡ x.store.state
-state_used l x set = view_used x.current x.spares.items x.store.state set.only
-
--- the world of a store and a trace after a call is the world after its event, if that is of the device in use
-pub event_made : (l : Limits) (base : Base) (x : Devices) (new : Contents) (call : Call Leased) (e : Event) (reply : Reply) (trace longer : List Event) → AreSet l x → device_in e ≡ x.current → IsMadeInto e (bytes_brought call) reply x.store new trace longer
-    → world_in l base (with_store x new) longer ≡ world_after call e (world_in l base x trace)
-unfolding world_after
-event_made l base x new call e reply trace longer set on h =
-    let full : x.store.limits.full ≡ l.full = ap (λ (m : Limits). m.full) set.used in
-    let is : new.state ≡ after l.full e (bytes_brought call) (view x.current (whole_of x)) = h.state ∙ (ap (λ b. after b e (bytes_brought call) x.store.state) full ∙ ap (after l.full e (bytes_brought call)) (sym (state_used l x set))) in
-    let whole : whole_of (with_store x new) ≡ after_on l.full e (bytes_brought call) (whole_of x) =
-    state_put l x new set ∙ (ap (λ s. with_view x.current s (whole_of x)) is ∙ ap (λ n. with_view n (after l.full e (bytes_brought call) (view n (whole_of x))) (whole_of x)) (sym on)) in
-    ap (λ w. world_of l base w longer) whole ∙ ap (λ t. world_of l base (after_on l.full e (bytes_brought call) (whole_of x)) t) h.trace
-
--- and as before where only room was made
-pub unchanged : (l : Limits) (base : Base) (x : Devices) (new : Contents) (trace same : List Event) → IsAsBefore x.store new trace same → world_in l base (with_store x new) same ≡ world_in l base x trace
-unchanged l base x new trace same h = ap (λ s. world_of l base (whole_with x.spares.items s) same) h.state ∙ ap (λ t. world_in l base x t) h.trace
-
 -- the world of a store and a trace after a write of the host, whatever device is in use
 write_whole : (n : ℕ) (w : Whole) (host : List ℕ) → with_view n (record (view n w) { host = host }) w ≡ record w { host = host }
 write_whole n w host = ap (λ (ds : List OneDevice). let v : Whole = record { devices = ds; next = w.next; serial = w.serial; host = host } in v) (set_own n w.devices)
 
-pub write_made : (l : Limits) (base : Base) (x : Devices) (new : Contents) (addr : ℕ) (bytes : List ℕ) (trace longer : List Event) → AreSet l x → new.state ≡ record x.store.state { host = host_after_write addr (length bytes) bytes x.store.state.host } → longer ≡ trace ++ written l.full addr bytes ∷ []
+pub write_made : (l : Limits) (base : Base) (x : Devices) (new : Contents) (addr : ℕ) (bytes : List ℕ) (trace longer : List Event) → new.state ≡ record x.store.state { host = host_after_write addr (length bytes) bytes x.store.state.host } → longer ≡ trace ++ written l.full addr bytes ∷ []
     → world_in l base (with_store x new) longer ≡ world_after (HostWrite addr bytes) (written l.full addr bytes) (world_in l base x trace)
 unfolding world_after after loaned drained act_all_state
-write_made l base x new addr bytes trace longer set state is =
+write_made l base x new addr bytes trace longer state is =
     let host : List ℕ = host_after_write addr (length bytes) bytes (whole_of x).host in
     let whole : whole_of (with_store x new) ≡ with_view 0 (record (view 0 (whole_of x)) { host = host }) (whole_of x) = ap (λ s. whole_with x.spares.items s) state ∙ sym (write_whole 0 (whole_of x) host) in
     ap (λ w. world_of l base w longer) whole ∙ ap (λ t. world_of l base (with_view 0 (record (view 0 (whole_of x)) { host = host }) (whole_of x)) t) is
@@ -279,19 +249,7 @@ write_no_loan w addr bytes e h =
 
 -- ---- a call that was carried out
 
--- a call that was judged so and made its event is done
-pub made_done : (l : Limits) (base : Base) (x : Devices) (new : Contents) (call : Call Leased) (e : Event) (reply : Reply) (trace longer : List Event) → AreSet l x → device_in e ≡ x.current → judge (world_in l base x trace) call ≡ Ok (Makes e) → IsMadeInto e (bytes_brought call) reply x.store new trace longer
-    → IsDone (world_in l base x trace) call reply (world_in l base (with_store x new) longer)
-made_done l base x new call e reply trace longer set on h m =
-    let seen : x.store.state ≡ view (device_in e) (whole_of x) = sym (ap (λ n. view n (whole_of x)) on ∙ state_used l x set) in
-    rw h (m.reply ∙ ap (reply_of e) seen, event_made l base x new call e reply trace longer set on m)
-
-pub done_either : (l : Limits) (base : Base) {E : Type 0} (x : Devices) (new : Contents) (call : Call Leased) (e : Event) (trace longer : List Event) (r : Result Reply E) → AreSet l x → device_in e ≡ x.current → judge (world_in l base x trace) call ≡ Ok (Makes e)
-    → IfOk r (λ reply. IsMadeInto e (bytes_brought call) reply x.store new trace longer) → IfOk r (λ reply. IsDone (world_in l base x trace) call reply (world_in l base (with_store x new) longer))
-done_either l base x new call e trace longer (Ok reply) set on h m = made_done l base x new call e reply trace longer set on h m
-done_either l base x new call e trace longer (Err back) set on h m = tt
-
--- and may be refused for lack of memory
+-- it may be refused for lack of memory
 pub made_wanted : (w : World) (call : Call Leased) (e : Event) → judge w call ≡ Ok (Makes e) → IsRefusal w call Memory
 made_wanted w call e h = rw h refl
 
@@ -314,40 +272,31 @@ device_told n d s dids e h = go (is_idle d s) refl
     go true idle = let none : verdict_of n d s dids ≡ Idle = told_idle n d s dids idle in cc
     go false busy = same _ (sym (told n d s dids busy) ∙ h) (on d (number_told d s) (in_written_order d dids))
 
--- the store is that of the device in use
-pub number_used : (l : Limits) (x : Devices) → AreSet l x → x.store.limits.number ≡ x.current
-number_used l x set = ap (λ (m : Limits). m.number) set.used
+module _ {l : Limits} {base : Base} {x : Devices} {trace : List Event} {w : World} (t : AreDevicesOf l base x trace w) where
+  -- a call that was judged so and made its event is done
+  pub made_done : (new : Contents) (call : Call Leased) (e : Event) (reply : Reply) (longer : List Event) → device_in e ≡ x.current → judge w call ≡ Ok (Makes e) → IsMadeInto e (bytes_brought call) reply x.store new trace longer
+      → IsDone w call reply (world_in l base (with_store x new) longer)
+  made_done new call e reply longer on h m = rw h (m.reply ∙ ap (reply_of e) (seen_in t e on), event_made t new call e reply longer on m)
 
--- what a directive came to, which was judged so, is done
-carried_out : (l : Limits) (base : Base) (x : Devices) (new : Contents) (d : Directive) (p : Planned) (v : Verdict) (reply : Reply) (trace longer : List Event) → AreSet l x → planned_verdict d p x.store ≡ v → IsCommitted v reply x.store new trace longer
-    → IsCarriedOut (world_in l base x trace) (Do d) v reply (world_in l base (with_store x new) longer)
-carried_out l base x new d p (Makes e) reply trace longer set is h =
-    let on : device_in e ≡ x.current = device_told x.store.limits.number d x.store.state p.dids e is ∙ number_used l x set in
-    let seen : x.store.state ≡ view (device_in e) (whole_of x) = sym (ap (λ n. view n (whole_of x)) on ∙ state_used l x set) in
-    (h.reply ∙ ap (reply_of e) seen, event_made l base x new (Do d) e reply trace longer set on h)
-carried_out l base x new d p Idle reply trace longer set is h = (h.0, unchanged l base x new trace longer h.1)
+  -- the event of a directive is one of the device in use
+  pub told_on : (d : Directive) (p : Planned) (e : Event) → planned_verdict d p x.store ≡ Makes e → device_in e ≡ x.current
+  told_on d p e is = device_told x.store.limits.number d x.store.state p.dids e is ∙ number_used t
 
-pub directive_done : (l : Limits) (base : Base) (x : Devices) (new : Contents) (d : Directive) (p : Planned) (trace longer : List Event) (r : Result Reply (Directive × Fault)) → AreSet l x → OnOk r (judge (world_in l base x trace) (Do d) ≡ Ok (planned_verdict d p x.store))
-    → IfOk r (λ reply. IsCommitted (planned_verdict d p x.store) reply x.store new trace longer) → IfOk r (λ reply. IsDone (world_in l base x trace) (Do d) reply (world_in l base (with_store x new) longer))
-directive_done l base x new d p trace longer (Ok reply) set h done = rw h (carried_out l base x new d p (planned_verdict d p x.store) reply trace longer set refl done)
-directive_done l base x new d p trace longer (Err back) set h done = tt
+  -- what a directive came to, which was judged so, is done
+  carried_out : (new : Contents) (d : Directive) (p : Planned) (v : Verdict) (reply : Reply) (longer : List Event) → planned_verdict d p x.store ≡ v → IsCommitted v reply x.store new trace longer → IsCarriedOut w (Do d) v reply (world_in l base (with_store x new) longer)
+  carried_out new d p (Makes e) reply longer is h = (h.reply ∙ ap (reply_of e) (seen_in t e (told_on d p e is)), event_made t new (Do d) e reply longer (told_on d p e is) h)
+  carried_out new d p Idle reply longer is h = (h.0, unchanged t new longer h.1)
 
--- what is planned in the store is planned on the device in use
-pub planned_used : (l : Limits) (base : Base) (x : Devices) (d : Directive) (trace : List Event) → AreSet l x → x.current ≡ device_for d (whole_of x) → planned_on (world_in l base x trace) d ≡ plan_of x.store.limits d x.store.state
-planned_used l base x d trace set for =
-    let seen : view x.current (whole_of x) ≡ x.store.state = state_used l x set in
-    ap (λ n. plan_of (limits_on n l) d (view n (whole_of x))) (sym for) ∙ (ap (λ s. plan_of (limits_on x.current l) d s) seen ∙ ap (λ m. plan_of m d x.store.state) (sym set.used))
+  pub directive_done : (new : Contents) (d : Directive) (p : Planned) (longer : List Event) (r : Result Reply (Directive × Fault)) → OnOk r (judge w (Do d) ≡ Ok (planned_verdict d p x.store))
+      → IfOk r (λ reply. IsCommitted (planned_verdict d p x.store) reply x.store new trace longer) → IfOk r (λ reply. IsDone w (Do d) reply (world_in l base (with_store x new) longer))
+  directive_done new d p longer (Ok reply) h done = rw h (carried_out new d p (planned_verdict d p x.store) reply longer refl done)
+  directive_done new d p longer (Err back) h done = tt
 
-pub directive_judged : (l : Limits) (base : Base) (x : Devices) (d : Directive) (p : Planned) (trace : List Event) (r : Result Reply (Directive × Fault)) → AreSet l x → x.current ≡ device_for d (whole_of x) → admitted (world_in l base x trace) d ≡ Ok tt
-    → OnOk r (plan_of x.store.limits d x.store.state ≡ Ok (planned_verdict d p x.store)) → OnOk r (judge (world_in l base x trace) (Do d) ≡ Ok (planned_verdict d p x.store))
-directive_judged l base x d p trace (Ok reply) set for ok h = judged_plan (world_in l base x trace) d (planned_verdict d p x.store) ok (planned_used l base x d trace set for ∙ h)
-directive_judged l base x d p trace (Err back) set for ok h = tt
+  -- what is planned in the store is judged on the device in use
+  pub directive_judged : (d : Directive) (p : Planned) (r : Result Reply (Directive × Fault)) → x.current ≡ device_for d w.state → admitted w d ≡ Ok tt → OnOk r (plan_of x.store.limits d x.store.state ≡ Ok (planned_verdict d p x.store)) → OnOk r (judge w (Do d) ≡ Ok (planned_verdict d p x.store))
+  directive_judged d p (Ok reply) for ok h = judged_plan w d (planned_verdict d p x.store) ok (in_view t (device_for d w.state) (λ m s. plan_of m d s ≡ Ok (planned_verdict d p x.store)) for h)
+  directive_judged d p (Err back) for ok h = tt
 
-pub directive_refused : (l : Limits) (base : Base) (x : Devices) (d : Directive) (trace : List Event) (r : Result Reply (Directive × Fault)) → AreSet l x → x.current ≡ device_for d (whole_of x) → admitted (world_in l base x trace) d ≡ Ok tt
-    → IfErr r (λ back. MayBeToldOf (plan_of x.store.limits d x.store.state) back.1) → IfErr r (λ back. IsRefusal (world_in l base x trace) (Do d) back.1)
-directive_refused l base x d trace (Ok reply) set for ok h = tt
-directive_refused l base x d trace (Err back) set for ok h = refused_plan (world_in l base x trace) d back.1 ok (subst (λ r. MayBeToldOf r back.1) (sym (planned_used l base x d trace set for)) h)
-
-pub write_done : (l : Limits) (base : Base) (x : Devices) (new : Contents) (addr : ℕ) (bytes : List ℕ) (trace longer : List Event) → judge (world_in l base x trace) (HostWrite addr bytes) ≡ Ok (Makes (written l.full addr bytes))
-    → world_in l base (with_store x new) longer ≡ world_after (HostWrite addr bytes) (written l.full addr bytes) (world_in l base x trace) → IsDone (world_in l base x trace) (HostWrite addr bytes) Done (world_in l base (with_store x new) longer)
-write_done l base x new addr bytes trace longer h is = rw h (refl, is)
+  pub directive_refused : (d : Directive) (r : Result Reply (Directive × Fault)) → x.current ≡ device_for d w.state → admitted w d ≡ Ok tt → IfErr r (λ back. MayBeToldOf (plan_of x.store.limits d x.store.state) back.1) → IfErr r (λ back. IsRefusal w (Do d) back.1)
+  directive_refused d (Ok reply) for ok h = tt
+  directive_refused d (Err back) for ok h = refused_plan w d back.1 ok (in_view t (device_for d w.state) (λ m s. MayBeToldOf (plan_of m d s) back.1) for h)

@@ -68,18 +68,3 @@ pub record IsLawful (w : World) : Type 0 where
   pub replayed : IsReplayed w
   -- there are no more events than tickets and places in the trace, and no more open regions than the limit says
   pub books : AreBooksCounted w
-
--- what queries find on a device: nothing
-pub record IsUnknown (w : World) (d : ℕ) : Type 0 where
-  pub absent : (s : Section) → where_is s (view d w.state).records.ranges ≡ (if is_empty s then Empty else Absent)
-  pub present : (s : Section) → is_inside (where_is s (view d w.state).records.ranges) ≡ false
-  pub address : (address : ℕ) → device_address_of address (view d w.state).records ≡ None
-  pub attachment : (pointer : ℕ) → attachment_of pointer (view d w.state).records ≡ 0
-  pub attached : (s : Section) → first_attached s (view d w.state).records ≡ None
-  pub counters : (s : Section) → counters_of_section s (view d w.state).records ≡ None
-  pub mapped : (from : ℕ) → mapped_from from (view d w.state).records ≡ None
-  pub bytes : (s : Section) → device_read_of s (view d w.state) ≡ None
-  pub ended : (from : ℕ) → ended_from from (view d w.state).records ≡ None
-  pub waiting : (q : ℕ) → length (queue_at q (view d w.state).records.queues) ≡ 0
-  pub used : used_bytes (view d w.state).records.blocks ≡ 0
-  pub newest : newest_region (view d w.state).register.regions ≡ None

@@ -1,5 +1,5 @@
 pub mod Devices
-pub mod Kept
+pub mod Tables
 pub mod Calls
 pub mod Counts
 pub mod Making

@@ -1,7 +1,7 @@
 //! What holds of every table, law by law.
 
 ghost use Rattle.std.specs.Prelude.{◌≤◌};
-ghost use Rattle.acc_table.specs.Laws.{IsLawful, IsUnknown};
+ghost use Rattle.acc_table.specs.Laws.{IsLawful};
 
 use crate::tables::Table;
 
@@ -28,14 +28,9 @@ pub fn hold(table: &Table)
 {
     table.laws();
     for device in 0..table.config().devices() {
-        table.holes_laws(device);
+        let Some(view) = table.on(device) else {
+            unreachable!()
+        };
+        view.laws();
     }
-}
-
-/// Each query finds nothing on a device that is not there. No section is present on it, and it has no ranges, pointers,
-/// transfers, regions or bytes. Nothing is done.
-pub fn unknown(table: &Table, device: u64)
-    ensures { table.now.limits.devices ≤ device → IsUnknown table.now device }
-{
-    table.laws();
 }

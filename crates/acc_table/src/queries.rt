@@ -41,20 +41,21 @@ fn later(one: Option<u64>, other: Option<u64>) -> Option<u64>
 
 impl Table {
     /// What a device has, to look at. `None` exactly where there is no such device.
-    fn on(&self, device: u64) -> Option<View<'_>>
+    pub(crate) fn on(&self, device: u64) -> Option<View<'_>>
         ensures there { IfSome result (λ v. v ≡ record { limits = limits_on device self.now.limits; state = view device self.now.state }) }
         ensures known { IfSome result (λ _. device < self.now.limits.devices) }
         ensures none { IfNone result (self.now.limits.devices ≤ device) }
         ensures new { IfNone result (device_at device self.now.state.devices ≡ new_device) }
     {
-        self.kept.devices.view(device)
+        self.data.devices.view(device)
     }
 
     /// Where the section lies among the mapped ranges of a device: it is empty, inside one range, absent, or partly
-    /// present. A device that is not there maps nothing.
+    /// present. A device that is not there has what a new one has, so it maps nothing.
     pub fn find(&self, device: u64, section: Section) -> Found
         ensures value { result ≡ where_is section (view device self.now.state).records.ranges }
         ensures addresses { IsPlacedAt section (view device self.now.state).records.ranges result }
+        ensures unknown { self.now.limits.devices ≤ device → device_at device self.now.state.devices ≡ new_device }
     {
         self.laws();
         match self.on(device) {
@@ -152,7 +153,7 @@ impl Table {
     pub fn host_read(&self, section: Section) -> Option<&[u8]>
         ensures { option_map (λ bytes. bytes.now) result ≡ host_read_of section self.now.state.host }
     {
-        self.kept.devices.store.host_read(section)
+        self.data.devices.store.host_read(section)
     }
 
     /// The bytes that a device has of a section, as many as it is long. `None` where it is not inside one mapped range,
@@ -223,7 +224,7 @@ impl Table {
     pub fn regions(&self) -> u64
         ensures { result ≡ open_regions self.now.state }
     {
-        self.kept.devices.regions()
+        self.data.devices.regions()
     }
 
     /// The device on which the region of a number is open; 0 where no such region is open.
@@ -231,7 +232,7 @@ impl Table {
         ensures value { result ≡ device_of_region number self.now.state }
         ensures there { result < self.now.limits.devices }
     {
-        self.kept.devices.device_of_region(number)
+        self.data.devices.device_of_region(number)
     }
 
     /// The device for which a directive is: the one that it names, or that of the region that it exits. It is 0 where
@@ -278,7 +279,7 @@ impl Table {
         ensures { result ≡ event_count self.now.history }
     {
         self.laws();
-        self.kept.base.events() + self.kept.trace.len() as u64
+        self.data.base.events() + self.data.trace.len() as u64
     }
 
     /// How many more events there may be.
@@ -293,20 +294,20 @@ impl Table {
     pub fn base(&self) -> &Base
         ensures { result.now ≡ self.now.history.base }
     {
-        &self.kept.base
+        &self.data.base
     }
 
     /// The stored events, in the order in which they came: those since the base.
     pub fn trace(&self) -> &[Event]
         ensures { result.now ≡ self.now.history.trace }
     {
-        &self.kept.trace
+        &self.data.trace
     }
 
     /// The limits.
     pub fn config(&self) -> Config
         ensures { result ≡ self.now.limits }
     {
-        self.kept.config
+        self.data.config
     }
 }

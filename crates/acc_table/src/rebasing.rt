@@ -73,11 +73,11 @@ impl Table {
         ensures err { IfErr result (λ fault. fault ≡ Memory) }
     {
         let events = self.events();
-        let kept = &mut *self.kept;
-        let alloc = *kept.trace.allocator();
-        let base = kept.devices.base(alloc, &kept.config, events)?;
-        let base = mem::replace(&mut kept.base, base);
-        let events = mem::replace(&mut kept.trace, Vec::new(alloc));
+        let data = &mut *self.data;
+        let alloc = *data.trace.allocator();
+        let base = data.devices.base(alloc, &data.config, events)?;
+        let base = mem::replace(&mut data.base, base);
+        let events = mem::replace(&mut data.trace, Vec::new(alloc));
         Ok(Folded { base, events })
     }
 
@@ -87,6 +87,6 @@ impl Table {
         ensures { self.new ≡ self.old }
     {
         events.clear();
-        self.kept.trace = events;
+        self.data.trace = events;
     }
 }

@@ -80,7 +80,7 @@ impl Table {
         ensures ran { IfOk result (λ answers. IsRun self.old leases.old.items turns.items answers.items self.new leases.new.items) }
         ensures err { IfErr result (λ fault. (fault ≡ Memory) × (self.new ≡ self.old) × (leases.new.items ≡ leases.old.items)) }
     {
-        let mut answers = Vec::with_capacity(*self.kept.trace.allocator(), turns.len())?;
+        let mut answers = Vec::with_capacity(*self.data.trace.allocator(), turns.len())?;
         leases.reserve(lends_in(&turns))?;
         for turn in turns {
             let answer = self.take_turn(turn, leases);
@@ -143,13 +143,13 @@ impl Table {
         let lease = &leases[at];
         lease.laws();
         self.admit_lease(lease)?;
-        let kept = &mut *self.kept;
-        kept.trace.reserve(1)?;
+        let data = &mut *self.data;
+        data.trace.reserve(1)?;
         let mut lease = leases.remove(at);
         lease.overwrite(bytes.as_slice());
-        let bytes = recorded(kept.config.full(), bytes, *kept.trace.allocator());
-        kept.devices.select(lease.device());
-        Ok(take_back(&mut kept.devices.store, &mut kept.trace, lease, bytes))
+        let bytes = recorded(data.config.full(), bytes, *data.trace.allocator());
+        data.devices.select(lease.device());
+        Ok(take_back(&mut data.devices.store, &mut data.trace, lease, bytes))
     }
 
     /// What bringing back a lease is refused for that is not in the list.

@@ -4,17 +4,15 @@ ghost use Rattle.std.specs.Prelude.{ℕ, ◌≡◌, ◌<◌, Ok, Err, IfOk, IfEr
 ghost use Rattle.acc_base.specs.declared.calls.Call.TheVariants.{Do, HostWrite, Lend, Gather};
 ghost use Rattle.acc_base.specs.declared.events.Event.TheVariants.{Lent};
 ghost use Rattle.acc_base.specs.declared.faults.Fault.TheVariants.{Memory};
-ghost use Rattle.acc_base.specs.Section.{device_memory};
-ghost use Rattle.acc_base.specs.Holes.{IsDevice};
 ghost use Rattle.acc_base.specs.Judge.{Makes, gather_event};
-ghost use Rattle.acc_base.specs.Limits.{IsWithinBounds, limits_on};
-ghost use Rattle.acc_base.specs.Devices.{view, device_of_region};
+ghost use Rattle.acc_base.specs.Limits.{IsWithinBounds};
+ghost use Rattle.acc_base.specs.Devices.{device_of_region};
 ghost use Rattle.acc_base.specs.Calls.{ticket, allowance, trace_room, device_for, device_there, new_world, judge};
 ghost use Rattle.acc_base.specs.Accounts.{IsAccounted};
 ghost use Rattle.acc_table.specs.Calls.{IsDone, IsRefusal};
 ghost use Rattle.acc_clauses.specs.Lending.{IsLoanPlanned};
 ghost use Rattle.acc_table.specs.Devices.{whole_of, AreSet};
-ghost use Rattle.acc_table.specs.Kept.{IsKept, world_of};
+ghost use Rattle.acc_table.specs.Tables.{IsTableSound, world_of};
 ghost use Rattle.acc_table.specs.Making.{admitted, write_admitted, IsLoanJudged, IsLeaseJudged};
 
 use crate::calls::{Call, Reply};
@@ -36,12 +34,12 @@ use std::marker::Model;
 #[derive(Drop)]
 pub struct Table {
     // One pointer: so a table is moved, and its owners are checked, as cheaply as a number.
-    pub(crate) kept: Box<Kept>,
+    pub(crate) data: Box<TableData>,
 }
 
 /// What a table has.
 #[derive(Drop)]
-pub(crate) struct Kept {
+pub(crate) struct TableData {
     pub(crate) config: Config,
     pub(crate) devices: Devices,
     pub(crate) base: Base,
@@ -53,26 +51,26 @@ pub(crate) struct Kept {
 
 impl Model for Table {
     ghost use Rattle.acc_base.specs.Calls.{World};
-    ghost use Rattle.acc_table.specs.Kept.{IsKept, world_of};
+    ghost use Rattle.acc_table.specs.Tables.{IsTableSound, world_of};
     ghost use Rattle.acc_table.specs.Devices.{whole_of, AreSet};
 
     ghost Value = { World };
 
-    ghost view = { λ t. world_of t.kept.value.config t.kept.value.base (whole_of t.kept.value.devices) t.kept.value.trace.items };
+    ghost view = { λ t. world_of t.data.value.config t.data.value.base (whole_of t.data.value.devices) t.data.value.trace.items };
 
-    ghost invariant = { λ t. IsKept (world_of t.kept.value.config t.kept.value.base (whole_of t.kept.value.devices) t.kept.value.trace.items) × AreSet t.kept.value.config t.kept.value.devices };
+    ghost invariant = { λ t. IsTableSound (world_of t.data.value.config t.data.value.base (whole_of t.data.value.devices) t.data.value.trace.items) × AreSet t.data.value.config t.data.value.devices };
 }
 
-/// What a new table keeps.
-fn new_kept(alloc: Global, config: Config) -> Result<Kept, Fault>
-    ensures kept { IfOk result (λ k. IsKept (world_of k.config k.base (whole_of k.devices) k.trace.items) × AreSet k.config k.devices) }
+/// What a new table has.
+fn new_data(alloc: Global, config: Config) -> Result<TableData, Fault>
+    ensures sound { IfOk result (λ k. IsTableSound (world_of k.config k.base (whole_of k.devices) k.trace.items) × AreSet k.config k.devices) }
     ensures new { IfOk result (λ k. world_of k.config k.base (whole_of k.devices) k.trace.items ≡ new_world config) }
     ensures err { IfErr result (λ fault. fault ≡ Memory) }
 {
     config.laws();
     let devices = Devices::new(alloc, &config)?;
     let base = devices.base(alloc, &config, 0)?;
-    Ok(Kept {
+    Ok(TableData {
         config,
         devices,
         base,
@@ -91,9 +89,9 @@ impl Table {
         ensures ok { IfOk result (λ table. table ≡ new_world config) }
         ensures err { IfErr result (λ fault. fault ≡ Memory) }
     {
-        let kept = new_kept(alloc, config)?;
+        let data = new_data(alloc, config)?;
         Ok(Table {
-            kept: Box::new(alloc, kept)?,
+            data: Box::new(alloc, data)?,
         })
     }
 
@@ -109,17 +107,7 @@ impl Table {
         ensures accounted { IsAccounted self.now }
         ensures bounds { IsWithinBounds self.now.limits }
     {
-        self.kept.config.laws();
-    }
-
-    /// The blocks of a device and the holes that [`Table::hole`] returns are the device, with no address in two of
-    /// them. Nothing is done.
-    pub fn holes_laws(&self, device: u64)
-        ensures { device < self.now.limits.devices → IsDevice (device_memory (limits_on device self.now.limits)) (view device self.now.state).records.blocks }
-    {
-        if let Some(view) = self.kept.devices.view(device) {
-            view.laws();
-        }
+        self.data.config.laws();
     }
 
     /// Makes one call: an event, or no change (OpenACC 3.3, sections 2.6.5, 2.6.6 and 2.16, and the update and wait
@@ -205,17 +193,17 @@ impl Table {
             Ok(device) => device,
             Err(fault) => return Err((directive, fault)),
         };
-        let kept = &mut *self.kept;
-        kept.devices.select(device);
-        let store = &mut kept.devices.store;
-        carry_out(store, &mut kept.trace, &mut kept.plan, directive)
+        let data = &mut *self.data;
+        data.devices.select(device);
+        let store = &mut data.devices.store;
+        carry_out(store, &mut data.trace, &mut data.plan, directive)
     }
 
     /// There is a ticket for one more event.
     pub(crate) fn admit_ticket(&self) -> Result<(), Fault>
         ensures { result ≡ ticket self.now }
     {
-        if self.kept.config.tickets() <= self.events() {
+        if self.data.config.tickets() <= self.events() {
             Err(Fault::NoTickets { left: 0 })
         } else {
             Ok(())
@@ -228,7 +216,7 @@ impl Table {
     {
         match directive {
             Directive::Enter { .. } => {
-                if self.kept.config.regions() <= self.regions() {
+                if self.data.config.regions() <= self.regions() {
                     Err(Fault::NoAllowance { left: 0 })
                 } else {
                     Ok(())
@@ -242,8 +230,8 @@ impl Table {
     pub(crate) fn admit_event(&self) -> Result<(), Fault>
         ensures { result ≡ trace_room self.now }
     {
-        let events = self.kept.trace.len() as u64;
-        if self.kept.config.trace_cap() <= events {
+        let events = self.data.trace.len() as u64;
+        if self.data.config.trace_cap() <= events {
             Err(Fault::TraceFull { len: events })
         } else {
             Ok(())
@@ -254,7 +242,7 @@ impl Table {
     fn admit_device(&self, device: u64) -> Result<(), Fault>
         ensures { result ≡ device_there self.now device }
     {
-        if self.kept.config.devices() <= device {
+        if self.data.config.devices() <= device {
             Err(Fault::NoDevice { device })
         } else {
             Ok(())
@@ -282,7 +270,7 @@ impl Table {
     {
         self.admit_ticket()?;
         self.admit_event()?;
-        self.kept.devices.store.check_host(0, section)
+        self.data.devices.store.check_host(0, section)
     }
 
     /// Writes into host memory, or hands the bytes back with what that is refused for.
@@ -298,9 +286,9 @@ impl Table {
         };
         match self.admit_write(section) {
             Ok(()) => {
-                let kept = &mut *self.kept;
-                let full = kept.config.full();
-                write_host(&mut kept.devices.store, &mut kept.trace, full, addr, bytes)?;
+                let data = &mut *self.data;
+                let full = data.config.full();
+                write_host(&mut data.devices.store, &mut data.trace, full, addr, bytes)?;
                 Ok(Reply::Done)
             }
             Err(fault) => Err((bytes, fault)),
@@ -316,9 +304,9 @@ impl Table {
     {
         self.admit_ticket()?;
         self.admit_event()?;
-        let kept = &mut *self.kept;
-        kept.devices.select(device);
-        kept.devices.store.plan_loan(region, section)
+        let data = &mut *self.data;
+        data.devices.select(device);
+        data.devices.store.plan_loan(region, section)
     }
 
     /// Lends the block of a section, and returns its lease.
@@ -329,11 +317,11 @@ impl Table {
     {
         let device = self.device_of_region(region);
         let loan = self.admit_loan(device, region, section)?;
-        let kept = &mut *self.kept;
-        kept.devices.select(device);
+        let data = &mut *self.data;
+        data.devices.select(device);
         lend(
-            &mut kept.devices.store,
-            &mut kept.trace,
+            &mut data.devices.store,
+            &mut data.trace,
             region,
             section,
             loan,
@@ -350,14 +338,14 @@ impl Table {
         self.admit_ticket()?;
         self.admit_event()?;
         let device = lease.device();
-        let kept = &mut *self.kept;
-        if kept.config.devices() <= device {
+        let data = &mut *self.data;
+        if data.config.devices() <= device {
             return Err(Fault::NoLease {
                 serial: lease.serial(),
             });
         }
-        kept.devices.select(device);
-        kept.devices.store.check_lease(lease)
+        data.devices.select(device);
+        data.devices.store.check_lease(lease)
     }
 
     /// Brings a lease back, or hands it back with what it is refused for.
@@ -368,10 +356,10 @@ impl Table {
     {
         match self.admit_lease(&lease) {
             Ok(()) => {
-                let kept = &mut *self.kept;
-                let full = kept.config.full();
-                kept.devices.select(lease.device());
-                gather(&mut kept.devices.store, &mut kept.trace, full, lease)
+                let data = &mut *self.data;
+                let full = data.config.full();
+                data.devices.select(lease.device());
+                gather(&mut data.devices.store, &mut data.trace, full, lease)
             }
             Err(fault) => Err((lease, fault)),
         }

@@ -5,7 +5,7 @@ ghost use Rattle.acc_base.specs.Limits.{IsFromOne};
 ghost use Rattle.acc_base.specs.declared.addresses.TheConstants.{MEMORY_MAX};
 ghost use Rattle.acc_base.specs.Section.{end_of, device_memory};
 ghost use Rattle.acc_base.specs.Holes.{IsLeft, IsNextHole};
-ghost use Rattle.acc_base.specs.Loans.{loan_of, is_lent};
+ghost use Rattle.acc_base.specs.Loans.{is_lent};
 ghost use Rattle.acc_base.specs.Leases.{is_returnable};
 ghost use Rattle.acc_base.specs.Blocks.{block_at, rounded, place_of, place_for, used_bytes};
 ghost use Rattle.acc_base.specs.Bytes.{bytes_of};
@@ -14,7 +14,7 @@ ghost use Rattle.acc_placement.specs.Ranges.{IsTakeBelow};
 ghost use Rattle.acc_dev.specs.Device.{planned_blocks};
 
 use crate::views::View;
-use acc_base::{Ended, Free, Hole, Loan};
+use acc_base::{Ended, Free, Hole};
 use acc_lend::Lease;
 
 impl<'a> View<'a> {
@@ -34,13 +34,6 @@ impl<'a> View<'a> {
         ensures { result ≡ used_bytes self.now.state.records.blocks }
     {
         self.environment.device.used()
-    }
-
-    /// How many blocks were born so far, those too that were given back. They are numbered from 1 on.
-    pub fn births(&self) -> u64
-        ensures { result ≡ self.now.state.records.births }
-    {
-        self.environment.device.next_block() - 1
     }
 
     /// The number that the next block gets.
@@ -97,18 +90,11 @@ impl<'a> View<'a> {
         }
     }
 
-    /// The loan of a block, if there is such a block and it is lent.
-    pub(crate) fn loan(&self, block: u64) -> Option<Loan>
-        ensures { result ≡ loan_of block self.now.state.records.loans }
-    {
-        self.environment.device.loan(block)
-    }
-
     /// Whether a block is lent: its bytes are in a lease, and not on the device.
     pub fn is_lent(&self, block: u64) -> bool
         ensures { result ≡ is_lent block self.now.state.records.loans }
     {
-        self.lent != 0 && self.loan(block).is_some()
+        self.lent != 0 && self.environment.device.loan(block).is_some()
     }
 
     /// How many blocks are lent.

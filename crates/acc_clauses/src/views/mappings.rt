@@ -31,13 +31,6 @@ impl View<'_> {
         self.environment.present.next_range(from)
     }
 
-    /// The range that is mapped to a block, if one is.
-    pub(crate) fn range(&self, block: u64) -> Option<Range>
-        ensures { result ≡ range_of block self.now.state.records.ranges }
-    {
-        self.environment.present.range(block)
-    }
-
     /// The range that is mapped to a block, if one is. An address says where it is looked for first.
     pub(crate) fn range_near(&self, block: u64, at: u64) -> Option<Range>
         ensures { result ≡ range_of block self.now.state.records.ranges }
@@ -52,7 +45,7 @@ impl View<'_> {
     {
         match known {
             Some(range) if range.block == block => Some(range),
-            Some(_) | None => self.range(block),
+            Some(_) | None => self.environment.present.range(block),
         }
     }
 

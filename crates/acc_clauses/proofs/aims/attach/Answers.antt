@@ -1,10 +1,11 @@
-use Rattle.std.proofs.Common.{◌∙◌, sym, arith, inl, inr}
+use Rattle.std.proofs.Common.{◌≡◌, ◌∙◌, sym, arith, inl, inr}
 use Rattle.acc_base.proofs.Judged.{not_lent_says}
-use Rattle.acc_base.specs.Pointers.{device_pointer}
+use Rattle.acc_base.specs.Pointers.{device_pointer, judge_attach}
+use Rattle.acc_base.specs.Attachments.{attach}
 use Rattle.acc_clauses.specs.Overlays.{records_after, state_after}
 use Rattle.acc_clauses.proofs.AimsValued.{aligned}
 use Rattle.acc_clauses.proofs.AimsJudged.{attach-absent, attach-untargeted, attach-targeted, attach-lent, attach-new, attach-full, attach-again}
-use Rattle.acc_clauses.proofs.aims.attach.Goals.{then-count-eq0-via-then-count-eq0, then-count-eq0-via-else-count-eq0+then-value_after-target}
+use Rattle.acc_clauses.proofs.aims.attach.Goals.{After-count_after-count, then-count-eq0-via-then-count-eq0, then-count-eq0-via-else-count-eq0+then-value_after-target}
 use Rattle.acc_clauses.proofs.aims.attach.Goals as goal
 
 pub value_after-requires-clause-aligned : goal.value_after-requires-clause-aligned
@@ -23,47 +24,35 @@ returns-in_err-not_lent c = grind (arith, attach-lent)
 pub value_after-requires-clause-free : goal.value_after-requires-clause-free
 value_after-requires-clause-free c = not_lent_says c.in-Some.block c.args.view.now.state.records.loans (sym c.in_ok-not_lent.ensures)
 
+-- the pointer is attached as it stands in its block
+there : (c : After-count_after-count) → judge_attach c.args.view.now.limits c.args.n c.args.pointer (state_after c.args.draft.now c.args.view.now.state)
+    ≡ attach c.args.view.now.limits.counter_max c.args.n c.in-Some.block c.args.pointer c.in-Some-address_after.target (device_pointer c.in-Some.block c.args.pointer (state_after c.args.draft.now c.args.view.now.state)) (records_after c.args.draft.now c.args.view.now.state.records).attached
+there c =
+    attach-targeted c.args.view.now.limits c.args.n c.args.pointer c.args.draft.now c.args.view.now.state c.requires.planned c.requires.entering c.in-Some.block c.in-Some-address_after.target c.host_pointer.result c.in-Some.ensures c.host_pointer.ensures c.in-Some-address_after.ensures c.in_ok-not_lent.ensures
+
 pub returns-then-count-eq0 : goal.returns-then-count-eq0
 returns-then-count-eq0 c =
     let p = c.args.view.now in
-    let xs = c.args.draft.now in
-    let block = c.in-Some.block in
-    let target = c.in-Some-address_after.target in
-    let there = attach-targeted p.limits c.args.n c.args.pointer xs p.state c.requires.planned c.requires.entering block target c.host_pointer.result c.in-Some.ensures c.host_pointer.ensures c.in-Some-address_after.ensures c.in_ok-not_lent.ensures in
     let count = c.count_after-count.ensures in
-    attach-new p.limits.counter_max c.args.n block c.args.pointer target (device_pointer block c.args.pointer (state_after xs p.state)) (records_after xs p.state.records).attached
+    attach-new p.limits.counter_max c.args.n c.in-Some.block c.args.pointer c.in-Some-address_after.target (device_pointer c.in-Some.block c.args.pointer (state_after c.args.draft.now p.state)) (records_after c.args.draft.now p.state.records).attached
     (elim c.then-count-eq0.branch [
       | then-count-eq0-via-then-count-eq0 w ↦ (let zero = w.if-count-eq0.true in inl (omega (arith, count, zero)))
       | then-count-eq0-via-else-count-eq0+then-value_after-target w ↦ (let other = w.if-value_after-target.true in let value = w.value_after.ensures in inr (λ same. other (value ∙ same)))
     ])
-    ∙ sym there
+    ∙ sym (there (goal.at.returns-then-count-eq0 c).After-count_after-count)
 
 pub returns-then-counter_max-count : goal.returns-then-counter_max-count
 returns-then-counter_max-count c =
     let p = c.args.view.now in
-    let xs = c.args.draft.now in
-    let block = c.in-Some.block in
-    let target = c.in-Some-address_after.target in
-    let there = attach-targeted p.limits c.args.n c.args.pointer xs p.state c.requires.planned c.requires.entering block target c.host_pointer.result c.in-Some.ensures c.host_pointer.ensures c.in-Some-address_after.ensures c.in_ok-not_lent.ensures in
     let count = c.count_after-count.ensures in
-    let some = c.if-count-eq0.false in
-    let most = c.counter_max.ensures in
-    let tested = c.if-counter_max-count.true in
-    attach-full p.limits.counter_max c.args.n block c.args.pointer target (device_pointer block c.args.pointer (state_after xs p.state)) (records_after xs p.state.records).attached
-    (λ none. some (count ∙ none)) (sym c.value_after.ensures ∙ c.if-value_after-target.false) (omega (arith, count, most, tested))
-    ∙ sym there
+    attach-full p.limits.counter_max c.args.n c.in-Some.block c.args.pointer c.in-Some-address_after.target (device_pointer c.in-Some.block c.args.pointer (state_after c.args.draft.now p.state)) (records_after c.args.draft.now p.state.records).attached
+    (λ none. c.if-count-eq0.false (count ∙ none)) (sym c.value_after.ensures ∙ c.if-value_after-target.false) (omega (arith, count, c.counter_max.ensures, c.if-counter_max-count.true))
+    ∙ sym (there (goal.at.returns-then-counter_max-count c).After-count_after-count)
 
 pub returns : goal.returns
 returns c =
     let p = c.args.view.now in
-    let xs = c.args.draft.now in
-    let block = c.in-Some.block in
-    let target = c.in-Some-address_after.target in
-    let there = attach-targeted p.limits c.args.n c.args.pointer xs p.state c.requires.planned c.requires.entering block target c.host_pointer.result c.in-Some.ensures c.host_pointer.ensures c.in-Some-address_after.ensures c.in_ok-not_lent.ensures in
     let count = c.count_after-count.ensures in
-    let some = c.if-count-eq0.false in
-    let most = c.counter_max.ensures in
-    let tested = c.if-counter_max-count.false in
-    attach-again p.limits.counter_max c.args.n block c.args.pointer target (device_pointer block c.args.pointer (state_after xs p.state)) (records_after xs p.state.records).attached
-    (λ none. some (count ∙ none)) (sym c.value_after.ensures ∙ c.if-value_after-target.false) (omega (arith, count, most, tested))
-    ∙ sym there
+    attach-again p.limits.counter_max c.args.n c.in-Some.block c.args.pointer c.in-Some-address_after.target (device_pointer c.in-Some.block c.args.pointer (state_after c.args.draft.now p.state)) (records_after c.args.draft.now p.state.records).attached
+    (λ none. c.if-count-eq0.false (count ∙ none)) (sym c.value_after.ensures ∙ c.if-value_after-target.false) (omega (arith, count, c.counter_max.ensures, c.if-counter_max-count.false))
+    ∙ sym (there (goal.at.returns c).After-count_after-count)

@@ -1,12 +1,12 @@
-use Rattle.std.proofs.Common.{◌<◌, ◌≤◌, arith, below_more}
+use Rattle.std.proofs.Common.{◌<◌, ◌≤◌, arith, below_more, subst}
+use Rattle.acc_base.specs.Section.{device_memory}
+use Rattle.acc_base.specs.Holes.{IsDevice}
+use Rattle.acc_clauses.specs.Devices.{Seen}
 use Rattle.acc_table.proofs.Lawful.{lawful}
 use Rattle.acc_table.proofs.laws.hold.Goals as goal
 
 pub loop-device-preserved : goal.loop-device-preserved
-loop-device-preserved c =
-    let count = rw c.config.ensures at c.devices-device-end.ensures.value in
-    let there : c.loop-device.device < c.args.table.now.limits.devices = omega (arith, c.loop-device-test.true, count) in
-    below_more _ _ c.loop-device.invariant (c.holes_laws.ensures there)
+loop-device-preserved c = below_more _ _ c.loop-device.invariant (subst (λ (v : Seen). IsDevice (device_memory v.limits) v.state.records.blocks) c.in-Some.ensures.there c.laws-in-loop-device.ensures.holes)
 
 pub returns : goal.returns
 returns c =

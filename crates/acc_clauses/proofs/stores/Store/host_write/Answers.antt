@@ -2,7 +2,6 @@ use Rattle.std.proofs.Common.{arith}
 use Rattle.acc_clauses.specs.Contents.{Contents, Numbers}
 use Rattle.acc_clauses.specs.Devices.{contents_beside}
 use Rattle.acc_clauses.proofs.Copying.{host_written}
-use Rattle.acc_clauses.proofs.Storing.{written_sound}
 use Rattle.acc_clauses.proofs.stores.Store.host_write.Goals as goal
 
 pub returns-clause-state : goal.returns-clause-state

@@ -12,7 +12,7 @@ world_of l base state trace = record { limits = l; history = record { base = bas
 
 -- the limits are within their bounds, the world is accounted for, and an event made one region, one loan and 64 births
 -- at most
-pub record IsKept (w : World) : Type 0 where
+pub record IsTableSound (w : World) : Type 0 where
   pub bounds : IsWithinBounds w.limits
   pub accounted : IsAccounted w
   pub births : (d : ℕ) → (view d w.state).records.births ≤ 64 * event_count w.history

@@ -1,5 +1,0 @@
-use Rattle.acc_table.proofs.Keeping as keeping
-use Rattle.acc_table.proofs.tables.new_kept.Goals as goal
-
-pub returns-clause-kept : goal.returns-clause-kept
-returns-clause-kept c = rw c.new-2.ensures.items (keeping.new_kept c.args.config c.in_ok-base.base c.in_ok-devices.devices c.laws.ensures.bounds c.in_ok-devices.ensures.set c.in_ok-devices.ensures.new c.in_ok-base.ensures.ok)

@@ -4,7 +4,7 @@ use Rattle.acc_table.specs.Turns.{lent_by}
 use Rattle.lamwiest_c.specs.Environments.{DataEnvironment}
 use Rattle.lamwiest_c.specs.Answers.{Told, IsLent}
 use Rattle.lamwiest_c.proofs.Leasing.{done_lent}
-use Rattle.lamwiest_c.proofs.environments.Environment.lend.Goals as goal
+use Rattle.lamwiest_c.proofs.environments.TableWithLeases.lend.Goals as goal
 
 pub returns-in-Ok : goal.returns-in-Ok
 returns-in-Ok c =

@@ -1,7 +1,7 @@
 use Rattle.std.proofs.Common.{sym, length}
 use Rattle.acc_base.specs.declared.items.Section.{Section}
 use Rattle.lamwiest_c.proofs.Copying.{device_read_len}
-use Rattle.lamwiest_c.proofs.environments.Environment.device_read.Goals as goal
+use Rattle.lamwiest_c.proofs.environments.TableWithLeases.device_read.Goals as goal
 
 pub copy_from_slice-requires : goal.copy_from_slice-requires
 copy_from_slice-requires c =

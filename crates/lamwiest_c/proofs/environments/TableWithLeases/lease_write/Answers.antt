@@ -8,7 +8,7 @@ use Rattle.lamwiest_c.specs.Answers.{Told, is_serial}
 use Rattle.lamwiest_c.specs.Leases.{IsLeaseWritten}
 use Rattle.acc_base.specs.Loans.{Leased}
 use Rattle.lamwiest_c.proofs.Leasing.{IsAt, at_place, none_written, whole_written, short_written, same_lease}
-use Rattle.lamwiest_c.proofs.environments.Environment.lease_write.Goals as goal
+use Rattle.lamwiest_c.proofs.environments.TableWithLeases.lease_write.Goals as goal
 
 pub returns-in_default : goal.returns-in_default
 returns-in_default c =

@@ -8,7 +8,7 @@ use Rattle.lamwiest_c.specs.declared.statuses.Refusal.TheVariants.{OfTable}
 use Rattle.lamwiest_c.specs.Environments.{DataEnvironment}
 use Rattle.lamwiest_c.specs.Answers.{Told, is_serial, lease_in, lease_of_nothing, IsGathered}
 use Rattle.lamwiest_c.proofs.Leasing.{IsAt, at_place, remove_set, set_back, done_gathered, refused_gathered, none_gathered}
-use Rattle.lamwiest_c.proofs.environments.Environment.gather.Goals as goal
+use Rattle.lamwiest_c.proofs.environments.TableWithLeases.gather.Goals as goal
 
 pub returns-in_default : goal.returns-in_default
 returns-in_default c =

@@ -37,14 +37,14 @@ use Rattle.std.proofs.alloc.Calls.{token, handle_tells, Goes-blank}
 use Rattle.std.specs.Box.Ownership.{box_owns}
 use Rattle.std.proofs.BoxSteps.Form.{Bx, D, τ, R, P, B, word, box_typed}
 use Rattle.std.proofs.BoxSteps.Steps.{box_out, box_in}
-use Rattle.lamwiest_c.specs.contracts.parts.Parts as parts
+use Rattle.lamwiest_c.specs.contracts.parts.BoxParts as parts
 use Rattle.std.specs.contracts.boxed.Box.into_raw_with_allocator as Raw
 use Rattle.std.proofs.boxed.Box.into_raw_with_allocator.Symbol as raw_symbol
 use Rattle.std.proofs.boxed.Box.into_raw_with_allocator.Met as raw_met
-use Rattle.lamwiest_c.specs.contracts.parts.Parts.of as F
-use Rattle.lamwiest_c.specs.contracts.parts.Parts.of.Key.{name as #self}
-use Rattle.lamwiest_c.proofs.parts.Parts.of.Statement as stated
-use Rattle.lamwiest_c.proofs.parts.Parts.of.Code as code
+use Rattle.lamwiest_c.specs.contracts.parts.BoxParts.of as F
+use Rattle.lamwiest_c.specs.contracts.parts.BoxParts.of.Key.{name as #self}
+use Rattle.lamwiest_c.proofs.parts.BoxParts.of.Statement as stated
+use Rattle.lamwiest_c.proofs.parts.BoxParts.of.Code as code
 
 module _ (E : Bx) (dx : Dict) where
   abbrev args : Args

@@ -35,14 +35,14 @@ use Rattle.std.proofs.alloc.Calls.{token, Goes-blank}
 use Rattle.std.specs.Box.Ownership.{box_owns}
 use Rattle.std.proofs.BoxSteps.Form.{Bx, D, R, P, B, args, box_ty, word, box_typed}
 use Rattle.std.proofs.BoxSteps.Steps.{box_out, box_in}
-use Rattle.lamwiest_c.specs.contracts.parts.Parts as parts
+use Rattle.lamwiest_c.specs.contracts.parts.BoxParts as parts
 use Rattle.std.specs.contracts.boxed.Box.from_raw as Raw
 use Rattle.std.proofs.boxed.Box.from_raw.Symbol as raw_symbol
 use Rattle.std.proofs.boxed.Box.from_raw.Met as raw_met
-use Rattle.lamwiest_c.specs.contracts.parts.Parts.into_box as F
-use Rattle.lamwiest_c.specs.contracts.parts.Parts.into_box.Key.{name as #self}
-use Rattle.lamwiest_c.proofs.parts.Parts.into_box.Statement as stated
-use Rattle.lamwiest_c.proofs.parts.Parts.into_box.Code as code
+use Rattle.lamwiest_c.specs.contracts.parts.BoxParts.into_box as F
+use Rattle.lamwiest_c.specs.contracts.parts.BoxParts.into_box.Key.{name as #self}
+use Rattle.lamwiest_c.proofs.parts.BoxParts.into_box.Statement as stated
+use Rattle.lamwiest_c.proofs.parts.BoxParts.into_box.Code as code
 
 -- what runs after the call: its result is returned
 abbrev rest : Body

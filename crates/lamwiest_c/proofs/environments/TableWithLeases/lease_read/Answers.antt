@@ -6,7 +6,7 @@ use Rattle.lamwiest_c.specs.Environments.{DataEnvironment}
 use Rattle.lamwiest_c.specs.Answers.{Told, is_serial}
 use Rattle.lamwiest_c.specs.Leases.{IsLeaseRead}
 use Rattle.lamwiest_c.proofs.Leasing.{IsAt, at_place, none_read, whole_read, short_read}
-use Rattle.lamwiest_c.proofs.environments.Environment.lease_read.Goals as goal
+use Rattle.lamwiest_c.proofs.environments.TableWithLeases.lease_read.Goals as goal
 
 pub returns-in_default : goal.returns-in_default
 returns-in_default c =

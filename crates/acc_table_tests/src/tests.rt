@@ -1,146 +1,51 @@
-//! Rows, in each way to play them.
+//! Rows of a table, and what stands in none.
 
-use crate::language::Row;
-use crate::same;
 use acc_base::{Config, Fault};
-use listing::play_in_lists;
-use playing::play_alone;
-use rows::{SUBJECTS, Subject, rows_of};
+use language::Row;
+use playing::play_row;
 use std::process::Abort;
 use std::test::Fail;
 
 mod checks;
 mod example;
+mod holes;
+mod language;
+mod layers;
 mod leasing;
-mod listing;
+mod million;
 mod playing;
 mod rows;
+mod turns;
 
-fn play_each_in_lists(rt: &(impl Abort + AllocGlobal), rows: &[Row]) -> Result<(), Fault> {
+fn play_each(rt: &(impl Abort + AllocGlobal), rows: &'static [Row]) -> Result<(), Fault> {
     for row in rows {
-        play_in_lists(rt, row)?;
+        play_row(rt, row)?;
     }
     Ok(())
 }
 
-fn play_each_alone(
-    rt: &(impl Abort + AllocGlobal),
-    rows: &[Row],
-    is_rebased: bool,
-) -> Result<(), Fail> {
-    for row in rows {
-        play_alone(rt, row, is_rebased)?;
+#[test]
+fn each_row_holds_after_a_refused_growth(rt: HostRuntime) -> Result<(), Fail> {
+    for rows in rows::tables() {
+        play_each(&rt, rows)?;
     }
     Ok(())
-}
-
-/// Calls that stand one behind the other are made as a list of turns.
-#[test]
-fn each_row_holds_for_lists_of_turns(rt: HostRuntime) -> Result<(), Fail> {
-    for subject in SUBJECTS {
-        play_each_in_lists(&rt, rows_of(subject))?;
-    }
-    Ok(())
-}
-
-/// Each call is made by itself, with a rebase behind it.
-#[test]
-fn each_row_holds_with_a_rebase_behind_each_call(rt: HostRuntime) -> Result<(), Fail> {
-    for subject in SUBJECTS {
-        play_each_alone(&rt, rows_of(subject), true)?;
-    }
-    Ok(())
-}
-
-/// Each call is made by itself, and once more where memory is refused for it, which changed nothing.
-#[test]
-fn a_refused_growth_changes_no_row_of_limits(rt: HostRuntime) -> Result<(), Fail> {
-    play_each_alone(&rt, rows_of(Subject::Limits), false)
-}
-
-#[test]
-fn a_refused_growth_changes_no_row_of_arrays(rt: HostRuntime) -> Result<(), Fail> {
-    play_each_alone(&rt, rows_of(Subject::Arrays), false)
-}
-
-#[test]
-fn a_refused_growth_changes_no_row_of_regions(rt: HostRuntime) -> Result<(), Fail> {
-    play_each_alone(&rt, rows_of(Subject::Regions), false)
-}
-
-#[test]
-fn a_refused_growth_changes_no_row_of_pointers(rt: HostRuntime) -> Result<(), Fail> {
-    play_each_alone(&rt, rows_of(Subject::Pointers), false)
-}
-
-#[test]
-fn a_refused_growth_changes_no_row_of_queues(rt: HostRuntime) -> Result<(), Fail> {
-    play_each_alone(&rt, rows_of(Subject::Queues), false)
-}
-
-#[test]
-fn a_refused_growth_changes_no_row_of_loans(rt: HostRuntime) -> Result<(), Fail> {
-    play_each_alone(&rt, rows_of(Subject::Loans), false)
-}
-
-#[test]
-fn a_refused_growth_changes_no_row_of_lent_blocks(rt: HostRuntime) -> Result<(), Fail> {
-    play_each_alone(&rt, rows_of(Subject::LentBlocks), false)
-}
-
-#[test]
-fn a_refused_growth_changes_no_row_of_bytes(rt: HostRuntime) -> Result<(), Fail> {
-    play_each_alone(&rt, rows_of(Subject::Bytes), false)
-}
-
-#[test]
-fn a_refused_growth_changes_no_row_of_devices(rt: HostRuntime) -> Result<(), Fail> {
-    play_each_alone(&rt, rows_of(Subject::Devices), false)
-}
-
-#[test]
-fn a_refused_growth_changes_no_row_of_many_devices(rt: HostRuntime) -> Result<(), Fail> {
-    play_each_alone(&rt, rows_of(Subject::ManyDevices), false)
-}
-
-#[test]
-fn a_refused_growth_changes_no_row_of_rebases(rt: HostRuntime) -> Result<(), Fail> {
-    play_each_alone(&rt, rows_of(Subject::Rebases), false)
-}
-
-#[test]
-fn a_refused_growth_changes_no_row_of_large_blocks(rt: HostRuntime) -> Result<(), Fail> {
-    play_each_alone(&rt, rows_of(Subject::LargeBlocks), false)
-}
-
-/// The same, with a rebase behind each call, and once more where memory is refused for that.
-#[test]
-fn a_refused_growth_changes_no_row_of_bytes_with_rebases(rt: HostRuntime) -> Result<(), Fail> {
-    play_each_alone(&rt, rows_of(Subject::Bytes), true)
-}
-
-#[test]
-fn a_refused_growth_changes_no_row_of_pointers_with_rebases(rt: HostRuntime) -> Result<(), Fail> {
-    play_each_alone(&rt, rows_of(Subject::Pointers), true)
-}
-
-/// The number of devices is from 1 to 4.
-fn check_devices(rt: &impl Abort, config: Config) {
-    for devices in [0, 5, u64::MAX] {
-        let found = config.with_devices(devices).err();
-        same(rt, "no such config", found, Some(Fault::BadConfig));
-    }
-    for devices in [1, 2, 3, 4] {
-        let found = config.with_devices(devices).ok();
-        let found = found.map(|config| config.devices());
-        same(rt, "devices of a config", found, Some(devices));
-    }
 }
 
 #[test]
 fn a_table_has_one_to_four_devices(rt: HostRuntime) -> Result<(), Fail> {
     let config = Config::new(64, 64, 1, 1, 1, 1, 1)?;
-    same(&rt, "devices of a config", config.devices(), 1);
-    check_devices(&rt, config);
+    assert_eq!(rt; config.devices(), 1);
+    for (devices, fault) in [
+        (0, Some(Fault::BadConfig)),
+        (1, None),
+        (4, None),
+        (5, Some(Fault::BadConfig)),
+    ] {
+        let found = config.with_devices(devices).err();
+        assert_eq!(rt; found, fault, "{devices} devices");
+    }
+    let found = Config::new(24, 64, 1, 1, 1, 1, 1).err();
+    assert_eq!(rt; found, Some(Fault::BadConfig));
     Ok(())
 }

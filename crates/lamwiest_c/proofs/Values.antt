@@ -32,10 +32,10 @@ use Rattle.std.specs.declared.option.Option.{Option}
 use Rattle.std.specs.declared.option.Option.TheVariants.{None, Some}
 use Rattle.std.specs.contracts.alloc.Global as heap
 use Rattle.std.specs.contracts.impls.GlobalAllocator.TheImpl.{ghosts}
-use Rattle.lamwiest_c.specs.contracts.environments.Environment as environment
+use Rattle.lamwiest_c.specs.contracts.environments.TableWithLeases as environment
 use Rattle.lamwiest_c.specs.Environments.{DataEnvironment}
 use Rattle.lamwiest_c.specs.Held.{held}
-use Rattle.lamwiest_c.specs.contracts.parts.Parts as parts
+use Rattle.lamwiest_c.specs.contracts.parts.BoxParts as parts
 use Rattle.lamwiest_c.specs.contracts.handles.Handle as handle
 
 pub Ptr-Good : (p : Ptr) → Good ty_ptr (ptr_val p)

@@ -21,13 +21,13 @@ use std::marker::Model;
 /// serial number, so that none is lost, and none is spent twice.
 ///
 /// Contracts see the table's world and what the leases hold.
-pub struct Environment {
+pub struct TableWithLeases {
     pub(crate) table: Table,
     // A ring, so that the oldest lease comes back without a move of the others.
     pub(crate) leases: VecDeque<Lease>,
 }
 
-impl Model for Environment {
+impl Model for TableWithLeases {
     ghost use Rattle.lamwiest_c.specs.Environments.{DataEnvironment};
 
     ghost Value = { DataEnvironment };
@@ -35,9 +35,9 @@ impl Model for Environment {
     ghost view = { λ e. record { world = e.table; leases = e.leases.items } };
 }
 
-impl Drop for Environment {
+impl Drop for TableWithLeases {
     fn drop(self) {
-        let Environment { table, leases } = self;
+        let TableWithLeases { table, leases } = self;
         abandon_all(leases.into_vec());
         drop(table);
     }
@@ -60,18 +60,18 @@ pub fn number_in(reply: Reply) -> u64
     }
 }
 
-impl Environment {
+impl TableWithLeases {
     /// A new table of these limits, which has lent nothing.
     ///
     /// # Errors
     ///
     /// `Memory` alone.
-    pub fn new(alloc: Global, config: Config) -> Result<Environment, Refusal>
+    pub fn new(alloc: Global, config: Config) -> Result<TableWithLeases, Refusal>
         ensures ok { IfOk result (λ e. e ≡ new_environment config) }
         ensures err { IfErr result (λ refusal. refusal ≡ OfTable Memory) }
     {
         let table = Table::new(alloc, config)?;
-        Ok(Environment {
+        Ok(TableWithLeases {
             table,
             leases: VecDeque::new(alloc),
         })
@@ -114,7 +114,7 @@ impl Environment {
     }
 
     /// Carries out `enter data` with the items of an array (OpenACC 3.3, section 2.6.6). Errors are those of
-    /// [`Environment::enter`].
+    /// [`TableWithLeases::enter`].
     pub fn enter_data(
         &mut self,
         alloc: Global,
@@ -133,7 +133,7 @@ impl Environment {
     }
 
     /// Carries out `exit data` with the items of an array (OpenACC 3.3, section 2.6.6). Errors are those of
-    /// [`Environment::enter`].
+    /// [`TableWithLeases::enter`].
     pub fn exit_data(
         &mut self,
         alloc: Global,
@@ -154,7 +154,7 @@ impl Environment {
     }
 
     /// Carries out `update` with the items of an array (OpenACC 3.3, the update directive). Errors are those of
-    /// [`Environment::enter`].
+    /// [`TableWithLeases::enter`].
     pub fn update(
         &mut self,
         alloc: Global,

@@ -4,11 +4,11 @@ ghost use Rattle.std.specs.Prelude.{◌≡◌, MatchOption};
 ghost use Rattle.std.specs.Coded.{coded_option};
 ghost use Rattle.std.specs.declared.option.Option.{Option};
 ghost use Rattle.std.specs.declared.option.Option.TheVariants.{None, Some};
-ghost use Rattle.lamwiest_c.specs.contracts.environments.Environment as environment;
+ghost use Rattle.lamwiest_c.specs.contracts.environments.TableWithLeases as environment;
 ghost use Rattle.lamwiest_c.specs.Held.{held};
 
-use crate::environments::Environment;
-use crate::parts::Parts;
+use crate::environments::TableWithLeases;
+use crate::parts::BoxParts;
 use std::alloc::Global;
 use std::marker::Model;
 use std::mem;
@@ -41,10 +41,10 @@ impl Handle {
     }
 
     /// The handle of what these pieces own.
-    pub fn of(parts: Parts<Environment, Global>) -> Handle
+    pub fn of(parts: BoxParts<TableWithLeases, Global>) -> Handle
         ensures { result.value ≡ Some parts.value }
     {
-        let Parts { ptr, alloc } = parts;
+        let BoxParts { ptr, alloc } = parts;
         Handle {
             at: ptr as *mut u8,
             alloc,
@@ -52,15 +52,15 @@ impl Handle {
     }
 
     /// The pieces of what it has, if it has something.
-    pub fn take(self) -> Option<Parts<Environment, Global>>
+    pub fn take(self) -> Option<BoxParts<TableWithLeases, Global>>
         ensures { MatchOption result (self.value ≡ None) (λ p. self.value ≡ Some p.value) }
     {
         let Handle { at, alloc } = self;
         if at.is_null() {
             None
         } else {
-            Some(Parts {
-                ptr: at as *mut Environment,
+            Some(BoxParts {
+                ptr: at as *mut TableWithLeases,
                 alloc,
             })
         }
@@ -76,7 +76,7 @@ impl Drop for Handle {
 }
 
 /// Takes out what a handle has, and leaves it with nothing.
-pub fn take_out(alloc: Global, handle: &mut Handle) -> Option<Box<Environment>>
+pub fn take_out(alloc: Global, handle: &mut Handle) -> Option<Box<TableWithLeases>>
     ensures had { MatchOption result (handle.old.value ≡ None) (λ e. handle.old.value ≡ Some e.value) }
     ensures empty { handle.new.value ≡ None }
 {
@@ -87,8 +87,8 @@ pub fn take_out(alloc: Global, handle: &mut Handle) -> Option<Box<Environment>>
 }
 
 /// Puts an environment into a handle, in place of what that has.
-pub fn put_back(handle: &mut Handle, environment: Box<Environment>)
+pub fn put_back(handle: &mut Handle, environment: Box<TableWithLeases>)
     ensures { handle.new.value ≡ Some environment.value }
 {
-    drop(mem::replace(handle, Handle::of(Parts::of(environment))));
+    drop(mem::replace(handle, Handle::of(BoxParts::of(environment))));
 }

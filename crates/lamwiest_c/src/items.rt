@@ -82,7 +82,7 @@ pub fn queue_of(queue: u64) -> Option<u64>
 }
 
 /// The clauses of a directive, by the numbers that C gives them.
-pub trait Clause: Sized + Copy + Drop {
+pub trait NumberedClause: Sized + Copy + Drop {
     /// The clause of a number, if the directive has one.
     ghost numbered: { ℕ → Option Self };
 
@@ -91,7 +91,7 @@ pub trait Clause: Sized + Copy + Drop {
         ensures { result ≡ numbered number };
 }
 
-impl Clause for RegionClause {
+impl NumberedClause for RegionClause {
     ghost numbered = { region_clause };
 
     fn from_number(number: u32) -> Option<RegionClause> {
@@ -110,7 +110,7 @@ impl Clause for RegionClause {
     }
 }
 
-impl Clause for EnterClause {
+impl NumberedClause for EnterClause {
     ghost numbered = { enter_clause };
 
     fn from_number(number: u32) -> Option<EnterClause> {
@@ -124,7 +124,7 @@ impl Clause for EnterClause {
     }
 }
 
-impl Clause for ExitClause {
+impl NumberedClause for ExitClause {
     ghost numbered = { exit_clause };
 
     fn from_number(number: u32) -> Option<ExitClause> {
@@ -137,7 +137,7 @@ impl Clause for ExitClause {
     }
 }
 
-impl Clause for UpdateClause {
+impl NumberedClause for UpdateClause {
     ghost numbered = { update_clause };
 
     fn from_number(number: u32) -> Option<UpdateClause> {
@@ -149,7 +149,7 @@ impl Clause for UpdateClause {
     }
 }
 
-fn item_of<C: Clause>(clause: C, item: RawItem) -> Item<C>
+fn item_of<C: NumberedClause>(clause: C, item: RawItem) -> Item<C>
     ensures { result ≡ item_of clause item }
 {
     Item {
@@ -163,7 +163,7 @@ fn item_of<C: Clause>(clause: C, item: RawItem) -> Item<C>
 }
 
 /// A clause number that is none of the directive's is refused before lack of memory for the list of items.
-fn refusal_without_memory<C: Clause>(items: &[RawItem]) -> Refusal
+fn refusal_without_memory<C: NumberedClause>(items: &[RawItem]) -> Refusal
     ensures { IsRead (items_from C.numbered 0 items.now) (Err result) }
 {
     let mut place = 0u64;
@@ -177,7 +177,7 @@ fn refusal_without_memory<C: Clause>(items: &[RawItem]) -> Refusal
 }
 
 /// The list of one item, which takes no memory.
-fn one_item<C: Clause>(item: RawItem) -> Result<List<Item<C>>, Refusal>
+fn one_item<C: NumberedClause>(item: RawItem) -> Result<List<Item<C>>, Refusal>
     ensures { IsRead (items_from C.numbered 0 (item ∷ [])) result }
 {
     match C::from_number(item.clause) {
@@ -192,7 +192,10 @@ fn one_item<C: Clause>(item: RawItem) -> Result<List<Item<C>>, Refusal>
 ///
 /// [`Refusal::BadClause`] at the first item whose clause number is none of the directive's; else `Memory` where there
 /// is none for the list.
-pub fn items_of<C: Clause>(alloc: Global, items: &[RawItem]) -> Result<List<Item<C>>, Refusal>
+pub fn items_of<C: NumberedClause>(
+    alloc: Global,
+    items: &[RawItem],
+) -> Result<List<Item<C>>, Refusal>
     ensures { IsRead (items_from C.numbered 0 items.now) result }
 {
     if let [item] = items {

@@ -8,7 +8,7 @@ ghost use Rattle.lamwiest_c.specs.Statuses.{IsAnswered, IsNumberAnswered};
 ghost use Rattle.lamwiest_c.specs.Answers.{number_in, is_serial, lease_of_nothing, lease_in, section_at, IsLent, IsGathered, IsOf};
 ghost use Rattle.lamwiest_c.specs.Leases.{IsLeaseRead, IsLeaseWritten};
 
-use crate::environments::{Environment, number_in};
+use crate::environments::{TableWithLeases, number_in};
 use crate::handles::{Handle, put_back, take_out};
 use crate::statuses::{FaultFields, Refusal, tell, tell_number};
 use acc_base::{Fault, Section};
@@ -92,7 +92,7 @@ fn keep(reply: Reply, leases: &mut VecDeque<Lease>) -> u64
     }
 }
 
-impl Environment {
+impl TableWithLeases {
     /// Lends the block of a section in an open data region, and returns the serial number of its lease.
     fn lend(&mut self, region: u64, section: Section) -> Result<u64, Refusal>
         ensures { IsLent self.old region section (λ r. result ≡ r) self.new }

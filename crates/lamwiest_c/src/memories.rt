@@ -10,13 +10,13 @@ ghost use Rattle.lamwiest_c.specs.Statuses.{IsAnswered};
 ghost use Rattle.lamwiest_c.specs.Answers.{section_at, IsAsked, IsOf};
 ghost use Rattle.lamwiest_c.specs.Finds.{IsCopied};
 
-use crate::environments::Environment;
+use crate::environments::TableWithLeases;
 use crate::handles::{Handle, put_back, take_out};
 use crate::statuses::{FaultFields, Refusal, tell};
 use acc_base::{Fault, Section};
 use std::alloc::Global;
 
-impl Environment {
+impl TableWithLeases {
     /// Copies bytes of host memory from a host address on, as many as the buffer has.
     fn host_read(&self, start: u64, into: &mut [u8]) -> Result<u64, Refusal>
         ensures { IsCopied (host_read_of (section_at start (length into.old)) self.now.world.state.host) (OfTable (OutOfHost 0)) into.old into.new (λ r. result ≡ r) }

@@ -5,7 +5,7 @@ ghost use Rattle.lamwiest_c.specs.Statuses.{IsAnswered, IsNumberAnswered};
 ghost use Rattle.lamwiest_c.specs.Answers.{IsRebased, IsOf};
 ghost use Rattle.lamwiest_c.specs.Begins.{default_limits, IsConfig, IsNotBegun, IsBegunAs, IsBegun};
 
-use crate::environments::Environment;
+use crate::environments::TableWithLeases;
 use crate::handles::{Handle, put_back, take_out};
 use crate::statuses::{FaultFields, Refusal, tell, tell_number};
 use acc_base::{Config, Fault};
@@ -58,11 +58,11 @@ fn config_of(limits: &RawLimits) -> Result<Config, Refusal>
     }
 }
 
-fn begin(alloc: Global, limits: &RawLimits) -> Result<Box<Environment>, Refusal>
+fn begin(alloc: Global, limits: &RawLimits) -> Result<Box<TableWithLeases>, Refusal>
     ensures { MatchResult result (λ e. IsBegunAs limits.now (Ok e.value)) (IsNotBegun limits.now) }
 {
     let config = config_of(limits)?;
-    let environment = Environment::new(alloc, config)?;
+    let environment = TableWithLeases::new(alloc, config)?;
     Ok(Box::new(alloc, environment)?)
 }
 

@@ -6,7 +6,7 @@ ghost use Rattle.lamwiest_c.specs.Statuses.{IsNumberAnswered, refusal_in};
 ghost use Rattle.lamwiest_c.specs.Answers.{IsOf};
 ghost use Rattle.lamwiest_c.specs.Shows.{IsPut, IsShown, IsShownIfAny, text_of};
 
-use crate::environments::Environment;
+use crate::environments::TableWithLeases;
 use crate::handles::{Handle, put_back, take_out};
 use crate::statuses::{FaultFields, Refusal, tell_number};
 use acc_base::Fault;
@@ -47,7 +47,11 @@ fn put(text: &[u8], buffer: &mut [u8]) -> Result<u64, Refusal>
     Ok(len as u64)
 }
 
-fn show_report(alloc: Global, environment: &Environment, buffer: &mut [u8]) -> Result<u64, Refusal>
+fn show_report(
+    alloc: Global,
+    environment: &TableWithLeases,
+    buffer: &mut [u8],
+) -> Result<u64, Refusal>
     ensures { IsShown (report_text environment.now.world) buffer.old buffer.new (λ r. result ≡ r) }
 {
     let mut sink = MemorySink::new(alloc);

@@ -6,10 +6,11 @@ use std::alloc::Global;
 use std::process::Abort;
 use std::test::Fail;
 
-/// A table of 65,536 bytes of host memory and as many of the device.
-fn new_table(alloc: Global) -> Result<Table, Fault> {
+/// A table of 65,536 bytes of host memory and as many of the device, in a box, since a test that owns an unboxed one
+/// takes long to check.
+fn boxed_table(alloc: Global) -> Result<Box<Table>, Fault> {
     let config = Config::new(65_536, 65_536, 64, 1_048_576, 4_294_967_295, 256, 262_144)?;
-    Table::new(alloc, config)
+    Ok(Box::new(alloc, Table::new(alloc, config)?)?)
 }
 
 /// Maps the first 20 bytes of host memory, and returns how many bytes of the device are in use then.
@@ -41,11 +42,6 @@ fn map_one_array(table: &mut Table, alloc: Global) -> Result<u64, Fault> {
             Err(fault)
         }
     }
-}
-
-/// That table in a box, since a test that owns an unboxed one takes long to check.
-fn boxed_table(alloc: Global) -> Result<Box<Table>, Fault> {
-    Ok(Box::new(alloc, new_table(alloc)?)?)
 }
 
 /// Mapping the array takes so many bytes of the device.

@@ -1,191 +1,145 @@
 //! Loans: what a lent block is refused, and how it comes back.
 
-use crate::language::Ask::{
-    Back, Enter, EnterData, Exit, ExitData, ExitDataLater, Finalize, Lend, Step, Update,
-    UpdateIfPresent, UpdateLater, Wait, Write,
+use crate::tests::language::Ask::{Do, Exit, Lend};
+use crate::tests::language::Check::{Bytes, Counted, Device, Events, Host, Queue, Used};
+use crate::tests::language::Line::{
+    Adds, Brings, Does, Gathers, Gives, Idles, Makes, On, Refuses, Says,
 };
-use crate::language::Check::{Address, Counted, Device, Events, Host, MappedFrom, Present, Queue};
-use crate::language::Line::{Adds, Brings, Does, Drains, Gathers, Gives, Idles, Refuses, Says};
-use crate::language::{Ask, Row, WIDE};
-use crate::tests::rows::{A, DEVICE, FULL, LENT_1};
-use acc_base::EnterClause::{Copyin, Create};
-use acc_base::ExitClause::{Copyout, Delete};
-use acc_base::UpdateClause::{ToDevice, ToSelf};
-use acc_base::{EnterClause, Fault, RegionClause};
-use acc_table::Mapped;
+use crate::tests::language::{FULL, Limits, Loan, Row, WIDE};
+use crate::tests::rows::A;
+use acc_base::Fault;
 
-/// What a kernel left of 16 bytes.
-const LEFT: &[u8] = &[9, 8, 7, 6, 5, 4, 3, 2, 1, 0, 1, 2, 3, 4, 5, 6];
+/// The first loan of a table that has a new block of 16 bytes.
+pub const LOAN: Loan = Loan {
+    device: 0,
+    serial: 1,
+    block: 1,
+    offset: 0,
+    len: 16,
+};
+
+/// The loan of all bytes of that block but the first and the last.
+const MIDDLE: Loan = Loan {
+    offset: 1,
+    len: 2,
+    ..LOAN
+};
+
+/// The loan of its end alone.
+const END: Loan = Loan {
+    offset: 1,
+    len: 15,
+    ..LOAN
+};
+
+const NO_LEASE: Option<Fault> = Some(Fault::NoLease { serial: 1 });
+
+const NO_LEASE_2: Option<Fault> = Some(Fault::NoLease { serial: 2 });
+
+const LENT_1: Fault = Fault::Lent { block: 1 };
 
 const LENT_2: Fault = Fault::Lent { block: 2 };
 
-const NO_LEASE_1: Fault = Fault::NoLease { serial: 1 };
+const NOT_PRESENT: Fault = Fault::NotPresent { item: 0 };
 
-const ARRAY: Ask = EnterData(&[(Copyin, A, 16)]);
+const OUT_OF_HOST: Fault = Fault::OutOfHost { item: 0 };
 
-const REGION: Ask = Enter(&[]);
+/// Two devices.
+const DEVICES: Limits = Limits { devices: 2, ..WIDE };
 
-const LEND_MIDDLE: Ask = Lend(1, (A + 4, 8));
-
-/// What another table does. Its lease is of the same loan, a longer block, a second loan, a second block, the first
-/// bytes, or the last ones.
-const OF_THE_BLOCK: &[Ask] = &[ARRAY, REGION, Lend(1, (A, 16))];
-
-const OF_A_LONGER_BLOCK: &[Ask] = &[EnterData(&[(Copyin, A, 32)]), REGION, Lend(1, (A, 16))];
-
-const OF_A_SECOND_LOAN: &[Ask] = &[
-    ARRAY,
-    REGION,
-    Lend(1, (A, 16)),
-    Back(1, LEFT),
-    Lend(1, (A, 16)),
-];
-
-const OF_A_SECOND_BLOCK: &[Ask] = &[
-    EnterData(&[(Copyin, A + 16, 16)]),
-    ARRAY,
-    REGION,
-    Lend(1, (A, 16)),
-];
-
-const OF_A_PART: &[Ask] = &[ARRAY, REGION, Lend(1, (A, 15))];
-
-const OF_ITS_END: &[Ask] = &[ARRAY, REGION, Lend(1, (A + 1, 15))];
-
-/// Two sections of 16 bytes side by side.
-const TWO: &[(EnterClause, u64, u64)] = &[(Copyin, A, 16), (Copyin, A + 16, 16)];
-
-/// Each shows what a lent block is refused, or how it comes back.
+/// Each shows how a lent block comes back.
 pub const ROWS: &[Row] = &[
     Row {
         name: "a block that is lent is neither copied nor let go, and can be entered; its bytes come back with the lease",
         limits: WIDE,
         lines: &[
-            Does(EnterData(&[(Copyin, A, 16)])),
-            Gives(Enter(&[(RegionClause::Present, A, 16)]), 1),
-            Does(UpdateLater(&[(ToSelf, A, 16)], 0)),
+            Does(Do("enter data copyin(a)")),
+            Gives(Do("data present(a)"), 1),
+            Does(Do("update self(a) async(0)")),
             Gives(Lend(1, (A, 16)), 1),
             Refuses(Lend(1, (A, 16)), LENT_1),
-            Refuses(Update(&[(ToSelf, A, 16)]), LENT_1),
+            Refuses(Do("update self(a)"), LENT_1),
             Refuses(Exit(1), LENT_1),
-            Refuses(Step(0), LENT_1),
-            Refuses(Wait(None), LENT_1),
-            Refuses(ExitData(&[(Delete, A, 16)]), LENT_1),
-            Brings(OF_A_LONGER_BLOCK, Some(NO_LEASE_1)),
-            Gives(Enter(&[(RegionClause::Copyin, A, 16)]), 2),
+            Refuses(Do("step(0)"), LENT_1),
+            Refuses(Do("wait"), LENT_1),
+            Refuses(Do("exit data delete(a)"), LENT_1),
+            Brings(LOAN, &[0; 32], NO_LEASE),
+            Says(Device((A, 4), None)),
+            Gives(Do("data copyin(a)"), 2),
             Adds(1, 9),
             Gathers(1),
-            Does(Step(0)),
-            Idles(0),
+            Does(Do("step(0)")),
+            Idles(Do("step(0)")),
             Does(Exit(2)),
             Does(Exit(1)),
             Refuses(Lend(9, (A, 16)), Fault::NoRegion { number: 9 }),
-            Brings(OF_THE_BLOCK, Some(NO_LEASE_1)),
+            Brings(LOAN, &[0; 16], NO_LEASE),
             Says(Host((A, 16), Some(&[9; 16]))),
             Says(Device((A, 16), Some(&[9; 16]))),
-            Says(Counted((A, 16), Some((0, 1)))),
+            Says(Bytes(5, Some(&[]))),
             Says(Events(9)),
-            Gives(Enter(&[]), 3),
-            Refuses(Lend(3, (A, 0)), Fault::NotPresent { item: 0 }),
+            Gives(Do("data present(a)"), 3),
+            Refuses(Lend(3, (A, 0)), NOT_PRESENT),
         ],
     },
     Row {
-        name: "a lease of another table that is no loan of this one is refused, and comes back",
-        limits: WIDE,
+        name: "a lease that differs from the loan in anything but its bytes is refused",
+        limits: DEVICES,
         lines: &[
-            Brings(OF_THE_BLOCK, Some(NO_LEASE_1)),
-            Does(EnterData(&[(Copyin, A, 16)])),
-            Gives(Enter(&[]), 1),
+            Brings(LOAN, &[0; 16], NO_LEASE),
+            Gives(Do("data copyin(a)"), 1),
             Gives(Lend(1, (A, 16)), 1),
-            Brings(OF_A_LONGER_BLOCK, Some(NO_LEASE_1)),
-            Brings(OF_A_SECOND_LOAN, Some(Fault::NoLease { serial: 2 })),
-            Brings(OF_A_SECOND_BLOCK, Some(NO_LEASE_1)),
-            Brings(OF_A_PART, Some(NO_LEASE_1)),
-            Brings(OF_ITS_END, Some(NO_LEASE_1)),
-            Says(Events(3)),
-            Says(Device((A, 16), None)),
+            Brings(Loan { device: 1, ..LOAN }, &[0; 16], NO_LEASE),
+            Brings(Loan { device: 2, ..LOAN }, &[0; 16], NO_LEASE),
+            Brings(Loan { serial: 2, ..LOAN }, &[0; 16], NO_LEASE_2),
+            Brings(Loan { block: 2, ..LOAN }, &[0; 16], NO_LEASE),
+            Brings(Loan { len: 15, ..LOAN }, &[0; 16], NO_LEASE),
+            Brings(END, &[0; 16], NO_LEASE),
+            Brings(LOAN, &[0; 17], NO_LEASE),
+            Says(Events(2)),
+            Brings(LOAN, &[6; 16], None),
+            Brings(LOAN, &[6; 16], NO_LEASE),
+            Says(Device((A, 16), Some(&[6; 16]))),
         ],
     },
     Row {
         name: "a full trace compares a lease outside of its section",
         limits: FULL,
         lines: &[
-            Does(EnterData(&[(Copyin, A, 16)])),
-            Gives(Enter(&[]), 1),
-            Gives(Lend(1, (A + 4, 8)), 1),
-            Brings(
-                &[Write(A, &[9]), ARRAY, REGION, LEND_MIDDLE],
-                Some(NO_LEASE_1),
-            ),
-            Brings(
-                &[Write(A + 3, &[9]), ARRAY, REGION, LEND_MIDDLE],
-                Some(NO_LEASE_1),
-            ),
-            Brings(
-                &[Write(A + 12, &[9]), ARRAY, REGION, LEND_MIDDLE],
-                Some(NO_LEASE_1),
-            ),
-            Brings(
-                &[Write(A + 15, &[9]), ARRAY, REGION, LEND_MIDDLE],
-                Some(NO_LEASE_1),
-            ),
-            Brings(&[Write(A + 11, &[9]), ARRAY, REGION, LEND_MIDDLE], None),
-            Says(Device((A + 8, 8), Some(&[0, 0, 0, 9, 0, 0, 0, 0]))),
-        ],
-    },
-    Row {
-        name: "a lent block has no bytes on the device, and is told as lent",
-        limits: WIDE,
-        lines: &[
-            Does(EnterData(&[(Copyin, A, 16)])),
-            Gives(Enter(&[]), 1),
-            Gives(Lend(1, (A + 4, 8)), 1),
+            Gives(Do("data copyin(a[0:4])"), 1),
+            Gives(Lend(1, (A + 1, 2)), 1),
+            Brings(MIDDLE, &[9, 0, 0, 0], NO_LEASE),
+            Brings(MIDDLE, &[0, 0, 0, 9], NO_LEASE),
             Says(Device((A, 4), None)),
-            Says(Present((A, 16), true)),
-            Says(Address(A + 4, Some(DEVICE + 4))),
-            Says(MappedFrom(
-                0,
-                Some(Mapped {
-                    start: A,
-                    len: 16,
-                    place: DEVICE,
-                    structured: 0,
-                    dynamic: 1,
-                    lent: true,
-                }),
-            )),
+            Brings(MIDDLE, &[0, 9, 8, 0], None),
+            Says(Device((A, 4), Some(&[0, 9, 8, 0]))),
         ],
     },
     Row {
-        name: "a loan is of a section that is present and in host memory",
-        limits: WIDE,
+        name: "an array is lent by a region of each device at once, and the regions are left in the order of their entry",
+        limits: DEVICES,
         lines: &[
-            Does(EnterData(&[(Copyin, A, 16)])),
-            Gives(Enter(&[]), 1),
-            Refuses(Lend(1, (A, 0)), Fault::NotPresent { item: 0 }),
-            Refuses(Lend(1, (A + 16, 1)), Fault::NotPresent { item: 0 }),
-            Refuses(Lend(1, (A + 8, 16)), Fault::PartlyPresent { item: 0 }),
-            Refuses(Lend(1, (A + 60, 8)), Fault::OutOfHost { item: 0 }),
-            Refuses(Lend(2, (A + 60, 8)), Fault::NoRegion { number: 2 }),
-            Says(Events(2)),
-        ],
-    },
-    Row {
-        name: "a lease is brought back by its serial number and as many bytes as it lends",
-        limits: WIDE,
-        lines: &[
-            Does(EnterData(&[(Copyin, A, 16), (Create { zero: true }, A + 16, 16)])),
-            Gives(Enter(&[]), 1),
-            Gives(Lend(1, (A + 4, 2)), 1),
-            Gives(Lend(1, (A + 16, 16)), 2),
-            Refuses(Back(1, &[1]), Fault::NoLease { serial: 1 }),
-            Refuses(Back(3, &[1, 2]), Fault::NoLease { serial: 3 }),
-            Does(Back(1, &[1, 2])),
-            Refuses(Back(1, &[1, 2]), Fault::NoLease { serial: 1 }),
-            Does(Back(2, LEFT)),
-            Says(Device((A + 3, 4), Some(&[0, 1, 2, 0]))),
-            Says(Device((A + 16, 16), Some(LEFT))),
-            Says(Events(6)),
+            Does(Do("write a[0] 01020304")),
+            Gives(Do("data copy(a[0:4])"), 1),
+            On(1),
+            Gives(Do("data copyin(a[0:4])"), 2),
+            Refuses(Do("data copyin(a)"), Fault::NoAllowance { left: 0 }),
+            Gives(Lend(1, (A, 4)), 1),
+            Gives(Lend(2, (A, 4)), 2),
+            Refuses(Exit(1), LENT_1),
+            Refuses(Exit(2), LENT_1),
+            Adds(1, 4),
+            Gathers(1),
+            Does(Exit(1)),
+            Refuses(Exit(1), Fault::NoRegion { number: 1 }),
+            Refuses(Exit(2), LENT_1),
+            Gathers(2),
+            Does(Exit(2)),
+            Says(Host((A, 4), Some(&[5, 6, 7, 8]))),
+            Says(Used(0)),
+            On(0),
+            Says(Used(0)),
+            Says(Events(9)),
         ],
     },
 ];
@@ -196,124 +150,95 @@ pub const LENT: &[Row] = &[
         name: "where a section lies is told before its block is found lent",
         limits: WIDE,
         lines: &[
-            Does(EnterData(&[(Copyin, A + 8, 8), (Copyin, A + 48, 16)])),
-            Gives(Enter(&[]), 1),
+            Does(Do("enter data copyin(a[8:8], a[48:16])")),
+            Gives(Do("data present(a[8:8])"), 1),
             Gives(Lend(1, (A + 8, 8)), 1),
-            Refuses(Lend(1, (A + 12, 0)), Fault::NotPresent { item: 0 }),
-            Refuses(Lend(1, (A + 4096, 0)), Fault::NotPresent { item: 0 }),
+            Refuses(Lend(9, (A + 60, 8)), Fault::NoRegion { number: 9 }),
+            Refuses(Lend(1, (A - 1, 1)), OUT_OF_HOST),
+            Refuses(Lend(1, (A + 12, 0)), NOT_PRESENT),
+            Refuses(Lend(1, (A + 16, 1)), NOT_PRESENT),
             Refuses(Lend(1, (A + 12, 8)), Fault::PartlyPresent { item: 0 }),
-            Refuses(Lend(9, (A + 8, 8)), Fault::NoRegion { number: 9 }),
             Refuses(Lend(1, (A + 12, 4)), LENT_1),
             Gives(Lend(1, (A + 56, 8)), 2),
-            Refuses(Lend(1, (A + 56, 9)), Fault::OutOfHost { item: 0 }),
-            Says(Events(4)),
+            Refuses(Lend(1, (A + 56, 9)), OUT_OF_HOST),
         ],
     },
     Row {
         name: "what counts, does nothing or waits in a queue passes a lent block, and what falls or copies at once does not",
         limits: WIDE,
         lines: &[
-            Gives(Enter(&[(RegionClause::Copyin, A, 16)]), 1),
+            Gives(Do("data copyin(a)"), 1),
             Gives(Lend(1, (A, 16)), 1),
-            Does(ExitData(&[(Delete, A, 16)])),
-            Does(Finalize(&[(Copyout, A, 16)])),
-            Gives(
-                Enter(&[(RegionClause::NoCreate, A, 16), (RegionClause::Copy, A, 16)]),
-                2,
-            ),
-            Does(Update(&[(ToSelf, A + 4, 0)])),
-            Does(UpdateLater(&[(ToDevice, A, 16)], 0)),
-            Does(EnterData(&[(Copyin, A + 16, 16)])),
-            Does(Update(&[(ToSelf, A + 16, 16)])),
-            Does(ExitData(&[(Copyout, A + 16, 16)])),
-            Does(EnterData(&[(Create { zero: true }, A, 16)])),
-            Refuses(ExitData(&[(Copyout, A, 16)]), LENT_1),
-            Refuses(Finalize(&[(Delete, A, 16)]), LENT_1),
-            Refuses(ExitDataLater(&[(Delete, A, 16)], 0), LENT_1),
-            Refuses(Update(&[(ToDevice, A + 4, 1)]), LENT_1),
-            Refuses(UpdateIfPresent(&[(ToSelf, A, 16)]), LENT_1),
-            Refuses(
-                ExitDataLater(&[(Delete, A, 16)], 16),
-                Fault::NoQueue { q: 16 },
-            ),
+            Does(Do("exit data delete(a) detach(a[8])")),
+            Does(Do("exit data copyout(a) finalize")),
+            Gives(Do("data no_create(a) copy(a)"), 2),
+            Does(Do("update self(a[4:0])")),
+            Does(Do("update device(a) async(0)")),
+            Does(Do("enter data create(zero: a)")),
+            Refuses(Do("exit data copyout(a)"), LENT_1),
+            Refuses(Do("exit data delete(a) finalize"), LENT_1),
+            Refuses(Do("exit data delete(a) async(0)"), LENT_1),
+            Refuses(Do("update device(a[4:1]) if_present"), LENT_1),
             Says(Counted((A, 16), Some((3, 1)))),
-            Says(Device((A, 16), None)),
         ],
     },
     Row {
-        name: "the first item that meets a lent block is told, and none is done",
+        name: "a pointer in a lent block is neither attached nor detached",
         limits: WIDE,
         lines: &[
-            Gives(Enter(&[]), 1),
-            Does(EnterData(TWO)),
-            Gives(Lend(1, (A, 16)), 1),
-            Refuses(ExitData(&[(Copyout, A + 16, 16), (Copyout, A, 16)]), LENT_1),
-            Gives(Lend(1, (A + 16, 16)), 2),
-            Refuses(ExitData(&[(Delete, A, 16), (Delete, A + 16, 16)]), LENT_1),
-            Refuses(ExitData(&[(Delete, A + 16, 16), (Delete, A, 16)]), LENT_2),
-            Refuses(
-                Update(&[(ToSelf, A + 32, 16), (ToSelf, A, 16)]),
-                Fault::NotPresent { item: 0 },
-            ),
-            Refuses(Update(&[(ToSelf, A, 16), (ToSelf, A + 32, 16)]), LENT_1),
-            Says(Counted((A + 16, 16), Some((0, 1)))),
-            Says(Events(4)),
+            Does(Do("point a[8] to a[0]")),
+            Does(Do("enter data copyin(a) attach(a[8])")),
+            Gives(Do("data attach(a[8])"), 1),
+            Gives(Lend(1, (A, 4)), 1),
+            Refuses(Do("enter data attach(a[8])"), LENT_1),
+            Refuses(Do("exit data detach(a[8])"), LENT_1),
+            Refuses(Do("exit data detach(a[8]) finalize"), LENT_1),
+            Refuses(Exit(1), LENT_1),
+            Gathers(1),
+            Does(Exit(1)),
         ],
     },
     Row {
-        name: "a region is left from its last item to its first",
+        name: "the first item or copy that meets a lent block is told, and none is done",
         limits: WIDE,
         lines: &[
-            Gives(
-                Enter(&[
-                    (RegionClause::Copyin, A, 16),
-                    (RegionClause::Copyin, A + 16, 16),
-                ]),
-                1,
-            ),
+            Gives(Do("data copyin(a, b)"), 1),
+            Does(Do("enter data copyin(a, b)")),
+            Does(Do("update self(b) async(0)")),
+            Does(Do("update self(a) async(1)")),
             Gives(Lend(1, (A, 16)), 1),
             Refuses(Exit(1), LENT_1),
+            Refuses(Do("exit data delete(b, a)"), LENT_1),
+            Refuses(Do("wait"), LENT_1),
             Gives(Lend(1, (A + 16, 16)), 2),
             Refuses(Exit(1), LENT_2),
-            Says(Events(3)),
+            Refuses(Do("exit data delete(a, b)"), LENT_1),
+            Refuses(Do("exit data delete(b, a)"), LENT_2),
+            Refuses(Do("update self(b[16:1], a)"), NOT_PRESENT),
+            Refuses(Do("update self(a, b[16:1])"), LENT_1),
+            Refuses(Do("wait"), LENT_2),
+            Adds(2, 5),
+            Gathers(2),
+            Makes(Do("wait(0)"), 1),
+            Refuses(Do("wait"), LENT_1),
+            Says(Host((A + 16, 16), Some(&[5; 16]))),
+            Says(Counted((A + 16, 16), Some((1, 1)))),
+            Says(Queue(1, 1)),
         ],
     },
     Row {
         name: "a region that counted nothing is left, and its loan comes back behind that",
         limits: WIDE,
         lines: &[
-            Gives(Enter(&[(RegionClause::NoCreate, A, 16)]), 1),
-            Does(EnterData(&[(Copyin, A, 16)])),
+            Gives(Do("data no_create(a)"), 1),
+            Does(Do("enter data copyin(a)")),
             Gives(Lend(1, (A, 16)), 1),
-            Does(Write(A, &[7])),
+            Does(Do("write a[0] 07")),
             Does(Exit(1)),
-            Refuses(Exit(1), Fault::NoRegion { number: 1 }),
-            Does(Back(1, LEFT)),
+            Adds(1, 9),
+            Gathers(1),
             Says(Host((A, 1), Some(&[7]))),
-            Says(Device((A, 16), Some(LEFT))),
-        ],
-    },
-    Row {
-        name: "a wait is refused for any copy that it would make, with the block of the first",
-        limits: WIDE,
-        lines: &[
-            Gives(Enter(&[]), 1),
-            Does(EnterData(TWO)),
-            Does(UpdateLater(&[(ToSelf, A + 16, 16)], 0)),
-            Does(UpdateLater(&[(ToSelf, A, 16)], 1)),
-            Gives(Lend(1, (A, 16)), 1),
-            Refuses(Wait(None), LENT_1),
-            Refuses(Wait(Some(1)), LENT_1),
-            Refuses(Step(1), LENT_1),
-            Refuses(Wait(Some(16)), Fault::NoQueue { q: 16 }),
-            Gives(Lend(1, (A + 16, 16)), 2),
-            Refuses(Wait(None), LENT_2),
-            Does(Back(2, LEFT)),
-            Drains(Some(0), 1),
-            Refuses(Wait(None), LENT_1),
-            Idles(0),
-            Says(Host((A + 16, 16), Some(LEFT))),
-            Says(Queue(1, 1)),
+            Says(Device((A, 16), Some(&[9; 16]))),
         ],
     },
 ];

@@ -10,5 +10,5 @@ invariant-loop-item g l = record {
   place : l.place ≡ l.item-index;
   count : vec_len l.read ≡ l.item-index;
   room : vec_capacity l.read ≡ vec_capacity l.initial.read;
-  so_far : read_then l.read.items (items_from g.C.Clause.numbered l.place (drop l.item-index l.items)) ≡ items_from g.C.Clause.numbered 0 l.items;
+  so_far : read_then l.read.items (items_from g.C.NumberedClause.numbered l.place (drop l.item-index l.items)) ≡ items_from g.C.NumberedClause.numbered 0 l.items;
 }

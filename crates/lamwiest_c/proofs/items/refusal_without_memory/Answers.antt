@@ -8,17 +8,17 @@ loop-item-init g c = record { place = refl; so_far = record { done = []; before 
 pub returns-in_default : goal.returns-in_default
 returns-in_default g c =
     let so = c.loop-item.invariant.so_far in
-    refused_so _ _ (turn_bad g.C.Clause.numbered c.loop-item.place c.loop-item.item-index c.args.items.now so.done _ _ c.loop-item-test.true (sym c.from_number.ensures ∙ c.in_default.is) so.before)
+    refused_so _ _ (turn_bad g.C.NumberedClause.numbered c.loop-item.place c.loop-item.item-index c.args.items.now so.done _ _ c.loop-item-test.true (sym c.from_number.ensures ∙ c.in_default.is) so.before)
 
 pub loop-item-preserved : goal.loop-item-preserved
 loop-item-preserved g c =
     let so = c.loop-item.invariant.so_far in
     record {
       place = omega (arith, c.loop-item.invariant.place);
-      so_far = record { done = _; before = turn_read g.C.Clause.numbered c.loop-item.place c.loop-item.item-index c.args.items.now so.done _ _ _ c.loop-item-test.true (sym c.from_number.ensures ∙ c.in-Some.is) so.before };
+      so_far = record { done = _; before = turn_read g.C.NumberedClause.numbered c.loop-item.place c.loop-item.item-index c.args.items.now so.done _ _ _ c.loop-item-test.true (sym c.from_number.ensures ∙ c.in-Some.is) so.before };
     }
 
 pub returns : goal.returns
 returns g c =
     let so = c.loop-item.invariant.so_far in
-    wanted_so _ so.done (turns_over g.C.Clause.numbered c.loop-item.place c.loop-item.item-index c.args.items.now so.done _ c.loop-item-test.false so.before)
+    wanted_so _ so.done (turns_over g.C.NumberedClause.numbered c.loop-item.place c.loop-item.item-index c.args.items.now so.done _ c.loop-item-test.false so.before)

@@ -6,5 +6,5 @@ use Rattle.lamwiest_c.proofs.items.refusal_without_memory.Given as goal
 abbrev pub invariant-loop-item : goal.invariant-loop-item
 invariant-loop-item g l = record {
   place : l.place ≡ l.item-index;
-  so_far : IsReadSoFar (items_from g.C.Clause.numbered l.place (drop l.item-index l.items)) (items_from g.C.Clause.numbered 0 l.items);
+  so_far : IsReadSoFar (items_from g.C.NumberedClause.numbered l.place (drop l.item-index l.items)) (items_from g.C.NumberedClause.numbered 0 l.items);
 }

@@ -21,8 +21,8 @@ use Rattle.std.specs.contracts.alloc.Global as heap
 use Rattle.std.proofs.alloc.Global.TheLaws as heap_laws
 use Rattle.std.specs.contracts.impls.GlobalAllocator.TheImpl.{ghosts}
 use Rattle.std.proofs.raw_atomic.Walks.{proved_at}
-use Rattle.lamwiest_c.specs.contracts.environments.Environment as environment
-use Rattle.lamwiest_c.specs.contracts.parts.Parts as parts
+use Rattle.lamwiest_c.specs.contracts.environments.TableWithLeases as environment
+use Rattle.lamwiest_c.specs.contracts.parts.BoxParts as parts
 use Rattle.lamwiest_c.proofs.Values.{both, pieces_good, pieces_out, handle_in, handle_good}
 use Rattle.lamwiest_c.specs.contracts.handles.Handle.of.{ended, clauses}
 use Rattle.lamwiest_c.specs.contracts.handles.Handle.of.Key.{name as #self}

@@ -1,5 +1,6 @@
 //! Who makes calls in a test: each names the one array, on one device at a time.
 
+use crate::lives::is_left;
 use crate::same;
 use acc_base::{
     EnterClause, ExitClause, Fault, HOST_BASE, Item, RegionClause, Section, UpdateClause,
@@ -67,10 +68,10 @@ pub enum Deed {
     Exit,
     /// The array is mapped.
     EnterData,
-    /// The array is dropped.
-    ExitData(ExitClause, bool, Option<u64>),
-    /// The array is copied.
-    Update(UpdateClause, bool, Option<u64>),
+    /// The array is dropped by `copyout` with `finalize`, and with `async` of this queue.
+    ExitData(u64),
+    /// The array is copied: with `async` of a queue, or else with `if_present`.
+    Update(UpdateClause, Option<u64>),
     /// Transfers are made, of a queue or of all: how many.
     Wait(Option<u64>),
     /// A transfer of a queue is made: whether there was one.
@@ -79,19 +80,18 @@ pub enum Deed {
     Write(u8),
     /// Whether each byte of the array in host memory is this one.
     Reads(u8),
-    /// The array is lent in the region that was entered last: the loan's serial number.
+    /// The array is lent in the region that was entered last, and a kernel adds 1 to each byte: the loan's serial number.
     Lend,
-    /// A kernel adds 1 to each byte that is lent.
-    Add,
-    /// The loan is brought back.
-    Gather,
+    /// The loan is brought back, with this byte in each place.
+    Gather(u8),
     /// The events are folded into the table's base: how many.
     Rebase,
     /// Whether the array is present.
     IsPresent,
-    /// The structured counter of the array, 0 where it is absent.
-    Structured,
 }
+
+/// A call, and what it returns.
+pub type Row = (Deed, Result<u64, Fault>);
 
 /// A caller with its runtime, and what it holds there.
 #[derive(Drop)]
@@ -102,12 +102,12 @@ pub struct Actor<'a, Regions: Limited, Tickets: Ledger, Events: Ledger, R> {
     pub runtime: &'a Runtime<Regions, Tickets, Events>,
     /// The caller that makes them.
     pub caller: Caller<Regions, Tickets, Events>,
-    device: u64,
+    /// Whether memory was refused for a call.
+    pub was_refused: bool,
     /// The open region that it entered last.
     pub region: Option<Opened>,
-    // The one before.
-    outer: Option<Opened>,
     loan: Option<Loan>,
+    device: u64,
 }
 
 /// The items of a directive that names the array in one clause.
@@ -121,15 +121,7 @@ fn list<C: Drop>(alloc: Global, clause: C) -> Result<Vec<Item<C>>, AllocError> {
     Ok(items)
 }
 
-/// The structured counter of the array on a device, 0 where it is absent.
-fn structured_on(table: &Table, device: u64) -> u64 {
-    match table.counters(device, ARRAY) {
-        Some(counters) => counters.structured,
-        None => 0,
-    }
-}
-
-impl<'a, Regions: Limited, Tickets: Ledger, Events: Ledger, R: Wait + AllocGlobal> Actor<
+impl<'a, Regions: Limited, Tickets: Ledger, Events: Ledger, R: Abort + Wait + AllocGlobal> Actor<
     'a,
     Regions,
     Tickets,
@@ -146,10 +138,10 @@ impl<'a, Regions: Limited, Tickets: Ledger, Events: Ledger, R: Wait + AllocGloba
             rt,
             runtime,
             caller,
-            device: 0,
+            was_refused: false,
             region: None,
-            outer: None,
             loan: None,
+            device: 0,
         }
     }
 
@@ -159,17 +151,23 @@ impl<'a, Regions: Limited, Tickets: Ledger, Events: Ledger, R: Wait + AllocGloba
         (caller.allowance(), caller.tickets(), caller.made())
     }
 
-    /// How many regions are open, how many events there are, and how many bytes of the first device are in use.
-    pub fn state(&mut self) -> (u64, u64, u64) {
+    /// How many regions are open, how many events there are, how many bytes of the first device are in use, and how many
+    /// events are stored.
+    pub fn state(&mut self) -> (u64, u64, u64, usize) {
         self.runtime.look(
             self.rt,
             &mut self.caller,
-            |table: &Table| (table.regions(), table.events(), table.used(0)),
+            |table: &Table| (
+                table.regions(),
+                table.events(),
+                table.used(0),
+                table.trace().len(),
+            ),
         )
     }
 
     /// Makes a call.
-    pub fn make(&mut self, deed: Deed) -> Result<u64, Fault> {
+    fn make(&mut self, deed: Deed) -> Result<u64, Fault> {
         match deed {
             Deed::On(device) => {
                 self.device = device;
@@ -178,8 +176,8 @@ impl<'a, Regions: Limited, Tickets: Ledger, Events: Ledger, R: Wait + AllocGloba
             Deed::Enter(clause) => self.enter(clause),
             Deed::Exit => self.exit(),
             Deed::EnterData => self.enter_data(),
-            Deed::ExitData(clause, finalize, queue) => self.exit_data(clause, finalize, queue),
-            Deed::Update(clause, if_present, queue) => self.update(clause, if_present, queue),
+            Deed::ExitData(queue) => self.exit_data(queue),
+            Deed::Update(clause, queue) => self.update(clause, queue),
             Deed::Wait(queue) => self
                 .runtime
                 .wait(self.rt, &mut self.caller, self.device, queue),
@@ -187,11 +185,9 @@ impl<'a, Regions: Limited, Tickets: Ledger, Events: Ledger, R: Wait + AllocGloba
             Deed::Write(byte) => self.write(byte),
             Deed::Reads(byte) => self.reads(byte),
             Deed::Lend => self.lend(),
-            Deed::Add => Ok(self.add()),
-            Deed::Gather => self.gather(),
+            Deed::Gather(_) => self.gather(),
             Deed::Rebase => self.runtime.rebase(self.rt),
             Deed::IsPresent => Ok(self.is_present()),
-            Deed::Structured => Ok(self.structured()),
         }
     }
 
@@ -201,7 +197,6 @@ impl<'a, Regions: Limited, Tickets: Ledger, Events: Ledger, R: Wait + AllocGloba
             .runtime
             .enter(self.rt, &mut self.caller, self.device, items)?;
         let number = region.number();
-        self.outer = self.region.take();
         self.region = Some(Opened { region });
         Ok(number)
     }
@@ -214,10 +209,7 @@ impl<'a, Regions: Limited, Tickets: Ledger, Events: Ledger, R: Wait + AllocGloba
             .runtime
             .exit(self.rt, &mut self.caller, opened.into_region())
         {
-            Ok(()) => {
-                self.region = self.outer.take();
-                Ok(0)
-            }
+            Ok(()) => Ok(0),
             Err((region, fault)) => {
                 self.region = Some(Opened { region });
                 Err(fault)
@@ -232,27 +224,16 @@ impl<'a, Regions: Limited, Tickets: Ledger, Events: Ledger, R: Wait + AllocGloba
         Ok(0)
     }
 
-    fn exit_data(
-        &mut self,
-        clause: ExitClause,
-        finalize: bool,
-        queue: Option<u64>,
-    ) -> Result<u64, Fault> {
-        let items = list(self.rt.alloc(), clause)?;
+    fn exit_data(&mut self, queue: u64) -> Result<u64, Fault> {
+        let items = list(self.rt.alloc(), ExitClause::Copyout)?;
         let device = self.device;
-        self.runtime
-            .exit_data(self.rt, &mut self.caller, device, items, finalize, queue)?;
+        self.runtime.exit_data(self.rt, &mut self.caller, device, items, true, Some(queue))?;
         Ok(0)
     }
 
-    fn update(
-        &mut self,
-        clause: UpdateClause,
-        if_present: bool,
-        queue: Option<u64>,
-    ) -> Result<u64, Fault> {
+    fn update(&mut self, clause: UpdateClause, queue: Option<u64>) -> Result<u64, Fault> {
         let items = list(self.rt.alloc(), clause)?;
-        let device = self.device;
+        let (device, if_present) = (self.device, queue.is_none());
         self.runtime.update(self.rt, &mut self.caller, device, items, if_present, queue)?;
         Ok(0)
     }
@@ -280,19 +261,13 @@ impl<'a, Regions: Limited, Tickets: Ledger, Events: Ledger, R: Wait + AllocGloba
         let Some(opened) = &self.region else {
             return Err(Fault::NoRegion { number: 0 });
         };
-        let lease = self
+        let mut lease = self
             .runtime
             .lend(self.rt, &mut self.caller, &opened.region, ARRAY)?;
+        run_one(&mut lease, &Add(1), &[]);
         let serial = lease.serial();
         self.loan = Some(Loan { lease });
         Ok(serial)
-    }
-
-    fn add(&mut self) -> u64 {
-        if let Some(loan) = &mut self.loan {
-            run_one(&mut loan.lease, &Add(1), &[]);
-        }
-        0
     }
 
     fn gather(&mut self) -> Result<u64, Fault> {
@@ -320,33 +295,42 @@ impl<'a, Regions: Limited, Tickets: Ledger, Events: Ledger, R: Wait + AllocGloba
         )
     }
 
-    fn structured(&mut self) -> u64 {
+    /// Makes a call, and once more where memory was refused for it, which changed nothing.
+    fn make_again(&mut self, deed: Deed) -> Result<u64, Fault> {
+        let before = self.state();
+        let answer = self.make(deed);
+        if answer != Err(Fault::Memory) {
+            return answer;
+        }
+        let after = self.state();
+        same(self.rt, after, before);
+        self.was_refused = true;
+        self.make(deed)
+    }
+
+    /// Whether the trace is as it has to be behind the call of a row, before which so many events were stored.
+    fn has_left(&mut self, row: Row, stored: usize) -> bool {
         let device = self.device;
         self.runtime.look(
             self.rt,
             &mut self.caller,
-            |table: &Table| structured_on(table, device),
+            |table: &Table| is_left(table, device, row, stored),
         )
     }
-}
 
-impl<Regions: Limited, Tickets: Ledger, Events: Ledger, R: Abort + Wait + AllocGlobal> Actor<
-    '_,
-    Regions,
-    Tickets,
-    Events,
-    R,
-> {
-    /// Makes a call, which returns what is expected.
-    pub fn make_as(&mut self, deed: Deed, wanted: Result<u64, Fault>) {
-        let answer = self.make(deed);
-        same(self.rt, answer, wanted);
+    /// Makes the call of a row, which returns what the row says and leaves its event.
+    pub fn make_row(&mut self, row: Row) {
+        let made = self.caller.made();
+        let (_, _, _, stored) = self.state();
+        let answer = self.make_again(row.0);
+        let is_left = self.has_left(row, stored);
+        same(self.rt, (made, answer, is_left), (made, row.1, true));
     }
 
-    /// Makes calls, each of which returns what is expected.
-    pub fn make_all(&mut self, rows: &[(Deed, Result<u64, Fault>)]) {
-        for &(deed, wanted) in rows {
-            self.make_as(deed, wanted);
+    /// Makes the calls of rows.
+    pub fn make_rows(&mut self, rows: &[Row]) {
+        for &row in rows {
+            self.make_row(row);
         }
     }
 }

@@ -1,22 +1,26 @@
-//! Tests of `acc_runtime`: what no clause of it says. They stand in a crate of their own, so that it is proved once and
-//! not twice. Threads that meet have one more, `acc_thread_tests`, so that none takes long. A test with `growth` in its
-//! name passes also where one growth of memory, or one start of a thread, is refused.
+//! Tests of `acc_runtime`, and of threads that share a runtime or work on parts of a block: what no clause says. They
+//! stand in a crate of their own, so that it is proved once and not twice. A test with `growth` in its name passes also
+//! where one growth of memory, or one start of a thread, is refused.
 #![tactic(auto)]
 
 #[cfg(test)]
 mod actors;
 #[cfg(test)]
+mod callers;
+#[cfg(test)]
 mod drills;
+#[cfg(test)]
+mod example;
 #[cfg(test)]
 mod gates;
 #[cfg(test)]
 mod lives;
 #[cfg(test)]
+mod parts;
+#[cfg(test)]
 mod scenes;
 #[cfg(test)]
 mod serving;
-#[cfg(test)]
-mod shares;
 
 #[cfg(test)]
 use std::fmt::Debug;

@@ -1,202 +1,191 @@
-//! A worker that receives which queues to serve.
+//! A worker that receives which queues to serve, and two that meet.
 
-use crate::actors::{Actor, Deed};
-use crate::gates::Watch;
-use crate::lives::{Life, MAPPED, Mode, Row};
+use crate::actors::{Actor, Deed, Row};
+use crate::gates::{Meeting, Watch};
 use crate::same;
-use crate::scenes::{Scene, again_on_a_new_runtime, on_a_new_runtime, other_limits, two_devices};
+use crate::scenes::{Scene, play_each};
 use acc_base::{Fault, UpdateClause};
-use acc_runtime::{Limited, Open, Served, serve};
-use acc_thread_tests::{bells, limits};
+use acc_runtime::{Caller, Limited, serve};
+use crossbeam_channel::{Receiver, unbounded};
+use std::alloc::Global;
 use std::process::Abort;
-use std::sync::Wait;
+use std::rt::Clock;
+use std::sync::atomic::AtomicU64;
 use std::sync::ledger::Ledger;
+use std::sync::{Mutex, Wait};
 use std::test::Fail;
+use std::thread::{Threads, join};
 
-/// What a worker receives and does.
+/// What a worker receives and does where the array is mapped on each device, and a copy of it waits in queue 3 of each.
 #[derive(Clone, Copy)]
 pub struct Service {
-    /// What is done before.
-    before: &'static [Row],
+    /// How many devices there are.
+    pub devices: u64,
     /// The words, in order.
     words: &'static [u64],
     /// How many events there are when the gate is called, before and after each word.
     events: &'static [u64],
-    /// What the worker did.
-    served: Served,
-    /// What the trace ends with then.
-    end: &'static str,
-    /// What is found behind it.
+    /// How many steps the worker made, and how often one was refused.
+    served: (u64, u64),
+    /// What is found behind it, first on the last device.
     after: &'static [Row],
 }
 
-const COPY: Deed = Deed::Update(UpdateClause::ToSelf, false, Some(3));
-
-const QUEUED: &str =
-    "Updated { device: 0, items: List { items: [Item { clause: ToSelf, section: Section { start: 4096, len: 16 }, pointer: None }] }, if_present: false, queue: Some(3), did: List { items: [Did { step: Moved { block: 1 }, aim: None }] } }";
-
-/// Two copies wait in a queue. One word makes both, though words before and behind it are of devices that are not
-/// there.
-const ONE_DEVICE: [Service; 2] = [
-    Service {
-        before: &[
-            (Deed::EnterData, Ok(0), MAPPED),
-            (COPY, Ok(0), QUEUED),
-            (COPY, Ok(0), QUEUED),
-        ],
+const SERVICES: [Scene; 3] = [
+    Scene::Serve(Service {
+        devices: 1,
         words: &[],
         events: &[],
-        served: Served {
-            steps: 0,
-            refusals: 0,
-        },
-        end: QUEUED,
-        after: &[],
-    },
-    Service {
-        before: &[],
-        words: &[16, 3, 32],
-        events: &[3, 3, 3, 5, 5, 5],
-        served: Served {
-            steps: 2,
-            refusals: 2,
-        },
-        end: "Stepped { device: 0, queue: 3, block: 1 }",
-        after: &[(Deed::Step(3), Ok(0), "")],
-    },
+        served: (0, 0),
+        after: &[(Deed::Wait(Some(3)), Ok(1))],
+    }),
+    Scene::Serve(Service {
+        devices: 1,
+        words: &[3, 3, 16],
+        events: &[2, 3, 3, 3, 3, 3],
+        served: (1, 1),
+        after: &[(Deed::Step(3), Ok(0))],
+    }),
+    Scene::Serve(Service {
+        devices: 2,
+        words: &[19, 32],
+        events: &[4, 5, 5, 5],
+        served: (1, 1),
+        after: &[
+            (Deed::Step(3), Ok(0)),
+            (Deed::On(0), Ok(0)),
+            (Deed::Step(3), Ok(1)),
+        ],
+    }),
 ];
 
-/// A copy waits in queue 3 of each device. The word 19 is that of the second one.
-const TWO_DEVICES: [Service; 1] = [Service {
-    before: &[
-        (Deed::EnterData, Ok(0), MAPPED),
-        (COPY, Ok(0), QUEUED),
-        (Deed::On(1), Ok(0), ""),
-        (
-            Deed::EnterData,
-            Ok(0),
-            "EnteredData { device: 1, items: List { items: [Item { clause: Copyin, section: Section { start: 4096, len: 16 }, pointer: None }] }, queue: None, did: List { items: [Did { step: Born { block: 1, place: 8589934592 }, aim: None }] } }",
-        ),
-        (
-            COPY,
-            Ok(0),
-            "Updated { device: 1, items: List { items: [Item { clause: ToSelf, section: Section { start: 4096, len: 16 }, pointer: None }] }, if_present: false, queue: Some(3), did: List { items: [Did { step: Moved { block: 1 }, aim: None }] } }",
-        ),
-    ],
-    words: &[19, 32],
-    events: &[4, 5, 5, 5],
-    served: Served {
-        steps: 1,
-        refusals: 1,
-    },
-    end: "Stepped { device: 1, queue: 3, block: 1 }",
-    after: &[
-        (Deed::Step(3), Ok(0), ""),
-        (Deed::On(0), Ok(0), ""),
-        (
-            Deed::Step(3),
-            Ok(1),
-            "Stepped { device: 0, queue: 3, block: 1 }",
-        ),
-    ],
-}];
+/// A copy of the array is put into queue 3.
+const PUT: Row = (Deed::Update(UpdateClause::ToSelf, Some(3)), Ok(0));
 
-impl<Regions: Limited, Tickets: Ledger, Events: Ledger, R: Abort + Wait + AllocGlobal> Life<
-    '_,
-    '_,
-    Regions,
-    Tickets,
-    Events,
-    R,
-> {
-    fn serve_open(&mut self, words: &[u64]) -> Result<Served, Fault> {
-        let actor = &mut *self.actor;
-        let from = match bells(actor.rt, actor.rt.alloc(), words) {
-            Err(_) => bells(actor.rt, actor.rt.alloc(), words)?,
-            from => from?,
-        };
-        let words = from.iter(actor.rt);
-        Ok(serve(actor.rt, actor.runtime, &mut actor.caller, words, &Open))
-    }
-
-    /// Serves the words, and once more where a step was refused for memory: its transfer is still there then.
-    fn serve_again(&mut self, service: &Service) -> Result<(), Fault> {
-        let Served { steps, refusals } = service.served;
-        let first = self.serve_open(service.words)?;
-        if first.steps >= steps {
-            same(self.actor.rt, first, service.served);
-            return Ok(());
+/// A channel in which these words wait, and which is closed behind them.
+fn bells<R: Wait>(rt: &R, alloc: Global, words: &[u64]) -> Result<Receiver<u64>, Fault> {
+    let Ok((to, from)) = unbounded::<u64, _>(alloc) else {
+        return Err(Fault::Memory);
+    };
+    for word in words {
+        if to.send(rt, *word).is_err() {
+            return Err(Fault::Memory);
         }
-        same(self.actor.rt, first.refusals, refusals.saturating_add(1));
-        let rest = self.serve_open(service.words)?;
-        let made = first.steps.wrapping_add(rest.steps);
-        same(self.actor.rt, (made, rest.refusals), (steps, refusals));
-        Ok(())
     }
-
-    /// Serves the words, with a gate that looks.
-    fn serve_watched(&mut self, service: &Service) -> Result<(), Fault> {
-        let actor = &mut *self.actor;
-        let watch = Watch::new(actor.runtime, actor.caller.split(0, 0)?, service.events);
-        let from = bells(actor.rt, actor.rt.alloc(), service.words)?;
-        let words = from.iter(actor.rt);
-        let served = serve(actor.rt, actor.runtime, &mut actor.caller, words, &watch);
-        same(actor.rt, (served, watch.saw_all()), (service.served, true));
-        Ok(())
-    }
-
-    fn ring_once(&mut self, service: &Service) -> Result<(), Fault> {
-        self.live_rows(service.before)?;
-        if self.mode.retries {
-            self.serve_again(service)?;
-        } else {
-            self.serve_watched(service)?;
-        }
-        self.events = self.events.wrapping_add(service.served.steps);
-        self.end = Some(service.end);
-        self.check_end()?;
-        self.live_rows(service.after)?;
-        Ok(())
-    }
+    Ok(from)
 }
 
-/// Tells a worker the words, of one device or of two.
-pub fn ring<Regions: Limited, Tickets: Ledger, Events: Ledger, R: Abort + Wait + AllocGlobal>(
-    actor: &mut Actor<Regions, Tickets, Events, R>,
-    retries: bool,
-) -> Result<(), Fault> {
-    let folds = false;
-    let all = if actor.runtime.config().devices() == 2 {
-        TWO_DEVICES.as_slice()
-    } else {
-        ONE_DEVICE.as_slice()
-    };
-    let mut life = Life {
-        actor,
-        mode: Mode { folds, retries },
-        events: 0,
-        end: None,
-    };
-    for service in all {
-        life.ring_once(service)?;
+impl<
+    Regions: Limited + Send + Sync,
+    Tickets: Ledger + Send + Sync,
+    Events: Ledger + Send + Sync,
+    R: Abort + Clock + Threads + Wait + AllocGlobal + Sync,
+> Actor<'_, Regions, Tickets, Events, R> {
+    /// Serves words as the worker of a number in a meeting: how many steps it made, how often one was refused, and
+    /// whether its gate found so many events.
+    fn serve_words(
+        &mut self,
+        words: &[u64],
+        meeting: &Meeting,
+        number: usize,
+        events: &[u64],
+    ) -> Result<((u64, u64), bool), Fault> {
+        let watch = Watch {
+            meeting,
+            number,
+            runtime: self.runtime,
+            caller: Mutex::new(self.caller.split(0, 0)?),
+            wanted: events,
+            calls: AtomicU64::new(0),
+        };
+        let from = bells(self.rt, self.rt.alloc(), words)?;
+        let words = from.iter(self.rt);
+        let served = serve(self.rt, self.runtime, &mut self.caller, words, &watch);
+        Ok(((served.steps, served.refusals), watch.saw_all()))
     }
-    Ok(())
+
+    /// Serves the words of a service. It serves them once more where a step was refused for memory: its transfer is
+    /// still there, if no other word made it.
+    fn serve_alone(&mut self, service: &Service) -> Result<(), Fault> {
+        let (words, events) = (service.words, service.events);
+        let (served, saw_all) = self.serve_words(words, &Meeting::new(0, 1), 0, events)?;
+        if (served, saw_all) == (service.served, true) {
+            return Ok(());
+        }
+        let (steps, refusals) = service.served;
+        same(self.rt, served.1, refusals.saturating_add(1));
+        self.was_refused = true;
+        let (rest, _) = self.serve_words(words, &Meeting::new(0, 1), 0, events)?;
+        let made = served.0.wrapping_add(rest.0);
+        same(self.rt, (made, rest.1), (steps, refusals));
+        Ok(())
+    }
+
+    /// Tells a worker the words of a service.
+    pub fn serve_as(&mut self, service: Service) -> Result<(), Fault> {
+        for device in 0..service.devices {
+            self.make_rows(&[(Deed::On(device), Ok(0)), (Deed::EnterData, Ok(0)), PUT]);
+        }
+        self.serve_alone(&service)?;
+        self.make_rows(service.after);
+        Ok(())
+    }
+
+    /// Serves a queue as the worker of a number in a meeting, and gives its caller back.
+    fn serve_own(
+        mut self,
+        meeting: &Meeting,
+        number: usize,
+        first: usize,
+    ) -> (
+        Caller<Regions, Tickets, Events>,
+        Result<((u64, u64), bool), Fault>,
+    ) {
+        let events = if number == first { [3, 4] } else { [4, 5] };
+        let word = 3 + number as u64 % 2;
+        let served = self.serve_words(&[word], meeting, number, &events);
+        let Actor { caller, .. } = self;
+        (caller, served)
+    }
+
+    /// Two workers serve a queue each, and have to meet.
+    pub fn serve_both(&mut self, first: usize) -> Result<(), Fault> {
+        let other_put = (Deed::Update(UpdateClause::ToSelf, Some(4)), Ok(0));
+        self.make_rows(&[(Deed::EnterData, Ok(0)), PUT, other_put]);
+        let (rt, runtime) = (self.rt, self.runtime);
+        let one = self.caller.split(0, 10)?;
+        let two = self.caller.split(0, 10)?;
+        let meeting = Meeting::new(first, 2);
+        let meeting = &meeting;
+        let ((one, served), (two, other)) = join(
+            rt,
+            move || Actor::new(rt, runtime, one).serve_own(meeting, 0, first),
+            move || Actor::new(rt, runtime, two).serve_own(meeting, 1, first),
+        );
+        self.caller.merge(one);
+        self.caller.merge(two);
+        let wanted = Ok(((1, 0), true));
+        same(rt, (served, other), (wanted, wanted));
+        let made = self.caller.made();
+        same(rt, (made, meeting.took_place()), (5, Some(0)));
+        Ok(())
+    }
 }
 
 #[test]
 fn queues_are_served_as_the_words_say(rt: HostRuntime) -> Result<(), Fail> {
-    let ring = Scene::Bells { retries: false };
-    on_a_new_runtime(&rt, ring, limits(64, 100)?)?;
-    on_a_new_runtime(&rt, ring, two_devices()?)?;
-    on_a_new_runtime(&rt, ring, other_limits()?)?;
+    play_each(&rt, &SERVICES, 1)?;
     Ok(())
 }
 
 #[test]
 fn a_refused_growth_is_counted_by_a_worker(rt: HostRuntime) -> Result<(), Fail> {
-    let ring = Scene::Bells { retries: true };
-    again_on_a_new_runtime(&rt, ring, limits(64, 100)?)?;
-    again_on_a_new_runtime(&rt, ring, two_devices()?)?;
-    again_on_a_new_runtime(&rt, ring, other_limits()?)?;
+    play_each(&rt, &SERVICES, 2)?;
+    Ok(())
+}
+
+#[test]
+fn either_worker_waits_for_the_other(rt: HostRuntime) -> Result<(), Fail> {
+    play_each(&rt, &[Scene::Workers(0), Scene::Workers(1)], 1)?;
     Ok(())
 }

@@ -1,0 +1,88 @@
+//! Parts of a kernel that work at the same time, or in turn where no thread can be started.
+
+ghost use Rattle.acc_lend.specs.Images.{each_byte, number_image};
+ghost use Rattle.acc_lend.specs.ImageLaws.{each_byte-append, length-each_byte};
+
+use crate::gates::Meeting;
+use crate::same;
+use acc_base::Fault;
+use acc_lend::{Cuts, Gate, Kernel, Lease, Number, Open, Pointwise, run_parts};
+use std::process::Abort;
+use std::rt::Clock;
+use std::sync::Wait;
+use std::sync::atomic::{AtomicU64, Ordering};
+use std::test::Fail;
+use std::thread::Threads;
+
+/// Numbers bytes, and counts them.
+#[derive(Drop)]
+struct Counting<'a> {
+    number: Number,
+    count: &'a AtomicU64,
+}
+
+impl Kernel for Counting<'_> {
+    ghost image = { λ kernel at part src. each_byte (number_image kernel.number.0) at part };
+
+    fn run(&self, at: usize, part: &mut [u8], src: &[u8]) {
+        self.number.run(at, part, src);
+        self.count.fetch_add(part.len() as u64, Ordering::SeqCst);
+    }
+
+    ghost keeps_length = { λ kernel at part src. length-each_byte (number_image kernel.number.0) at part };
+}
+
+impl Pointwise for Counting<'_> {
+    ghost joined = { λ kernel at first second src. each_byte-append (number_image kernel.number.0) at first second };
+}
+
+/// Numbers eight bytes in four parts from 1 on, where memory for the bytes and for the cuts is not refused.
+fn number_eight<R: Threads + Wait + Sync + AllocGlobal + Abort, G: Gate<R> + Sync>(
+    rt: &R,
+    count: &AtomicU64,
+    gate: &G,
+) -> Result<(), Fault> {
+    let cuts = Cuts::even(rt.alloc(), 8, 4)?;
+    let bytes = vec![in rt.alloc(); 0u8; 8]?;
+    let mut lease = Lease::of(1, 1, 0, 8, bytes, 0);
+    let number = Number(1);
+    run_parts(
+        rt,
+        &mut lease,
+        &cuts,
+        &Counting { number, count },
+        &[],
+        gate,
+    );
+    let bytes = lease.into_block();
+    assert_eq!(rt; bytes.as_slice(), [1, 2, 3, 4, 5, 6, 7, 8].as_slice());
+    Ok(())
+}
+
+/// Each part does its work while all others are held, and the gate is called around it.
+fn number_first<R: Threads + Wait + Sync + AllocGlobal + Clock + Abort>(
+    rt: &R,
+    first: usize,
+) -> Result<(), Fault> {
+    let meeting = Meeting::new(first, 4);
+    number_eight(rt, &meeting.work, &meeting)?;
+    same(rt, meeting.took_place(), Some(2));
+    Ok(())
+}
+
+#[test]
+fn any_part_may_be_the_first(rt: HostRuntime) -> Result<(), Fail> {
+    for first in 0..4 {
+        number_first(&rt, first)?;
+    }
+    Ok(())
+}
+
+#[test]
+fn a_refused_growth_leaves_no_part_out(rt: HostRuntime) -> Result<(), Fail> {
+    let count = AtomicU64::new(0);
+    if number_eight(&rt, &count, &Open).is_err() {
+        number_eight(&rt, &count, &Open)?;
+    }
+    Ok(())
+}

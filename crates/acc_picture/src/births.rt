@@ -6,7 +6,7 @@ use acc_table::Table;
 use std::alloc::AllocError;
 use std::collections::BTreeMap;
 
-/// Adds an stretch of no size for each block that was made since the base of the table. At each place the last one stays.
+/// Adds a stretch of no size for each block that was made since the base of the table. At each place the last one stays.
 ///
 /// # Errors
 ///

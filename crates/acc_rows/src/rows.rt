@@ -15,9 +15,9 @@ use std::marker::Model;
 /// Entries by rising key, and room for more of them.
 ///
 /// They stand in rows of up to 64, and the least key of each row in a list of its own. A look-up is a search in that
-/// list and one in a row, and neither takes a branch by a key. A change moves entries of one row or two. Where a row comes or goes, it also moves the list of rows behind it, which grows with
-/// the number of entries. Memory is asked for by [`Rows::reserve`] alone: an entry more uses up at most one row that
-/// waits.
+/// list and one in a row, and neither takes a branch by a key. A change moves entries of one row or two. If a row comes
+/// or goes, it also moves the list of rows behind it, which grows with the number of entries. Memory is asked for by
+/// [`Rows::reserve`] alone: an entry more uses up at most one row that waits.
 #[derive(Drop)]
 pub struct Rows<T: Copy> {
     alloc: Global,

@@ -169,11 +169,12 @@ line_turned s line = do
 abbrev pub needs_memory : SessionState → Meaning → Bool
 needs_memory s meaning = takes_memory meaning || run_takes_memory s meaning
 
--- the line is not at fault, and what it asks for needs memory
+-- what was read is no fault, and needs memory
 abbrev pub meaning_wants : SessionState → Result Meaning ScriptFault → Bool
 meaning_wants s (Ok meaning) = needs_memory s meaning
 meaning_wants s (Err kind) = false
 
+-- the line is not at fault, and what it asks for needs memory
 abbrev pub line_wants : SessionState → List ℕ → Bool
 line_wants s line = meaning_wants s (meaning_in s line)
 

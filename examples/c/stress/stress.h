@@ -9,7 +9,7 @@
 #include <stdbool.h>
 #include <stdio.h>
 
-/* The limits of accrun and of its scripts (docs/SCRIPTS.md), and sizes of this program. */
+/* The limits of accrun and of its scripts (docs/ACCRUN.md), and sizes of this program. */
 enum {
     REGIONS_MAX = 64,      /* how many data regions may be open */
     EVENTS_MAX = 262144,   /* how many events the trace may have */

@@ -2,10 +2,12 @@
 
 use crate::actors::{Actor, Deed};
 use crate::gates::Meeting;
+use crate::lives::is_of;
 use crate::same;
 use crate::scenes::{Scene, play_each};
 use acc_base::{Fault, RegionClause};
 use acc_runtime::{Drilled, Gate, Limited, Open, drill};
+use acc_table::Table;
 use std::process::Abort;
 use std::rt::Clock;
 use std::sync::Wait;
@@ -22,6 +24,13 @@ const SHORT: [Scene; 3] = [
     Scene::Drill((2, 10), (2, 3), Err(Fault::NoTickets { left: 3 })),
 ];
 
+/// Any thread may be the first that is done, while the others are held.
+const HELD: [Scene; 3] = [
+    Scene::HeldDrill(2, 0, 13),
+    Scene::HeldDrill(2, 1, 13),
+    Scene::HeldDrill(4, 3, 25),
+];
+
 /// Two or four threads meet different faults. The drill returns that of the first by number, whichever came first.
 const FAULTS: [Scene; 4] = [
     Scene::LentDrill(2, 0, Fault::Lent { block: 1 }),
@@ -29,6 +38,18 @@ const FAULTS: [Scene; 4] = [
     Scene::LentDrill(4, 0, Fault::Lent { block: 1 }),
     Scene::LentDrill(4, 3, Fault::CounterFull { item: 0 }),
 ];
+
+/// Whether the array was mapped before any thread worked, and the first one that did entered a region over it.
+fn has_entered(table: &Table) -> bool {
+    let wanted = [Deed::EnterData, Deed::Enter(RegionClause::Copyin)];
+    let is_long = table.trace().len() > wanted.len();
+    is_long
+        && table
+            .trace()
+            .iter()
+            .zip(wanted)
+            .all(|(event, deed)| is_of(event, deed, false))
+}
 
 impl<
     Regions: Limited + Send + Sync,
@@ -77,6 +98,16 @@ impl<
         same(self.rt, found, wanted);
     }
 
+    /// So many threads wait for the one of the number, and all end well.
+    pub fn drill_held(&mut self, threads: usize, first: usize, events: u64) {
+        let meeting = Meeting::new(first, threads);
+        let found = self.drill((threads, 3), &meeting);
+        self.compare(found, Ok(events));
+        same(self.rt, meeting.took_place(), Some(0));
+        let entered = self.runtime.look(self.rt, &mut self.caller, has_entered);
+        same(self.rt, entered, true);
+    }
+
     /// So many threads wait for the one of the number. The array is lent in a region of the caller's, so that thread
     /// cannot exit. The counter is at its limit then, so the others cannot enter.
     pub fn drill_lent(&mut self, threads: usize, first: usize, fault: Fault) {
@@ -95,6 +126,7 @@ impl<
 fn drills_leave_what_they_should(rt: HostRuntime) -> Result<(), Fail> {
     play_each(&rt, &LONG, 1)?;
     play_each(&rt, &SHORT, 1)?;
+    play_each(&rt, &HELD, 1)?;
     Ok(())
 }
 

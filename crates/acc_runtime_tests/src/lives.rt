@@ -51,7 +51,7 @@ fn store(bytes: &List<u8>, is_full: bool, byte: u8) -> bool {
 }
 
 /// Whether an event is that of a call, and names what the call named.
-fn is_of(event: &Event, deed: Deed, is_full: bool) -> bool {
+pub fn is_of(event: &Event, deed: Deed, is_full: bool) -> bool {
     match (deed, event) {
         (Deed::Enter(clause), Event::Entered { items, .. }) => name(items, clause),
         (Deed::Exit, Event::Left { number, .. }) => *number == 1,

@@ -25,6 +25,9 @@ pub enum Scene {
     /// A drill on a runtime of so many regions and tickets: its threads and the rounds of each, and how many events
     /// there are then, or its fault.
     Drill((u64, u64), (usize, u64), Result<u64, Fault>),
+    /// A drill that ends well: how many threads it has, which are held until that of the number is done, and how many
+    /// events there are then.
+    HeldDrill(usize, usize, u64),
     /// A drill over an array that is lent: how many threads it has, which are held until that of the number is done,
     /// and its fault.
     LentDrill(usize, usize, Fault),
@@ -61,6 +64,7 @@ impl<
             Scene::Serve(service) => self.serve_as(service)?,
             Scene::Workers(first) => self.serve_both(first)?,
             Scene::Drill(_, work, wanted) => self.drill_alone(work, wanted)?,
+            Scene::HeldDrill(threads, first, events) => self.drill_held(threads, first, events),
             Scene::LentDrill(threads, first, fault) => self.drill_lent(threads, first, fault),
             Scene::Callers => self.share()?,
         }

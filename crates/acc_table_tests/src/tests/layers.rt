@@ -69,7 +69,7 @@ fn present(rt: &(impl Abort + AllocGlobal)) -> Result<Present, Fault> {
     Ok(present)
 }
 
-fn check_present(rt: &impl Abort, present: &Present) {
+fn check_present(rt: &(impl Abort + AllocGlobal), present: &Present) -> Result<(), Fault> {
     for (start, len, found) in FOUND {
         assert_eq!(rt;
             present.find(section((start, len))),
@@ -77,12 +77,14 @@ fn check_present(rt: &impl Abort, present: &Present) {
             "{start:#x} {len}"
         );
     }
-    assert_eq!(rt; present.regions(), 1);
+    let regions = present.copy_regions(rt.alloc())?;
+    assert_eq!(rt; (present.regions(), regions.len()), (1, 1));
+    Ok(())
 }
 
 #[test]
 fn a_section_is_found_and_a_region_is_open(rt: HostRuntime) -> Result<(), Fail> {
-    check_present(&rt, &present(&rt)?);
+    check_present(&rt, &present(&rt)?)?;
     Ok(())
 }
 

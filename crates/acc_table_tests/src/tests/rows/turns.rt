@@ -15,6 +15,7 @@ pub const ROWS: &[Row] = &[
         name: "a region that counted nothing leaves what another one mapped, and a region is exited once",
         limits: WIDE,
         lines: &[
+            Runs(&[]),
             Runs(&[
                 Gives(Do("data no_create(a)"), 1),
                 Gives(Do("data copyin(a)"), 2),

@@ -15,7 +15,7 @@ use Rattle.acc_base.proofs.Lookups.{at}
 use Rattle.acc_base.proofs.Options.{some_mapped, none_mapped}
 use Rattle.acc_base.proofs.Splitting.{all_at}
 use Rattle.acc_index.specs.declared.index.IndexEntry.{IndexEntry}
-use Rattle.acc_index.specs.Indexed.{IsIndexRising, value_at, last_number, with_value, without_number, live_before, live_entries, AreEntriesRising, ends_gone, blank_entry, IsNumberAt}
+use Rattle.acc_index.specs.Indexed.{IsIndexRising, value_at, last_number, with_value, without_number, with_other, live_before, live_entries, AreEntriesRising, ends_gone, blank_entry, IsNumberAt}
 
 module _ {T : Type 0} where
   -- the number of a place, and of a value
@@ -262,7 +262,55 @@ module _ {T : Type 0} where
       let whole : take len (ys ++ drop (length ys) xs) ≡ ys = rw all (take-append_seam ys (drop (length ys) xs)) in
       ap (λ (es : List (ℕ × T)). length es + 1) (is ∙ ap live_entries whole ∙ left) ∙ one_less n (live_entries xs) (entries_rise xs rise) there
 
+  -- ---- another value
+
+  others_same : (n : ℕ) (v : T) (es : List (ℕ × T)) → AllByRecursion (λ (e : ℕ × T). e.0 ≡ n → ⊥) es → with_other n v es ≡ es
+  others_same n v [] h = refl
+  others_same n v (e ∷ es) h =
+      let differs = h.0 in
+      let other : (e.0 == n) ≡ false = grind (arith, nat_tests, differs) in
+      rw other (ap (λ (fs : List (ℕ × T)). e ∷ fs) (others_same n v es h.1))
+
+  -- a place that is not gone, with another value
+  pub entries-other : (xs : List (IndexEntry T)) (i n : ℕ) (v : T) (new : IndexEntry T) → AreEntriesRising xs → i < length xs → (get_or xs i blank_entry).number ≡ n → IsSome (get_or xs i blank_entry).value → new.number ≡ n → new.value ≡ Some v → live_entries (set xs i new) ≡ with_other n v (live_entries xs)
+  entries-other [] i n v new rise lt is here number value = absurd (omega arith)
+  entries-other (x ∷ xs) zero n v new rise lt is here number value = rw (value, number) (go x.value here)
+    where
+      same : (x.number == n) ≡ true
+      same = grind (arith, nat_tests)
+
+      rest : live_entries xs ≡ with_other n v (live_entries xs)
+      rest = sym (others_same n v (live_entries xs) (numbers_here (λ m. m ≡ n → ⊥) xs (none_later x xs n is rise)))
+
+      go : (o : Option T) → IsSome o → (n, v) ∷ live_entries xs ≡ with_other n v (live_before x.number o (live_entries xs))
+      go None s = absurd (search (rules, s))
+      go (Some u) s = rw same (ap (λ (es : List (ℕ × T)). (n, v) ∷ es) rest)
+  entries-other (x ∷ xs) (suc i) n v new rise lt is here number value = go x.value (entries-other xs i n v new rise.1 (omega arith) is here number value)
+    where
+      other : (x.number == n) ≡ false
+      other =
+          let less : x.number < (get_or xs i blank_entry).number = all_at (λ (e : IndexEntry T). x.number < e.number) xs i blank_entry (omega arith) rise.0 in
+          grind (arith, nat_tests)
+
+      go : (o : Option T) → live_entries (set xs i new) ≡ with_other n v (live_entries xs) → live_before x.number o (live_entries (set xs i new)) ≡ with_other n v (live_before x.number o (live_entries xs))
+      go None rest = rest
+      go (Some u) rest = rw other (ap (λ (es : List (ℕ × T)). (x.number, u) ∷ es) rest)
+
+  -- there are as many values
+  pub length-others : (n : ℕ) (v : T) (es : List (ℕ × T)) → length (with_other n v es) ≡ length es
+  length-others n v [] = refl
+  length-others n v (e ∷ es) = ap suc (length-others n v es)
+
   -- ---- the end
+
+  -- the last place is not gone where a value is written
+  pub ends-set : (xs : List (IndexEntry T)) (i : ℕ) (new : IndexEntry T) → is_here new ≡ true → ends_gone xs ≡ false → ends_gone (set xs i new) ≡ false
+  ends-set [] i new here e = refl
+  ends-set (x ∷ []) zero new here e = rw here refl
+  ends-set (x ∷ []) (suc i) new here e = e
+  ends-set (x ∷ y ∷ xs) zero new here e = e
+  ends-set (x ∷ y ∷ xs) (suc zero) new here e = ends-set (y ∷ xs) zero new here e
+  ends-set (x ∷ y ∷ xs) (suc (suc i)) new here e = ends-set (y ∷ xs) (suc i) new here e
 
   pub ends-push : (xs : List (IndexEntry T)) (x : IndexEntry T) → ends_gone (xs ++ x ∷ []) ≡ not (is_here x)
   ends-push [] x = refl

@@ -1,5 +1,5 @@
 -- A list of values by rising number: what is found in it, how it changes, and how it is kept.
-use Rattle.std.specs.Prelude.{ℕ, ◌≡◌, ◌<◌, ◌==◌, Bool, not, false, is_some, if◌then◌else◌, nat_lt, List, [], ◌∷◌, filter, find, length, slice_index_or, Option, Some, None, option_map}
+use Rattle.std.specs.Prelude.{ℕ, ◌≡◌, ◌<◌, ◌==◌, Bool, not, false, is_some, if◌then◌else◌, nat_lt, List, [], ◌∷◌, map, filter, find, length, slice_index_or, Option, Some, None, option_map}
 use Rattle.acc_base.specs.Accounts.{EachPair}
 use Rattle.acc_index.specs.declared.index.IndexEntry.{IndexEntry}
 
@@ -33,6 +33,10 @@ module _ {T : Type 0} where
   abbrev pub without_number : ℕ → List (ℕ × T) → List (ℕ × T)
   without_number number entries = filter (λ (e : ℕ × T). not (e.0 == number)) entries
 
+  -- the values, with another one of a number that has one
+  abbrev pub with_other : ℕ → T → List (ℕ × T) → List (ℕ × T)
+  with_other number value entries = map (λ (e : ℕ × T). if e.0 == number then (number, value) else e) entries
+
   -- ---- how they are kept
 
   -- the value of a place before others, unless it is gone
@@ -54,6 +58,10 @@ module _ {T : Type 0} where
   ends_gone [] = false
   ends_gone (e ∷ []) = not (is_some e.value)
   ends_gone (e ∷ f ∷ es) = ends_gone (f ∷ es)
+
+  -- a place with another value
+  abbrev pub with_own : IndexEntry T → T → IndexEntry T
+  with_own e value = record { number = e.number; value = Some value }
 
   -- what an index outside of a list reads
   abbrev pub blank_entry : IndexEntry T

@@ -1,1 +1,2 @@
 pub mod Indexed
+pub mod Lends

@@ -1,6 +1,7 @@
 //! Values by rising number.
 
 ghost use Rattle.std.specs.Prelude.{◌≡◌, ℕ, ◌+◌, ◌-◌, ◌*◌, ◌<◌, ◌≤◌, ◌⊎◌, false, [], ◌∷◌, ◌++◌, length, None, Some, IsSome, IfSome, IfNone, IfErr, OnOk, OnErr, MatchOption, vec_len, vec_capacity};
+ghost use Rattle.std.specs.Borrow.{Lends, sem};
 ghost use Rattle.std.specs.Bool.{OnTrue};
 ghost use Rattle.std.specs.List.{AllByRecursion};
 ghost use Rattle.acc_index.specs.Indexed.{IsIndexRising, value_at, last_number, with_value, without_number, live_entries, AreEntriesRising, IsNumberAt, ends_gone};
@@ -32,6 +33,23 @@ pub struct Index<T> {
     count: usize,
 }
 
+impl<T> IndexEntry<T> {
+    ghost use Rattle.acc_index.specs.contracts.index.IndexEntry.{the_row};
+    ghost use Rattle.acc_index.specs.Indexed.{with_own};
+
+    /// Its value, which is there, to write.
+    fn value_mut(&mut self) -> &mut T
+        requires { IsSome self.old.value }
+        ensures* writes_back { sem 𝓛 (Lends (the_row T.row) T.row self.entry result (with_own self.old)) }
+        ensures value { self.old.value ≡ Some result.now }
+    {
+        match &mut self.value {
+            Some(value) => value,
+            None => unreachable!(),
+        }
+    }
+}
+
 impl<T> Model for Index<T> {
     ghost use Rattle.std.specs.Prelude.{◌≡◌, ◌*◌, ◌-◌, ◌≤◌, false, length, vec_len, vec_capacity};
     ghost use Rattle.acc_index.specs.Indexed.{IndexState, live_entries, AreEntriesRising, ends_gone};
@@ -44,6 +62,8 @@ impl<T> Model for Index<T> {
 }
 
 impl<T: Drop> Index<T> {
+    ghost use Rattle.acc_index.specs.Lends.{LendsValue};
+
     /// No value. It needs no memory.
     pub fn new(alloc: Global) -> Index<T>
         ensures { result.entries ≡ [] }
@@ -112,6 +132,18 @@ impl<T: Drop> Index<T> {
             number,
             position_near(&self.items, number, near),
         )
+    }
+
+    /// The value of a number, which has one, to write. The number is looked for at a place first.
+    pub fn value_mut_near(&mut self, number: u64, near: usize) -> &mut T
+        requires { IsSome (value_at number self.old.entries) }
+        ensures* writes_back { sem 𝓛 (LendsValue T.row self.entry number result) }
+        ensures value { value_at number self.old.entries ≡ Some result.now }
+    {
+        let Some(at) = position_near(&self.items, number, near) else {
+            unreachable!()
+        };
+        self.items[at].value_mut()
     }
 
     /// Where a number stands, for the calls that look there first. Nothing rests on it but their time.

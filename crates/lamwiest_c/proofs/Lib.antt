@@ -1,5 +1,6 @@
 pub mod Reading
 pub mod Values
+pub mod Keeping
 pub mod Leasing
 pub mod Copying
 pub mod Telling

@@ -1,6 +1,6 @@
 -- The outcome of a call. Each definition is given how the caller gets it: as the result of a function, or as a status
 -- and the fields of a refusal.
-use Rattle.std.specs.Prelude.{ℕ, ◌≡◌, ◌⊎◌, ◌==◌, Bool, List, [], ◌++◌, length, find, Option, Some, None, Result, Ok, Err, MatchOption}
+use Rattle.std.specs.Prelude.{ℕ, ◌≡◌, ◌⊎◌, ◌==◌, Bool, List, ◌++◌, length, find, Option, Some, None, Result, Ok, Err, MatchOption}
 use Rattle.std.specs.List.{remove, position_or_len}
 use Rattle.acc_base.specs.declared.items.Section.{Section}
 use Rattle.acc_base.specs.declared.calls.Call.{Call}
@@ -69,18 +69,6 @@ IsRebased e T v =
 
 -- ---- loans
 
--- the block is lent, and its lease is the last one; memory may be lacking before all else
-abbrev pub CameOfLoan : DataEnvironment → Call Leased → Result Verdict Fault → Told → DataEnvironment → Type 0
-CameOfLoan e call (Err fault) T v = T (Err (OfTable fault)) × (v ≡ e)
-CameOfLoan e call (Ok Idle) T v = ⊥
-CameOfLoan e call (Ok (Makes event)) T v =
-    T (Ok (number_in (reply_in event e.world)))
-    × (v ≡ record { world = world_after call event e.world; leases = e.leases ++ lent_by (reply_in event e.world) })
-
-abbrev pub IsLent : DataEnvironment → ℕ → Section → Told → DataEnvironment → Type 0
-IsLent e region section T v =
-    (T (Err (OfTable Memory)) × (v ≡ e)) ⊎ CameOfLoan e (Lend region section) (judge e.world (Lend region section)) T v
-
 -- the lease has this serial number
 abbrev pub is_serial : ℕ → Leased → Bool
 is_serial serial lease = lease.serial == serial
@@ -88,6 +76,20 @@ is_serial serial lease = lease.serial == serial
 -- the lease of a serial number, if it is there
 abbrev pub lease_of : ℕ → DataEnvironment → Option Leased
 lease_of serial e = find (is_serial serial) e.leases
+
+-- the block is lent, and its lease is the last one, with a number that no other lease has; memory may be lacking before
+-- all else
+abbrev pub CameOfLoan : DataEnvironment → Call Leased → Result Verdict Fault → Told → DataEnvironment → Type 0
+CameOfLoan e call (Err fault) T v = T (Err (OfTable fault)) × (v ≡ e)
+CameOfLoan e call (Ok Idle) T v = ⊥
+CameOfLoan e call (Ok (Makes event)) T v =
+    T (Ok (number_in (reply_in event e.world)))
+    × (v ≡ record { world = world_after call event e.world; leases = e.leases ++ lent_by (reply_in event e.world) })
+    × (lease_of (number_in (reply_in event e.world)) e ≡ None)
+
+abbrev pub IsLent : DataEnvironment → ℕ → Section → Told → DataEnvironment → Type 0
+IsLent e region section T v =
+    (T (Err (OfTable Memory)) × (v ≡ e)) ⊎ CameOfLoan e (Lend region section) (judge e.world (Lend region section)) T v
 
 -- the leases without the first of a serial number
 abbrev pub leases_without : ℕ → List Leased → List Leased
@@ -106,15 +108,6 @@ IsGathered e serial T v =
     MatchOption (lease_of serial e)
     (T (Err (OfTable (NoLease serial))) × (v ≡ e))
     (λ lease. CameOfLease e serial (Gather lease) (judge e.world (Gather lease)) T v)
-
--- a lease of no bytes, which stands for one that is on its way back
-abbrev pub lease_of_nothing : Leased
-lease_of_nothing = record { device = 0; serial = 0; block = 0; offset = 0; len = 0; bytes = [] }
-
--- the lease of a call that came back, or what stood in its place
-abbrev pub lease_in : Call Leased → Leased → Leased
-lease_in (Gather lease) old = lease
-lease_in _ old = old
 
 -- ---- handles
 

@@ -1,5 +1,6 @@
 pub mod Held
 pub mod Environments
+pub mod Keeps
 pub mod Statuses
 pub mod Clauses
 pub mod Answers

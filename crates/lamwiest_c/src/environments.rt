@@ -11,36 +11,44 @@ ghost use Rattle.lamwiest_c.specs.Answers.{number_in, IsMadeIn, IsAsked, IsDirec
 use crate::items::{RawItem, items_of, queue_of};
 use crate::statuses::Refusal;
 use acc_base::{Config, Directive, List};
+use acc_index::Index;
 use acc_lend::Lease;
-use acc_table::{Call, Reply, Table, abandon, abandon_all};
+use acc_table::{Call, Reply, Table, abandon};
 use std::alloc::Global;
-use std::collections::VecDeque;
 use std::marker::Model;
+
+/// A lease that a table keeps. Where it is let go its block stays lent for good.
+pub struct KeptLease {
+    pub(crate) lease: Lease,
+}
+
+impl Drop for KeptLease {
+    fn drop(self) {
+        let KeptLease { lease } = self;
+        lease.abandon();
+    }
+}
 
 /// A table, and the leases of the blocks that it has lent, in the order in which they were lent. C names a lease by its
 /// serial number, so that none is lost, and none is spent twice.
 ///
 /// Contracts see the table's world and what the leases hold.
+#[derive(Drop)]
 pub struct TableWithLeases {
     pub(crate) table: Table,
-    // A ring, so that the oldest lease comes back without a move of the others.
-    pub(crate) leases: VecDeque<Lease>,
+    // By serial number, so that a lease comes back without a move of the others.
+    pub(crate) leases: Index<KeptLease>,
 }
 
 impl Model for TableWithLeases {
     ghost use Rattle.lamwiest_c.specs.Environments.{DataEnvironment};
+    ghost use Rattle.lamwiest_c.specs.Keeps.{leases_in, AreKept};
 
     ghost Value = { DataEnvironment };
 
-    ghost view = { λ e. record { world = e.table; leases = e.leases.items } };
-}
+    ghost view = { λ e. record { world = e.table; leases = leases_in e.leases.entries } };
 
-impl Drop for TableWithLeases {
-    fn drop(self) {
-        let TableWithLeases { table, leases } = self;
-        abandon_all(leases.into_vec());
-        drop(table);
-    }
+    ghost invariant = { λ e. AreKept e.table e.leases.entries };
 }
 
 /// The number of a reply. A lease in it is abandoned.
@@ -73,7 +81,7 @@ impl TableWithLeases {
         let table = Table::new(alloc, config)?;
         Ok(TableWithLeases {
             table,
-            leases: VecDeque::new(alloc),
+            leases: Index::new(alloc),
         })
     }
 

@@ -1,94 +1,92 @@
 //! Loans of blocks to kernels: a block is lent, the bytes of its lease are read and written, and it is brought back.
 
-ghost use Rattle.std.specs.Prelude.{◌≡◌, ◌+◌, ◌<◌, ◌≤◌, ◌++◌, OnOk, OnErr, slice_index_or, slice_set};
-ghost use Rattle.std.specs.VecDeque.{deque_len, deque_capacity};
-ghost use Rattle.std.specs.List.{position};
-ghost use Rattle.acc_table.specs.Turns.{lent_by};
+ghost use Rattle.std.specs.Prelude.{◌≡◌, ◌<◌, ◌≤◌, ◌++◌, IsSome, IfErr, OnOk, OnErr, MatchOption, None, Some};
+ghost use Rattle.std.specs.List.{AllByRecursion};
+ghost use Rattle.acc_base.specs.declared.faults.Fault.TheVariants.{Memory};
+ghost use Rattle.acc_index.specs.Indexed.{value_at, with_other};
 ghost use Rattle.lamwiest_c.specs.Statuses.{IsAnswered, IsNumberAnswered};
-ghost use Rattle.lamwiest_c.specs.Answers.{number_in, is_serial, lease_of_nothing, lease_in, section_at, IsLent, IsGathered, IsOf};
+ghost use Rattle.lamwiest_c.specs.Answers.{number_in, section_at, IsLent, IsGathered, IsOf};
 ghost use Rattle.lamwiest_c.specs.Leases.{IsLeaseRead, IsLeaseWritten};
+ghost use Rattle.lamwiest_c.specs.Keeps.{kept, lease_of_nothing, entries_by, restored};
 
-use crate::environments::{TableWithLeases, number_in};
+use crate::environments::{KeptLease, TableWithLeases, number_in};
 use crate::handles::{Handle, put_back, take_out};
 use crate::statuses::{FaultFields, Refusal, tell, tell_number};
 use acc_base::{Fault, Section};
+use acc_index::Index;
 use acc_lend::Lease;
 use acc_table::{Call, Reply, abandon};
-use std::alloc::{AllocError, Global};
-use std::collections::VecDeque;
+use std::alloc::Global;
 use std::mem;
 
-/// The place of a lease in a row, by its serial number.
-fn place_in(leases: &[Lease], serial: u64) -> Option<usize>
-    ensures { result ≡ position (is_serial serial) leases.now }
-{
-    leases.iter().position(|lease| lease.serial() == serial)
-}
-
-/// The place of a lease in the list, which lies in two rows one behind the other.
-fn place_of(leases: &VecDeque<Lease>, serial: u64) -> Option<usize>
-    ensures { result ≡ position (is_serial serial) leases.now.items }
-{
-    let (front, back) = leases.as_slices();
-    if let Some(at) = place_in(front, serial) {
-        return Some(at);
-    }
-    let at = place_in(back, serial)?;
-    Some(front.len() + at)
-}
-
-/// Makes a place for one lease more at the end of the list.
+/// Makes room for one lease more.
 ///
 /// # Errors
 ///
-/// Where there is no memory for it, and only where each place that the list had is taken.
-fn make_place(leases: &mut VecDeque<Lease>) -> Result<(), AllocError>
-    ensures same { leases.new.items ≡ leases.old.items }
-    ensures len { deque_len leases.new ≡ deque_len leases.old }
-    ensures place { OnOk result (deque_len leases.new + 1 ≤ deque_capacity leases.new) }
-    ensures needed { OnErr result (deque_capacity leases.old ≤ deque_len leases.old) }
+/// Where there is no memory for it, and only where that room was missing.
+fn make_place(leases: &mut Index<KeptLease>) -> Result<(), Fault>
+    ensures same { leases.new.entries ≡ leases.old.entries }
+    ensures place { OnOk result (1 ≤ leases.new.room) }
+    ensures needed { OnErr result (leases.old.room < 1) }
+    ensures only { IfErr result (λ fault. fault ≡ Memory) }
 {
     leases.reserve(1)
 }
 
-/// Takes the lease at a place out of the list. One of no bytes stands there until it comes back.
-fn take_lease(alloc: Global, leases: &mut VecDeque<Lease>, at: usize) -> Lease
-    requires { at < deque_len leases.old }
-    ensures value { result ≡ slice_index_or leases.old.items at result }
-    ensures left { leases.new.items ≡ slice_set leases.old.items at lease_of_nothing }
-    ensures len { deque_len leases.new ≡ deque_len leases.old }
-{
-    let nothing = Lease::of(0, 0, 0, 0, Vec::new(alloc), 0);
-    mem::replace(&mut leases[at], nothing)
-}
-
-/// Puts the lease of a call that came back at its place.
-fn restore(call: Call, leases: &mut VecDeque<Lease>, at: usize)
-    requires { at < deque_len leases.old }
-    ensures { leases.new.items ≡ slice_set leases.old.items at (lease_in call (slice_index_or leases.old.items at lease_of_nothing)) }
-{
-    match call {
-        Call::Gather(lease) => mem::replace(&mut leases[at], lease).abandon(),
-        Call::Do(_) | Call::HostWrite { .. } | Call::Lend { .. } => abandon(call),
-    }
-}
-
-/// Puts the lease of a reply at the end of the list, where there is room for it, and returns the number of the reply.
-fn keep(reply: Reply, leases: &mut VecDeque<Lease>) -> u64
-    requires room { deque_len leases.old + 1 ≤ deque_capacity leases.old }
+/// Puts the lease of a reply behind the others, where there is room for it, and returns the number of the reply.
+fn keep(reply: Reply, leases: &mut Index<KeptLease>) -> u64
+    requires above { AllByRecursion (λ e. e.0 < number_in reply) leases.old.entries }
+    requires room { 1 ≤ leases.old.room }
     ensures value { result ≡ number_in reply }
-    ensures leases { leases.new.items ≡ leases.old.items ++ lent_by reply }
+    ensures leases { leases.new.entries ≡ leases.old.entries ++ entries_by reply }
 {
     match reply {
         Reply::Lease(lease) => {
             let serial = lease.serial();
-            leases.push_back_reserved(lease);
+            leases.push(serial, KeptLease { lease });
             serial
         }
         Reply::Done => 1,
         Reply::Entered { number } => number,
         Reply::Drained { count } => count,
         Reply::Idle => 0,
+    }
+}
+
+/// Puts a lease in the place of that of a serial number, which it returns. The number is looked for at a place first.
+fn exchange(leases: &mut Index<KeptLease>, serial: u64, place: usize, lease: Lease) -> Lease
+    requires { IsSome (value_at serial leases.old.entries) }
+    ensures value { value_at serial leases.old.entries ≡ Some (kept result) }
+    ensures leases { leases.new.entries ≡ with_other serial (kept lease) leases.old.entries }
+{
+    let own = leases.value_mut_near(serial, place);
+    mem::replace(&mut own.lease, lease)
+}
+
+/// Takes the lease of a serial number, if it is there. One of no bytes stands in its place until it comes back.
+fn take_lease(
+    alloc: Global,
+    leases: &mut Index<KeptLease>,
+    serial: u64,
+    place: usize,
+) -> Option<Lease>
+    ensures { MatchOption result ((value_at serial leases.old.entries ≡ None) × (leases.new.entries ≡ leases.old.entries)) (λ lease. (value_at serial leases.old.entries ≡ Some (kept lease)) × (leases.new.entries ≡ with_other serial (kept lease_of_nothing) leases.old.entries)) }
+{
+    if leases.get_near(serial, place).is_none() {
+        return None;
+    }
+    let nothing = Lease::of(0, 0, 0, 0, Vec::new(alloc), 0);
+    Some(exchange(leases, serial, place, nothing))
+}
+
+/// Puts the lease of a call that came back at its place.
+fn restore(call: Call, leases: &mut Index<KeptLease>, serial: u64, place: usize)
+    requires { IsSome (value_at serial leases.old.entries) }
+    ensures { leases.new.entries ≡ restored call serial leases.old.entries }
+{
+    match call {
+        Call::Gather(lease) => exchange(leases, serial, place, lease).abandon(),
+        Call::Do(_) | Call::HostWrite { .. } | Call::Lend { .. } => abandon(call),
     }
 }
 
@@ -111,20 +109,18 @@ impl TableWithLeases {
     fn gather(&mut self, alloc: Global, serial: u64) -> Result<u64, Refusal>
         ensures { IsGathered self.old serial (λ r. result ≡ r) self.new }
     {
-        let Some(at) = place_of(&self.leases, serial) else {
+        self.leases.laws();
+        let place = self.leases.place(serial);
+        let Some(lease) = take_lease(alloc, &mut self.leases, serial, place) else {
             return Err(Refusal::OfTable(Fault::NoLease { serial }));
         };
-        let lease = take_lease(alloc, &mut self.leases, at);
         match self.table.apply(Call::Gather(lease)) {
             Ok(reply) => {
-                let Some(nothing) = self.leases.remove(at) else {
-                    unreachable!()
-                };
-                nothing.abandon();
+                drop(self.leases.take_out_near(serial, place));
                 Ok(number_in(reply))
             }
             Err((call, fault)) => {
-                restore(call, &mut self.leases, at);
+                restore(call, &mut self.leases, serial, place);
                 Err(Refusal::OfTable(fault))
             }
         }
@@ -134,10 +130,10 @@ impl TableWithLeases {
     fn lease_read(&self, serial: u64, into: &mut [u8]) -> Result<u64, Refusal>
         ensures { IsLeaseRead self.now serial into.old into.new (λ r. result ≡ r) }
     {
-        let Some(at) = place_of(&self.leases, serial) else {
+        let Some(own) = self.leases.get(serial) else {
             return Err(Refusal::OfTable(Fault::NoLease { serial }));
         };
-        let bytes = self.leases[at].bytes();
+        let bytes = own.lease.bytes();
         let len = bytes.len() as u64;
         if into.len() != bytes.len() {
             return Err(Refusal::BadLength { len });
@@ -150,14 +146,17 @@ impl TableWithLeases {
     fn lease_write(&mut self, serial: u64, bytes: &[u8]) -> Result<u64, Refusal>
         ensures { IsLeaseWritten self.old serial bytes.now (λ r. result ≡ r) self.new }
     {
-        let Some(at) = place_of(&self.leases, serial) else {
+        self.leases.laws();
+        let place = self.leases.place(serial);
+        let Some(own) = self.leases.get_near(serial, place) else {
             return Err(Refusal::OfTable(Fault::NoLease { serial }));
         };
-        let len = self.leases[at].len() as u64;
+        let len = own.lease.len() as u64;
         if bytes.len() as u64 != len {
             return Err(Refusal::BadLength { len });
         }
-        self.leases[at].overwrite(bytes);
+        let own = self.leases.value_mut_near(serial, place);
+        own.lease.overwrite(bytes);
         Ok(len)
     }
 }

@@ -1,0 +1,42 @@
+-- How the leases of a table are kept: by serial number. No contract of a call for C cites this module.
+use Rattle.std.specs.Prelude.{ℕ, ◌≡◌, ◌<◌, List, [], ◌∷◌, map}
+use Rattle.std.specs.List.{AllByRecursion}
+use Rattle.acc_base.specs.declared.calls.Call.{Call}
+use Rattle.acc_base.specs.declared.calls.Call.TheVariants.{Gather}
+use Rattle.acc_base.specs.Loans.{Leased}
+use Rattle.acc_base.specs.Calls.{World}
+use Rattle.acc_index.specs.Indexed.{with_other}
+use Rattle.acc_table.specs.declared.calls.Reply.{Reply}
+use Rattle.acc_table.specs.declared.calls.Reply.TheVariants as replies
+use Rattle.lamwiest_c.specs.declared.environments.KeptLease.{KeptLease}
+
+-- leases with the numbers under which they are kept
+abbrev pub Entries : Type 0
+Entries = List (ℕ × KeptLease)
+
+abbrev pub leases_in : Entries → List Leased
+leases_in entries = map (λ (e : ℕ × KeptLease). e.1.lease) entries
+
+-- the number is the lease's serial number, and below that of the next loan
+abbrev pub IsKept : ℕ → ℕ × KeptLease → Type 0
+IsKept next e = (e.0 ≡ e.1.lease.serial) × (e.0 < next)
+
+abbrev pub AreKept : World → Entries → Type 0
+AreKept w entries = AllByRecursion (IsKept w.state.serial) entries
+
+abbrev pub kept : Leased → KeptLease
+kept lease = record { lease = lease }
+
+-- a lease of no bytes, which stands for one that is on its way back
+abbrev pub lease_of_nothing : Leased
+lease_of_nothing = record { device = 0; serial = 0; block = 0; offset = 0; len = 0; bytes = [] }
+
+-- the lease that is replied, if one is, under its serial number
+abbrev pub entries_by : Reply → Entries
+entries_by (replies.Lease lease) = (lease.serial, kept lease) ∷ []
+entries_by _ = []
+
+-- the lease of a call that came back stands under this number
+abbrev pub restored : Call Leased → ℕ → Entries → Entries
+restored (Gather lease) serial entries = with_other serial (kept lease) entries
+restored _ serial entries = entries

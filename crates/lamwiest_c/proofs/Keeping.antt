@@ -1,6 +1,6 @@
 -- The leases that a table keeps stand by serial number, each below that of the next loan.
-use Rattle.std.proofs.Common.{ℕ, suc, ◌≡◌, ◌<◌, ◌≤◌, ◌+◌, refl, sym, ap, subst, ◌∙◌, cond, arith, List, [], ◌∷◌, ◌++◌, Option, Some, None, IsSome, Result, Ok, Err}
-use Rattle.std.specs.Prelude.{Bool, true, false, find, filter, map, option_map, not, ◌==◌, slice_set, MatchResult, IfOk, IfErr}
+use Rattle.std.proofs.Common.{ℕ, suc, ◌≡◌, ◌<◌, ◌≤◌, ◌+◌, refl, sym, ap, subst, ◌∙◌, cond, arith, List, [], ◌∷◌, ◌++◌, Some, None, IsSome, Result, Ok, Err}
+use Rattle.std.specs.Prelude.{Bool, true, false, find, option_map, not, ◌==◌, slice_set, MatchResult, IfOk, IfErr}
 use Rattle.std.specs.List.{AllByRecursion, position_or_len, remove}
 use Rattle.std.proofs.lemmas.Bool.Decides.{nat_tests}
 use Rattle.acc_base.specs.declared.items.Section.{Section}
@@ -27,7 +27,7 @@ use Rattle.acc_table.specs.Turns.{lent_by}
 use Rattle.acc_table.proofs.Replying.{made_of}
 use Rattle.lamwiest_c.specs.declared.environments.KeptLease.{KeptLease}
 use Rattle.lamwiest_c.specs.Answers.{number_in, is_serial, leases_without}
-use Rattle.lamwiest_c.specs.Keeps.{Entries, leases_in, IsKept, AreKept, kept, entries_by}
+use Rattle.lamwiest_c.specs.Keeps.{Entries, leases_in, IsKept, AreKept, entries_by}
 use Rattle.lamwiest_c.specs.Leases.{leases_with}
 
 -- ---- the serial number of the next loan

@@ -1,4 +1,4 @@
-use Rattle.std.proofs.Common.{ℕ, ◌≡◌, ◌∙◌, refl, sym, ap, subst, List, IsSome, None, Some, Ok, Err}
+use Rattle.std.proofs.Common.{ℕ, ◌≡◌, ◌∙◌, refl, sym, ap, subst, IsSome, None, Some, Ok, Err}
 use Rattle.acc_base.specs.declared.calls.Call.{Call}
 use Rattle.acc_base.specs.declared.calls.Call.TheVariants.{Gather}
 use Rattle.acc_base.specs.declared.faults.Fault.TheVariants.{NoLease}
@@ -6,7 +6,7 @@ use Rattle.acc_base.specs.Loans.{Leased}
 use Rattle.acc_index.specs.Indexed.{IsIndexRising, value_at, without_number, with_other}
 use Rattle.lamwiest_c.specs.declared.statuses.Refusal.TheVariants.{OfTable}
 use Rattle.lamwiest_c.specs.Environments.{DataEnvironment}
-use Rattle.lamwiest_c.specs.Keeps.{Entries, AreKept, leases_in, kept, lease_of_nothing, restored}
+use Rattle.lamwiest_c.specs.Keeps.{Entries, leases_in, kept, lease_of_nothing, restored}
 use Rattle.lamwiest_c.specs.Answers.{Told, lease_of, leases_without, IsGathered}
 use Rattle.lamwiest_c.proofs.Keeping.{kept_done, kept_without, found_kept, none_kept, leases-without, other_there, without_other, other_back}
 use Rattle.lamwiest_c.proofs.Leasing.{done_gathered, refused_gathered, none_gathered}

@@ -1,4 +1,4 @@
-use Rattle.std.proofs.Common.{◌≡◌, ◌∙◌, refl, sym, ap, subst, length, None, Some, Ok, Err}
+use Rattle.std.proofs.Common.{◌≡◌, ◌∙◌, refl, subst, length, None, Some, Ok, Err}
 use Rattle.acc_base.specs.declared.faults.Fault.TheVariants.{NoLease}
 use Rattle.lamwiest_c.specs.declared.statuses.Refusal.TheVariants.{BadLength, OfTable}
 use Rattle.lamwiest_c.specs.Environments.{DataEnvironment}

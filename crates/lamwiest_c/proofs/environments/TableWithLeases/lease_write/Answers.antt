@@ -2,7 +2,7 @@ use Rattle.std.proofs.Common.{◌≡◌, ◌∙◌, refl, sym, ap, subst, IsSome
 use Rattle.acc_base.specs.declared.faults.Fault.TheVariants.{NoLease}
 use Rattle.std.proofs.lemmas.Option.{same_Some}
 use Rattle.acc_base.specs.Loans.{Leased}
-use Rattle.acc_index.specs.Indexed.{value_at, with_other}
+use Rattle.acc_index.specs.Indexed.{with_other}
 use Rattle.acc_lend.specs.Loans.{with_section}
 use Rattle.lamwiest_c.specs.declared.statuses.Refusal.TheVariants.{BadLength, OfTable}
 use Rattle.lamwiest_c.specs.declared.environments.KeptLease.{KeptLease}

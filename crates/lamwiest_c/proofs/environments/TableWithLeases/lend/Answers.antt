@@ -1,13 +1,11 @@
-use Rattle.std.proofs.Common.{◌≡◌, ◌∙◌, ◌++◌, ap, subst, inl, List, Ok, Err, None}
+use Rattle.std.proofs.Common.{◌≡◌, ◌∙◌, ◌++◌, ap, subst, inl, Ok, Err, None}
 use Rattle.std.proofs.lemmas.Result.{err_from_is_err_and}
 use Rattle.acc_base.specs.declared.faults.Fault.{Fault}
 use Rattle.acc_base.specs.declared.faults.Fault.TheVariants.{Memory}
-use Rattle.acc_base.specs.Loans.{Leased}
-use Rattle.acc_base.specs.Calls.{World}
 use Rattle.acc_table.specs.Turns.{lent_by}
 use Rattle.lamwiest_c.specs.declared.statuses.Refusal.TheVariants.{OfTable}
 use Rattle.lamwiest_c.specs.Environments.{DataEnvironment}
-use Rattle.lamwiest_c.specs.Keeps.{Entries, AreKept, leases_in, entries_by}
+use Rattle.lamwiest_c.specs.Keeps.{Entries, leases_in, entries_by}
 use Rattle.lamwiest_c.specs.Answers.{Told, number_in, lease_of, IsLent}
 use Rattle.lamwiest_c.proofs.Leasing.{done_lent}
 use Rattle.lamwiest_c.proofs.Keeping.{loan_numbered, kept_below, kept_more, leases-more, number_new}

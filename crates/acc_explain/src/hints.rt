@@ -1,7 +1,7 @@
 //! What to write in place of what was found.
 
 use crate::readers::Reader;
-use crate::routines::{ROUTINES, WORDS};
+use crate::routines::{Advice, QUESTIONS, ROUTINES, WORDS};
 use crate::tokens::{Token, nth_bytes};
 use acc_base::ScriptFault;
 use acc_read::{Page, is_text};
@@ -63,8 +63,9 @@ fn put_syntax_hint(page: &mut Page, finding: Finding<'_>) -> bool {
         page.text("an option stands once");
         return true;
     }
-    if let Some(advice) = advice_of(finding) {
-        page.text(advice);
+    if let Some((first, second)) = advice_of(finding) {
+        page.text(first);
+        page.text(second);
         return true;
     }
     match finding.found() {
@@ -82,21 +83,27 @@ fn put_syntax_hint(page: &mut Page, finding: Finding<'_>) -> bool {
     }
 }
 
-/// The advice for a word of OpenACC that scripts do not have there.
-fn advice_of(finding: Finding<'_>) -> Option<&'static str> {
+/// The advice for a word of OpenACC that scripts do not have there, in two parts.
+fn advice_of(finding: Finding<'_>) -> Option<(&'static str, &'static str)> {
     let found = finding.found();
     if finding.nth == 0 {
-        for (routine, advice) in ROUTINES {
-            if found == routine.as_bytes() {
-                return Some(*advice);
-            }
+        if let Some(directive) = advice_in(ROUTINES, found) {
+            return Some(("a script has directives: ", directive));
+        }
+        if let Some(question) = advice_in(QUESTIONS, found) {
+            return Some(("a script asks: ", question));
         }
         if found.starts_with(b"acc_") {
-            return Some("a script has directives, and no routines");
+            return Some(("a script has directives, and no routines", ""));
         }
     }
-    for (word, advice) in WORDS {
-        if found == word.as_bytes() {
+    Some((advice_in(WORDS, found)?, ""))
+}
+
+/// The advice that a list has for a word.
+fn advice_in(list: &[Advice], found: &[u8]) -> Option<&'static str> {
+    for (words, advice) in list {
+        if words.split(' ').any(|word| word.as_bytes() == found) {
             return Some(*advice);
         }
     }

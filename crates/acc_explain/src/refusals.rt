@@ -1,8 +1,5 @@
 //! Why a statement was refused.
 
-#[cfg(test)]
-mod tests;
-
 use crate::sources::put_cause;
 use acc_base::{Directive, Fault, Found, Free, HOST_BASE, Item, List, QUEUE_COUNT, Section};
 use acc_read::{Names, Page, ScriptKernel, Statement};

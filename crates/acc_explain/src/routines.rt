@@ -1,94 +1,36 @@
 //! Words of OpenACC that scripts do not have, and the advice for each.
 
-/// A word, and the advice where it stands in a line at fault.
-type Advice = (&'static str, &'static str);
+/// Words with blanks between them, and the advice where one of them stands in a line at fault.
+pub type Advice = (&'static str, &'static str);
 
-/// The routines of OpenACC 3.3, section 3.2, that move data, and the statements that do the same.
+/// The routines of OpenACC 3.3, section 3.2, that move data, and the directives that do the same.
 pub const ROUTINES: &[Advice] = &[
-    (
-        "acc_copyin",
-        "a script has directives: enter data copyin(REF)",
-    ),
-    (
-        "acc_copyin_async",
-        "a script has directives: enter data copyin(REF) async(QUEUE)",
-    ),
-    (
-        "acc_create",
-        "a script has directives: enter data create(REF)",
-    ),
-    (
-        "acc_create_async",
-        "a script has directives: enter data create(REF) async(QUEUE)",
-    ),
-    (
-        "acc_copyout",
-        "a script has directives: exit data copyout(REF)",
-    ),
-    (
-        "acc_copyout_async",
-        "a script has directives: exit data copyout(REF) async(QUEUE)",
-    ),
-    (
-        "acc_copyout_finalize",
-        "a script has directives: exit data copyout(REF) finalize",
-    ),
-    (
-        "acc_delete",
-        "a script has directives: exit data delete(REF)",
-    ),
-    (
-        "acc_delete_async",
-        "a script has directives: exit data delete(REF) async(QUEUE)",
-    ),
-    (
-        "acc_delete_finalize",
-        "a script has directives: exit data delete(REF) finalize",
-    ),
-    (
-        "acc_update_device",
-        "a script has directives: update device(REF)",
-    ),
-    (
-        "acc_update_device_async",
-        "a script has directives: update device(REF) async(QUEUE)",
-    ),
-    (
-        "acc_update_self",
-        "a script has directives: update self(REF)",
-    ),
-    (
-        "acc_update_self_async",
-        "a script has directives: update self(REF) async(QUEUE)",
-    ),
-    (
-        "acc_attach",
-        "a script has directives: enter data attach(PLACE)",
-    ),
-    (
-        "acc_attach_async",
-        "a script has directives: enter data attach(PLACE)",
-    ),
-    (
-        "acc_detach",
-        "a script has directives: exit data detach(PLACE)",
-    ),
-    (
-        "acc_detach_async",
-        "a script has directives: exit data detach(PLACE)",
-    ),
-    (
-        "acc_detach_finalize",
-        "a script has directives: exit data detach(PLACE) finalize",
-    ),
-    (
-        "acc_set_device_num",
-        "a script has directives: set device_num(N)",
-    ),
-    ("acc_wait", "a script has directives: wait(QUEUE)"),
-    ("acc_wait_all", "a script has directives: wait"),
-    ("acc_is_present", "a script asks: present REF"),
-    ("acc_deviceptr", "a script asks: address PLACE"),
+    ("acc_copyin", "enter data copyin(REF)"),
+    ("acc_copyin_async", "enter data copyin(REF) async(QUEUE)"),
+    ("acc_create", "enter data create(REF)"),
+    ("acc_create_async", "enter data create(REF) async(QUEUE)"),
+    ("acc_copyout", "exit data copyout(REF)"),
+    ("acc_copyout_async", "exit data copyout(REF) async(QUEUE)"),
+    ("acc_copyout_finalize", "exit data copyout(REF) finalize"),
+    ("acc_delete", "exit data delete(REF)"),
+    ("acc_delete_async", "exit data delete(REF) async(QUEUE)"),
+    ("acc_delete_finalize", "exit data delete(REF) finalize"),
+    ("acc_update_device", "update device(REF)"),
+    ("acc_update_device_async", "update device(REF) async(QUEUE)"),
+    ("acc_update_self", "update self(REF)"),
+    ("acc_update_self_async", "update self(REF) async(QUEUE)"),
+    ("acc_attach acc_attach_async", "enter data attach(PLACE)"),
+    ("acc_detach acc_detach_async", "exit data detach(PLACE)"),
+    ("acc_detach_finalize", "exit data detach(PLACE) finalize"),
+    ("acc_set_device_num", "set device_num(N)"),
+    ("acc_wait", "wait(QUEUE)"),
+    ("acc_wait_all", "wait"),
+];
+
+/// The routines that ask, and the statements that do the same.
+pub const QUESTIONS: &[Advice] = &[
+    ("acc_is_present", "present REF"),
+    ("acc_deviceptr", "address PLACE"),
 ];
 
 /// Words of directives that stand elsewhere in scripts, or not at all.
@@ -119,15 +61,7 @@ pub const WORDS: &[Advice] = &[
         "via stands behind a REF of data, enter data and exit data",
     ),
     (
-        "parallel",
-        "a script has four kernels in place of compute constructs: kernel add 1 REF",
-    ),
-    (
-        "kernels",
-        "a script has four kernels in place of compute constructs: kernel add 1 REF",
-    ),
-    (
-        "serial",
+        "parallel kernels serial",
         "a script has four kernels in place of compute constructs: kernel add 1 REF",
     ),
     (
@@ -135,11 +69,7 @@ pub const WORDS: &[Advice] = &[
         "a script has four kernels in place of loops: kernel add 1 REF",
     ),
     (
-        "host_data",
-        "a script has no host_data; address PLACE prints a device address",
-    ),
-    (
-        "use_device",
+        "host_data use_device",
         "a script has no host_data; address PLACE prints a device address",
     ),
     (
@@ -167,11 +97,7 @@ pub const WORDS: &[Advice] = &[
     ("device", "device stands in update"),
     ("device_num", "device_num stands in set"),
     (
-        "device_type",
-        "devices have no types; their number chooses one: set device_num(N)",
-    ),
-    (
-        "dtype",
+        "device_type dtype",
         "devices have no types; their number chooses one: set device_num(N)",
     ),
     ("default_async", "async without a number is for queue 0"),

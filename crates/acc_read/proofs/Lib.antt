@@ -6,6 +6,5 @@ pub mod Wanting
 pub mod ByteWords
 pub mod ShortNames
 pub mod NameEntries
-pub mod Enough
 pub mod ByteRuns
 pub mod PlainLines

@@ -45,14 +45,6 @@ impl<R: Read + Drop> FromRead<R> {
             failures: 0,
         }
     }
-
-    /// Shows what holds of every such source: once it met its end, it has nothing left. It does nothing.
-    #[tactic(auto, using(crate::proofs::Rejoins::ends_empty))]
-    pub fn laws(&self)
-        ensures { EndsEmpty self.now }
-    {
-        let _ = &self.ended;
-    }
 }
 
 impl<R: Read + Drop> Source for FromRead<R> {

@@ -147,11 +147,6 @@ fn put_counter(page: &mut Page, names: &Names, attached: Attachment) {
 
 /// The number of the row that has a device address, from 0 on, where rows lie by rising address.
 pub fn row_at(rows: &[DeviceRow], address: u64) -> Option<usize> {
-    let mut found = None;
-    for (nth, row) in rows.iter().enumerate() {
-        if row.place() <= address {
-            found = Some(nth);
-        }
-    }
-    found
+    let behind = rows.iter().take_while(|row| row.place() <= address).count();
+    behind.checked_sub(1)
 }

@@ -63,12 +63,11 @@ fn put_kept_line(page: &mut Page, scene: &DevicePicture, stretch: Stretch) {
     }
 }
 
+/// The number of the part that has an address, from 0 on, where parts lie by rising address.
 fn part_at(parts: &[Part], address: u64) -> Option<usize> {
-    let mut found = None;
-    for (nth, part) in parts.iter().enumerate() {
-        if part.section.start <= address {
-            found = Some(nth);
-        }
-    }
-    found
+    let behind = parts
+        .iter()
+        .take_while(|part| part.section.start <= address)
+        .count();
+    behind.checked_sub(1)
 }

@@ -77,81 +77,59 @@ fn add_copies(
 }
 
 fn add_event(event: &Event, number: u64, copies: &mut Vec<Queued>) -> Result<(), AllocError> {
-    for nth in 0..count_in(event, number) {
-        if let Some(copy) = copy_in(event, nth) {
-            copies.push(copy)?;
+    let into = Some(number);
+    match event {
+        Event::EnteredData { items, queue, .. } if *queue == into => {
+            add_made(items.as_slice(), event.did(), copies)
+        }
+        Event::ExitedData { items, queue, .. } if *queue == into => {
+            add_made(items.as_slice(), event.did(), copies)
+        }
+        Event::Updated { items, queue, .. } if *queue == into => {
+            add_made(items.as_slice(), event.did(), copies)
+        }
+        _ => Ok(()),
+    }
+}
+
+/// Adds the copies that the items of an event made.
+fn add_made<C: CopyingClause>(
+    items: &[Item<C>],
+    did: &[Did],
+    copies: &mut Vec<Queued>,
+) -> Result<(), AllocError> {
+    for (item, did) in items.iter().zip(did) {
+        if let Some(out) = item.clause.copies_out_by(did.step) {
+            let section = item.section;
+            copies.push(Queued { section, out })?;
         }
     }
     Ok(())
 }
 
-/// How many items an event has whose copies go into a queue.
-fn count_in(event: &Event, number: u64) -> usize {
-    let into = Some(number);
-    match event {
-        Event::EnteredData { queue, did, .. } if *queue == into => did.as_slice().len(),
-        Event::ExitedData { queue, did, .. } if *queue == into => did.as_slice().len(),
-        Event::Updated { queue, did, .. } if *queue == into => did.as_slice().len(),
-        _ => 0,
+/// A clause whose copies may be put into a queue.
+trait CopyingClause: Copy {
+    /// Whether the copy that it makes by a step is one to host memory; `None` where it makes none.
+    fn copies_out_by(self, step: Step) -> Option<bool>;
+}
+
+impl CopyingClause for EnterClause {
+    fn copies_out_by(self, step: Step) -> Option<bool> {
+        let is_made = self.as_region().copies_in() && matches!(step, Step::Born { .. });
+        is_made.then_some(false)
     }
 }
 
-fn copy_in(event: &Event, nth: usize) -> Option<Queued> {
-    match event {
-        Event::EnteredData { items, did, .. } => {
-            entered(items.as_slice().get(nth), did.as_slice().get(nth))
-        }
-        Event::ExitedData { items, did, .. } => {
-            exited(items.as_slice().get(nth), did.as_slice().get(nth))
-        }
-        Event::Updated { items, did, .. } => {
-            updated(items.as_slice().get(nth), did.as_slice().get(nth))
-        }
-        _ => None,
+impl CopyingClause for ExitClause {
+    fn copies_out_by(self, step: Step) -> Option<bool> {
+        let is_made = self.copies_out() && matches!(step, Step::Dropped { ended: true, .. });
+        is_made.then_some(true)
     }
 }
 
-fn entered(item: Option<&Item<EnterClause>>, did: Option<&Did>) -> Option<Queued> {
-    let Item {
-        clause,
-        section,
-        ..
-    } = *item?;
-    match (clause, did?.step) {
-        (EnterClause::Copyin, Step::Born { .. }) => Some(Queued {
-            section,
-            out: false,
-        }),
-        _ => None,
-    }
-}
-
-fn exited(item: Option<&Item<ExitClause>>, did: Option<&Did>) -> Option<Queued> {
-    let Item {
-        clause,
-        section,
-        ..
-    } = *item?;
-    match (clause, did?.step) {
-        (ExitClause::Copyout, Step::Dropped { ended, .. }) if ended => {
-            Some(Queued { section, out: true })
-        }
-        _ => None,
-    }
-}
-
-fn updated(item: Option<&Item<UpdateClause>>, did: Option<&Did>) -> Option<Queued> {
-    let Item {
-        clause,
-        section,
-        ..
-    } = *item?;
-    match did?.step {
-        Step::Moved { .. } => Some(Queued {
-            section,
-            out: matches!(clause, UpdateClause::ToSelf),
-        }),
-        _ => None,
+impl CopyingClause for UpdateClause {
+    fn copies_out_by(self, step: Step) -> Option<bool> {
+        matches!(step, Step::Moved { .. }).then_some(self.copies_out())
     }
 }
 

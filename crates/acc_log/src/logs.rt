@@ -241,11 +241,9 @@ impl Log {
     }
 
     fn tell_entry(&mut self, names: &Names, items: &[Item<RegionClause>], did: &[Did]) {
-        for place in 0..items.len() {
-            if let Some((item, did)) = paired(items, did, place) {
-                let told = LogItem::of_region(place, item);
-                self.tell_enter(names, told, Counter::Structured, did);
-            }
+        for (place, (item, did)) in items.iter().zip(did).enumerate() {
+            let told = LogItem::of_region(place, *item);
+            self.tell_enter(names, told, Counter::Structured, *did);
         }
     }
 
@@ -256,11 +254,9 @@ impl Log {
         queue: Option<u64>,
         did: &[Did],
     ) {
-        for place in 0..items.len() {
-            if let Some((item, did)) = paired(items, did, place) {
-                let told = LogItem::of_enter(place, item, queue);
-                self.tell_enter(names, told, Counter::Dynamic, did);
-            }
+        for (place, (item, did)) in items.iter().zip(did).enumerate() {
+            let told = LogItem::of_enter(place, *item, queue);
+            self.tell_enter(names, told, Counter::Dynamic, *did);
         }
     }
 
@@ -277,11 +273,9 @@ impl Log {
         } else {
             Drops::Dynamic
         };
-        for place in 0..items.len() {
-            if let Some((item, did)) = paired(items, did, place) {
-                let told = LogItem::of_exit(place, item, finalize, queue);
-                self.tell_leave(names, told, drops, did);
-            }
+        for (place, (item, did)) in items.iter().zip(did).enumerate() {
+            let told = LogItem::of_exit(place, *item, finalize, queue);
+            self.tell_leave(names, told, drops, *did);
         }
     }
 
@@ -343,11 +337,9 @@ impl Log {
         queue: Option<u64>,
         did: &[Did],
     ) {
-        for place in 0..items.len() {
-            if let Some((item, did)) = paired(items, did, place) {
-                let told = LogItem::of_update(place, item, if_present, queue);
-                self.tell_move(names, told, did.step);
-            }
+        for (place, (item, did)) in items.iter().zip(did).enumerate() {
+            let told = LogItem::of_update(place, *item, if_present, queue);
+            self.tell_move(names, told, did.step);
         }
     }
 
@@ -403,10 +395,6 @@ fn device_of(event: &Event) -> Option<u64> {
         Event::HostWritten { .. } => None,
         _ => Some(event.device()),
     }
-}
-
-fn paired<C: Copy>(items: &[Item<C>], did: &[Did], place: usize) -> Option<(Item<C>, Did)> {
-    Some((*items.get(place)?, *did.get(place)?))
 }
 
 /// Whether a statement has something to print beside events.

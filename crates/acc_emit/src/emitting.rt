@@ -31,7 +31,16 @@ pub fn emit<R: Threads + Wait + Sync + AllocGlobal>(
     until_refusal: bool,
 ) -> Result<Page, EmitFault> {
     let mut emitter = Emitter::new(rt, config)?;
-    emit_lines(rt, &mut emitter, script, until_refusal)?;
+    emit_whole(rt, &mut emitter, script, until_refusal)
+}
+
+fn emit_whole<R: Threads + Wait + Sync + AllocGlobal>(
+    rt: &R,
+    emitter: &mut Emitter,
+    script: &[u8],
+    until_refusal: bool,
+) -> Result<Page, EmitFault> {
+    emit_lines(rt, emitter, script, until_refusal)?;
     Ok(emitter.sheet.whole(rt.alloc())?)
 }
 
@@ -76,15 +85,33 @@ fn emit_line<R: Threads + Wait + Sync + AllocGlobal>(
     line: &[u8],
     until_refusal: bool,
 ) -> Result<bool, EmitFault> {
-    let number = emitter.sheet.line;
-    let statement = read_on(rt.alloc(), &emitter.own, number, line)?;
-    let again = read_on(rt.alloc(), &emitter.twin, number, line)?;
-    let effect = emitter.own.perform(rt, statement)?;
+    let effect = perform(rt, emitter, line)?;
     put_statement(&mut emitter.sheet, line);
-    if let Effect::Refused(fault) = effect {
-        emit_refused(rt.alloc(), emitter, &again, fault, until_refusal)?;
-        return Ok(true);
+    let again = read_on(rt.alloc(), &emitter.twin, emitter.sheet.line, line)?;
+    match effect {
+        Effect::Refused(fault) => emit_refused(rt.alloc(), emitter, &again, fault, until_refusal),
+        _ => emit_done(rt, emitter, line, again, effect),
     }
+}
+
+/// Does a line on the script's own table.
+fn perform<R: Threads + Wait + Sync + AllocGlobal>(
+    rt: &R,
+    emitter: &mut Emitter,
+    line: &[u8],
+) -> Result<Effect, Fault> {
+    let statement = read_on(rt.alloc(), &emitter.own, emitter.sheet.line, line)?;
+    emitter.own.perform(rt, statement)
+}
+
+/// Emits a statement that was done, does it on the twin, and returns that the program goes on.
+fn emit_done<R: Threads + Wait + Sync + AllocGlobal>(
+    rt: &R,
+    emitter: &mut Emitter,
+    line: &[u8],
+    again: Statement<'_>,
+    effect: Effect,
+) -> Result<bool, EmitFault> {
     emit_statement(rt.alloc(), emitter, line, &again, effect)?;
     follow_on_twin(rt, emitter, again)?;
     Ok(false)

@@ -27,34 +27,24 @@ fn plain(word: &'static str) -> Words {
 
 impl WrittenClause for RegionClause {
     fn words(self) -> Words {
-        match self {
-            RegionClause::Copy => plain("copy"),
-            RegionClause::Copyin => plain("copyin"),
-            RegionClause::Copyout { zero } => Words {
-                word: "copyout",
-                zero,
+        Words {
+            word: match self {
+                RegionClause::Copy => "copy",
+                RegionClause::Copyin => "copyin",
+                RegionClause::Copyout { .. } => "copyout",
+                RegionClause::Create { .. } => "create",
+                RegionClause::NoCreate => "no_create",
+                RegionClause::Present => "present",
+                RegionClause::Attach => "",
             },
-            RegionClause::Create { zero } => Words {
-                word: "create",
-                zero,
-            },
-            RegionClause::NoCreate => plain("no_create"),
-            RegionClause::Present => plain("present"),
-            RegionClause::Attach => plain(""),
+            zero: self.is_zeroed(),
         }
     }
 }
 
 impl WrittenClause for EnterClause {
     fn words(self) -> Words {
-        match self {
-            EnterClause::Copyin => plain("copyin"),
-            EnterClause::Create { zero } => Words {
-                word: "create",
-                zero,
-            },
-            EnterClause::Attach => plain(""),
-        }
+        self.as_region().words()
     }
 }
 

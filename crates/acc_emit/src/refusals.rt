@@ -9,8 +9,8 @@ use acc_base::Fault;
 use acc_read::Statement;
 use std::alloc::Global;
 
-/// Emits a statement that is refused, as the last one of the program. The command line has to ask for that, and OpenACC
-/// has to have the refusal too.
+/// Emits a statement that is refused, as the last one of the program, and returns that it is. The command line has to ask
+/// for that, and OpenACC has to have the refusal too.
 ///
 /// # Errors
 ///
@@ -21,7 +21,7 @@ pub fn emit_refused(
     statement: &Statement<'_>,
     fault: Fault,
     until_refusal: bool,
-) -> Result<(), EmitFault> {
+) -> Result<bool, EmitFault> {
     if !until_refusal {
         return Err(emitter.sheet.unfit(Reason::Refused));
     }
@@ -35,7 +35,7 @@ pub fn emit_refused(
     for region in emitter.regions.iter().rev() {
         region.close_blocks(&mut emitter.sheet);
     }
-    Ok(())
+    Ok(true)
 }
 
 /// Whether a refusal is an error of OpenACC (OpenACC 3.3, section 2.7). The others come from limits of the table.

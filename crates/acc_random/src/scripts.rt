@@ -4,6 +4,7 @@ use crate::statements::Statements;
 use acc_base::{Config, Fault};
 use acc_read::{Page, Trouble, line_at};
 use acc_script::Session;
+use std::alloc::Global;
 use std::sync::Wait;
 use std::thread::Threads;
 
@@ -28,29 +29,53 @@ pub fn random_script<R: Threads + Wait + Sync + AllocGlobal>(
     seed: u64,
     lines: u64,
 ) -> Result<Page, Fault> {
+    let mut script = Page::new(rt.alloc());
+    put_script(rt, &mut script, config, seed, lines)?;
+    Ok(script)
+}
+
+/// Puts the script. Its session is boxed, since a function that owns an unboxed one takes long to check.
+fn put_script<R: Threads + Wait + Sync + AllocGlobal>(
+    rt: &R,
+    script: &mut Page,
+    config: Config,
+    seed: u64,
+    lines: u64,
+) -> Result<(), Fault> {
     let mut draft = ScriptDraft {
-        session: Session::new(rt.alloc(), config, 1)?,
+        script,
         statements: Statements::new(rt.alloc(), seed, config.devices()),
-        script: Page::new(rt.alloc()),
+        session: boxed_session(rt.alloc(), config)?,
     };
-    for nth in 0..ARRAYS {
-        draft.statements.put_array(nth);
-        draft.keep(rt)?;
-    }
-    draft.add_statements(rt, lines)?;
-    draft.finish(rt)?;
-    Ok(draft.script)
+    draft.put_all(rt, lines)
+}
+
+fn boxed_session(alloc: Global, config: Config) -> Result<Box<Session>, Fault> {
+    Ok(Box::new(alloc, Session::new(alloc, config, 1)?)?)
 }
 
 /// A script so far, and the session in which it ran.
 #[derive(Drop)]
-struct ScriptDraft {
-    session: Session,
+struct ScriptDraft<'a> {
+    script: &'a mut Page,
     statements: Statements,
-    script: Page,
+    session: Box<Session>,
 }
 
-impl ScriptDraft {
+impl ScriptDraft<'_> {
+    fn put_all<R: Threads + Wait + Sync + AllocGlobal>(
+        &mut self,
+        rt: &R,
+        lines: u64,
+    ) -> Result<(), Fault> {
+        for nth in 0..ARRAYS {
+            self.statements.put_array(nth);
+            self.keep(rt)?;
+        }
+        self.add_statements(rt, lines)?;
+        self.finish(rt)
+    }
+
     fn add_statements<R: Threads + Wait + Sync + AllocGlobal>(
         &mut self,
         rt: &R,

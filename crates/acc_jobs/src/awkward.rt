@@ -3,7 +3,7 @@
 
 use crate::desks::{Desk, limits};
 use crate::items::{Row, item, one, section};
-use crate::scripts::play_text;
+use crate::scripts::{PLAIN, play_text};
 use crate::tallies::Tally;
 use crate::texts::{all_refused, wrong_at_end};
 use acc_base::{EnterClause, ExitClause, Fault, Item, List, RegionClause};
@@ -41,12 +41,8 @@ const REFUSED: u64 = 400;
 
 /// What is shown of a script beside what it prints: why a line is refused.
 const EXPLAIN: Views = Views {
-    echo: false,
-    json: false,
-    log: false,
     explain: true,
-    picture: false,
-    pictures: false,
+    ..PLAIN
 };
 
 /// Plays each awkward job so many times.
@@ -62,10 +58,14 @@ pub fn run<R: Threads + Wait + Sync + AllocGlobal>(
 fn run_calls(alloc: Global, seed: u64, rounds: u64) -> Result<Tally, Fault> {
     let config = limits(2_097_152, 2_097_152)?;
     let mut desk = Desk::new(alloc, config, seed, Tally::new())?;
+    play(&mut desk, rounds)
+}
+
+fn play(desk: &mut Desk, rounds: u64) -> Result<Tally, Fault> {
     for _ in 0..rounds {
-        regions(&mut desk)?;
-        leases(&mut desk)?;
-        last_refused(&mut desk)?;
+        regions(desk)?;
+        leases(desk)?;
+        last_refused(desk)?;
     }
     Ok(desk.finish())
 }

@@ -90,12 +90,12 @@ fn work(desk: &mut Desk, region: u64, at: u64) {
 fn run_full(alloc: Global, seed: u64, rounds: u64, tally: Tally) -> Result<Tally, Fault> {
     let config = limits(1_048_576, 1_048_576)?.with_full_trace();
     let mut desk = Desk::new(alloc, config, seed, tally)?;
-    desk.fill(PAGES.all())?;
     play_full(&mut desk, rounds)
 }
 
-/// Maps all pages, makes so many rounds in a region over one of them, ends the mappings, and reads all back.
+/// Fills and maps all pages, makes so many rounds in a region over one of them, ends the mappings, and reads all back.
 fn play_full(desk: &mut Desk, rounds: u64) -> Result<Tally, Fault> {
+    desk.fill(PAGES.all())?;
     desk.enter_row(PAGES, EnterClause::Copyin)?;
     note_pages(desk);
     let region = desk.enter(one(RegionClause::Present, PAGES.at(0)));

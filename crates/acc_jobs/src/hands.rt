@@ -3,11 +3,10 @@
 use crate::desks::chance_bytes;
 use crate::items::{Row, item};
 use crate::tallies::Tally;
-use acc_base::{EnterClause, ExitClause, Fault, Item, RegionClause, Section, UpdateClause};
+use acc_base::{EnterClause, ExitClause, Fault, RegionClause, Section, UpdateClause};
 use acc_lend::{Add, Lease, run_one};
 use acc_random::Chance;
 use acc_runtime::{Caller, Limited, Region, Runtime};
-use std::alloc::{AllocError, Global};
 use std::sync::Wait;
 use std::sync::ledger::Ledger;
 
@@ -76,17 +75,6 @@ pub struct Hand<'a, Regions: Limited, Tickets: Ledger, Events: Ledger, R> {
     pub runtime: &'a Runtime<Regions, Tickets, Events>,
     /// Itself.
     pub worker: &'a mut Worker<Regions, Tickets, Events>,
-}
-
-/// A list of one item.
-fn list_of<C: Copy + Drop>(
-    alloc: Global,
-    clause: C,
-    section: Section,
-) -> Result<Vec<Item<C>>, AllocError> {
-    let mut items = Vec::new(alloc);
-    items.push(item(clause, section))?;
-    Ok(items)
 }
 
 impl<Regions: Limited, Tickets: Ledger, Events: Ledger, R: Wait + AllocGlobal> Hand<
@@ -161,14 +149,14 @@ impl<Regions: Limited, Tickets: Ledger, Events: Ledger, R: Wait + AllocGlobal> H
 
     fn map(&mut self, array: Section) -> Result<(), Fault> {
         let (rt, device) = (self.rt, self.worker.device());
-        let items = list_of(rt.alloc(), EnterClause::Copyin, array)?;
+        let items = Vec::from_slice(rt.alloc(), &[item(EnterClause::Copyin, array)])?;
         self.runtime
             .enter_data(rt, &mut self.worker.caller, device, items, None)
     }
 
     fn unmap(&mut self, array: Section) -> Result<(), Fault> {
         let (rt, device) = (self.rt, self.worker.device());
-        let items = list_of(rt.alloc(), ExitClause::Copyout, array)?;
+        let items = Vec::from_slice(rt.alloc(), &[item(ExitClause::Copyout, array)])?;
         self.runtime
             .exit_data(rt, &mut self.worker.caller, device, items, false, None)
     }
@@ -176,7 +164,7 @@ impl<Regions: Limited, Tickets: Ledger, Events: Ledger, R: Wait + AllocGlobal> H
     /// Copies an array one way through the queue of the thread, and waits for that.
     fn update(&mut self, clause: UpdateClause, array: Section) -> Result<(), Fault> {
         let (rt, device, queue) = (self.rt, self.worker.device(), self.worker.queue());
-        let items = list_of(rt.alloc(), clause, array)?;
+        let items = Vec::from_slice(rt.alloc(), &[item(clause, array)])?;
         let caller = &mut self.worker.caller;
         self.runtime
             .update(rt, caller, device, items, false, queue)?;
@@ -189,7 +177,7 @@ impl<Regions: Limited, Tickets: Ledger, Events: Ledger, R: Wait + AllocGlobal> H
     /// on which thread came first.
     fn enter(&mut self, array: Section) -> Result<(), Fault> {
         let (rt, device) = (self.rt, self.worker.device());
-        let items = list_of(rt.alloc(), RegionClause::Present, array)?;
+        let items = Vec::from_slice(rt.alloc(), &[item(RegionClause::Present, array)])?;
         let region = self
             .runtime
             .enter(rt, &mut self.worker.caller, device, items)?;

@@ -119,33 +119,24 @@ pub fn fields_of_event(event: &Event) -> [u64; 6] {
     match event {
         Event::Entered { number, .. } => [kind_of(0, on), *number, count, 0, 0, 0],
         Event::Left { number, .. } => [kind_of(1, on), *number, count, 0, 0, 0],
-        Event::EnteredData { queue, .. } => [kind_of(2, on), number_of(queue), count, 0, 0, 0],
+        Event::EnteredData { queue, .. } => of_data(kind_of(2, on), queue, count, false),
         Event::ExitedData {
             finalize,
             queue,
             ..
-        } => [
-            kind_of(3, on),
-            number_of(queue),
-            count,
-            u64::from(*finalize),
-            0,
-            0,
-        ],
+        } => of_data(kind_of(3, on), queue, count, *finalize),
         Event::Updated {
             if_present,
             queue,
             ..
-        } => [
-            kind_of(4, on),
-            number_of(queue),
-            count,
-            u64::from(*if_present),
-            0,
-            0,
-        ],
+        } => of_data(kind_of(4, on), queue, count, *if_present),
         _ => fields_of_other(event, on),
     }
+}
+
+/// The fields of an event that may name a queue, and of whose directive an option is told.
+fn of_data(kind: u64, queue: &Option<u64>, count: u64, option: bool) -> [u64; 6] {
+    [kind, number_of(queue), count, u64::from(option), 0, 0]
 }
 
 /// [`fields_of_event`] for an event that has no items. `on` is its device.

@@ -12,7 +12,7 @@ use std::sync::Wait;
 use std::thread::Threads;
 
 /// Shows only what a script prints.
-const PLAIN: Views = Views {
+pub const PLAIN: Views = Views {
     echo: false,
     json: false,
     log: false,
@@ -23,22 +23,16 @@ const PLAIN: Views = Views {
 
 /// Shows what each call did, and why lines are refused.
 const LOG: Views = Views {
-    echo: false,
-    json: false,
     log: true,
     explain: true,
-    picture: false,
-    pictures: false,
+    ..PLAIN
 };
 
 /// Shows each statement before what it prints, and reports as JSON.
 const JSON: Views = Views {
     echo: true,
     json: true,
-    log: false,
-    explain: false,
-    picture: false,
-    pictures: false,
+    ..PLAIN
 };
 
 /// Gets pictures, and notes when each was made and its bytes.

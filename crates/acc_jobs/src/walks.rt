@@ -3,7 +3,7 @@
 use crate::desks::{Desk, limits};
 use crate::items::{Row, one};
 use crate::numbers::{fields_of_counters, fields_of_ended, fields_of_found, number_of};
-use crate::scripts::play_text;
+use crate::scripts::{PLAIN, play_text};
 use crate::tallies::Tally;
 use crate::texts::many;
 use acc_base::{Directive, EnterClause, ExitClause, Fault, Section, UpdateClause};
@@ -30,12 +30,9 @@ const ARRAYS: Row = Row {
 
 /// A script is drawn behind each directive and each kernel, and at its end.
 const PICTURES: Views = Views {
-    echo: false,
-    json: false,
-    log: false,
-    explain: false,
     picture: true,
     pictures: true,
+    ..PLAIN
 };
 
 /// Maps all arrays on each device, and makes so many rounds of questions. Then it plays as many scripts with pictures.

@@ -2,23 +2,8 @@
 
 use crate::tests::language::{At, Check};
 use crate::tests::turns::section;
-use acc_base::{Aim, Counters, Did, Event, Step};
+use acc_base::{Counters, Event};
 use acc_table::Table;
-
-fn did_at(table: &Table, number: usize) -> &[Did] {
-    match table.trace().get(number) {
-        Some(event) => event.did(),
-        None => &[],
-    }
-}
-
-fn are_steps(did: &[Did], wanted: &[Step]) -> bool {
-    did.len() == wanted.len() && did.iter().zip(wanted).all(|(did, step)| did.step == *step)
-}
-
-fn are_aims(did: &[Did], wanted: &[Aim]) -> bool {
-    did.len() == wanted.len() && did.iter().zip(wanted).all(|(did, aim)| did.aim == *aim)
-}
 
 /// The bytes that an event has, where it may have some.
 fn bytes_at(table: &Table, number: usize) -> Option<&[u8]> {
@@ -42,8 +27,6 @@ pub fn holds(table: &Table, device: u64, check: Check) -> bool {
         Check::Counted(at, wanted) => counted(table, device, at) == wanted,
         Check::Host(at, wanted) => table.host_read(section(at)) == wanted,
         Check::Device(at, wanted) => table.device_read(device, section(at)) == wanted,
-        Check::Steps(number, wanted) => are_steps(did_at(table, number), wanted),
-        Check::Aims(number, wanted) => are_aims(did_at(table, number), wanted),
         Check::Bytes(number, wanted) => bytes_at(table, number) == wanted,
         Check::Stored(wanted) => table.trace().len() == wanted,
         Check::Queue(q, wanted) => table.queue_len(device, q) == wanted,

@@ -1,6 +1,6 @@
 //! What a row says: limits, and lines with calls and queries of a table and their answers.
 
-use acc_base::{Aim, Fault, Step};
+use acc_base::Fault;
 
 /// The limits in which rows differ.
 #[derive(Clone, Copy)]
@@ -72,10 +72,6 @@ pub enum Check {
     Host(At, Option<&'static [u8]>),
     /// Bytes of device memory.
     Device(At, Option<&'static [u8]>),
-    /// What the items of the stored event of this number did, in written order.
-    Steps(usize, &'static [Step]),
-    /// What they did to their pointers.
-    Aims(usize, &'static [Aim]),
     /// The bytes that the stored event of this number has.
     Bytes(usize, Option<&'static [u8]>),
     /// How many events are stored.

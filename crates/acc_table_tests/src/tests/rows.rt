@@ -4,19 +4,15 @@
 use crate::tests::language::Row;
 use acc_base::HOST_BASE;
 
-mod events;
 mod limits;
 mod loans;
 mod rebasing;
 mod turns;
-mod worked;
 
 /// All rows. No other function names them, since each that does is checked with all of them.
-pub fn tables() -> [&'static [Row]; 7] {
+pub fn tables() -> [&'static [Row]; 5] {
     [
-        worked::ROWS,
         limits::ROWS,
-        events::ROWS,
         loans::ROWS,
         loans::LENT,
         rebasing::ROWS,

@@ -1,7 +1,7 @@
 //! Limits: each holds to the last, and its refusal comes in its turn.
 
 use crate::tests::language::Ask::{self, Do, Exit, Lend};
-use crate::tests::language::Check::{Counted, Events, Queue};
+use crate::tests::language::Check::{Counted, Device, Events, Queue, Used};
 use crate::tests::language::Line::{Brings, Does, Gives, On, Rebases, Refuses, Says};
 use crate::tests::language::{Limits, Row, WIDE};
 use crate::tests::rows::A;
@@ -80,6 +80,40 @@ pub const ROWS: &[Row] = &[
             ),
             Says(Counted((A, 16), Some((0, 2)))),
             Says(Queue(0, 0)),
+        ],
+    },
+    Row {
+        name: "a device that is not there has nothing",
+        limits: WIDE,
+        lines: &[
+            Does(Do("enter data copyin(a)")),
+            Does(Do("update self(a) async(0)")),
+            On(1),
+            Says(Counted((A, 16), None)),
+            Says(Device((A, 16), None)),
+            Says(Queue(0, 0)),
+            Says(Used(0)),
+        ],
+    },
+    Row {
+        name: "each of four devices has blocks of 4 KiB",
+        limits: Limits {
+            host: 8_192,
+            device: 8_192,
+            devices: 4,
+            ..WIDE
+        },
+        lines: &[
+            Does(Do("enter data create(a[0:4096], a[4096:4096])")),
+            On(1),
+            Does(Do("enter data create(a[0:4096], a[4096:4096])")),
+            On(2),
+            Does(Do("enter data create(a[0:4096], a[4096:4096])")),
+            On(3),
+            Does(Do("enter data create(a[0:4096])")),
+            Says(Used(4_096)),
+            On(0),
+            Says(Used(8_192)),
         ],
     },
 ];

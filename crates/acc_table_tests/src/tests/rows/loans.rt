@@ -116,6 +116,23 @@ pub const ROWS: &[Row] = &[
         ],
     },
     Row {
+        name: "a full trace stores the bytes of a write, and those that a kernel leaves",
+        limits: FULL,
+        lines: &[
+            Does(Do("write a[0] 07")),
+            Does(Do("enter data copyin(a[0:1])")),
+            Gives(Do("data present(a[0:1])"), 1),
+            Gives(Lend(1, (A, 1)), 1),
+            Adds(1, 1),
+            Gathers(1),
+            Says(Events(5)),
+            Says(Bytes(0, Some(&[7]))),
+            Says(Bytes(4, Some(&[8]))),
+            Says(Device((A, 1), Some(&[8]))),
+            Says(Host((A, 1), Some(&[7]))),
+        ],
+    },
+    Row {
         name: "an array is lent by a region of each device at once, and the regions are left in the order of their entry",
         limits: DEVICES,
         lines: &[

@@ -29,10 +29,10 @@ fn one_of_each(count: usize) -> u64 {
 
 /// Holds all work but that of one number before it begins, until that one is done. It holds that one behind its work
 /// until all others are done. So they all are at work at the same time, and that one first. It keeps how often it was
-/// called for each number.
+/// called for each number. Where no number is named, it holds nothing.
 #[derive(Drop)]
 pub struct Meeting {
-    first: usize,
+    first: Option<usize>,
     count: usize,
     begun: AtomicU64,
     done: AtomicU64,
@@ -44,8 +44,8 @@ pub struct Meeting {
 }
 
 impl Meeting {
-    /// A meeting of the work of each number below `count`, in which that of the number `first` comes first.
-    pub fn new(first: usize, count: usize) -> Meeting {
+    /// A meeting of the work of each number below `count`, in which that of the number `first` comes first, if any.
+    pub fn new(first: Option<usize>, count: usize) -> Meeting {
         Meeting {
             first,
             count,
@@ -57,17 +57,15 @@ impl Meeting {
         }
     }
 
-    /// How much work was there behind that which came first. None unless all work began once and was done once, and
-    /// none waited in vain.
+    /// How much work was there behind that which came first. None unless some came first, all work began once and was
+    /// done once, and none waited in vain.
     pub fn took_place(&self) -> Option<u64> {
         let all = one_of_each(self.count);
-        let begun = self.begun.load(Ordering::SeqCst);
-        let done = self.done.load(Ordering::SeqCst);
-        if begun == all && done == all && !self.has_given_up.load(Ordering::SeqCst) {
-            Some(self.seen.load(Ordering::SeqCst))
-        } else {
-            None
-        }
+        let is_done = self.begun.load(Ordering::SeqCst) == all
+            && self.done.load(Ordering::SeqCst) == all
+            && !self.has_given_up.load(Ordering::SeqCst);
+        let seen = self.seen.load(Ordering::SeqCst);
+        (is_done && self.first.is_some()).then_some(seen)
     }
 
     /// Waits until this work is done; false where that took too long.
@@ -92,18 +90,20 @@ impl Meeting {
 impl<R: Clock> Gate<R> for Meeting {
     fn before(&self, rt: &R, n: usize) {
         self.begun.fetch_add(one_of(n), Ordering::SeqCst);
-        if n != self.first {
-            self.hold(rt, one_of(self.first));
+        match self.first {
+            Some(first) if first != n => self.hold(rt, one_of(first)),
+            _ => {}
         }
     }
 
     fn after(&self, rt: &R, n: usize) {
-        if n == self.first {
+        let is_first = self.first == Some(n);
+        if is_first {
             self.seen
                 .store(self.work.load(Ordering::SeqCst), Ordering::SeqCst);
         }
         self.done.fetch_add(one_of(n), Ordering::SeqCst);
-        if n == self.first {
+        if is_first {
             self.hold(rt, one_of_each(self.count));
         }
     }
@@ -113,21 +113,35 @@ impl<R: Clock> Gate<R> for Meeting {
 /// are when it is called: before and after word 0, before and after word 1, and so on.
 #[derive(Drop)]
 pub struct Watch<'a, Regions: Limited, Tickets: Ledger, Events: Ledger> {
-    /// Where it meets the others.
-    pub meeting: &'a Meeting,
-    /// The number of the worker.
-    pub number: usize,
-    /// Where it looks.
-    pub runtime: &'a Runtime<Regions, Tickets, Events>,
-    /// Who looks.
-    pub caller: Mutex<Caller<Regions, Tickets, Events>>,
-    /// How many events it finds at each call.
-    pub wanted: &'a [u64],
-    /// How many calls there were, each as it should be, and many more where one was not.
-    pub calls: AtomicU64,
+    meeting: &'a Meeting,
+    number: usize,
+    runtime: &'a Runtime<Regions, Tickets, Events>,
+    caller: Mutex<Caller<Regions, Tickets, Events>>,
+    // How many events it finds at each call.
+    wanted: &'a [u64],
+    // How many calls there were, each as it should be, and many more where one was not.
+    calls: AtomicU64,
 }
 
-impl<Regions: Limited, Tickets: Ledger, Events: Ledger> Watch<'_, Regions, Tickets, Events> {
+impl<'a, Regions: Limited, Tickets: Ledger, Events: Ledger> Watch<'a, Regions, Tickets, Events> {
+    /// Lets the worker of a number take part, and a caller look, who finds so many events at each call.
+    pub fn new(
+        meeting: &'a Meeting,
+        number: usize,
+        runtime: &'a Runtime<Regions, Tickets, Events>,
+        caller: Caller<Regions, Tickets, Events>,
+        wanted: &'a [u64],
+    ) -> Watch<'a, Regions, Tickets, Events> {
+        Watch {
+            meeting,
+            number,
+            runtime,
+            caller: Mutex::new(caller),
+            wanted,
+            calls: AtomicU64::new(0),
+        }
+    }
+
     /// It was called as often as it should be, for the right words in order, and found each time what it should.
     pub fn saw_all(&self) -> bool {
         self.calls.load(Ordering::SeqCst) == self.wanted.len() as u64

@@ -1,4 +1,5 @@
-//! The example of the first page of `acc_runtime`, as it stands there.
+//! An example of a runtime: two threads map the same bytes. Whichever comes first makes the mapping, and the other one
+//! counts it.
 
 ghost use Rattle.std.specs.Prelude.{◌≡◌};
 
@@ -57,10 +58,10 @@ fn map_twice<
         move || map(rt, runtime, first),
         move || map(rt, runtime, second),
     );
-    one?;
-    two?;
     first.merge(second);
-    Ok(runtime.look(rt, &mut first, |table| table.used(0)))
+    let used = runtime.look(rt, &mut first, |table| table.used(0));
+    one.and(two)?;
+    Ok(used)
 }
 
 /// A runtime for three ledgers, whose blanks are those of the configuration.

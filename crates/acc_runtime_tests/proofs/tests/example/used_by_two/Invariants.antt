@@ -1,4 +1,4 @@
-use Rattle.acc_runtime_tests.proofs.example.used_by_two.Given as goal
+use Rattle.acc_runtime_tests.proofs.tests.example.used_by_two.Given as goal
 
 abbrev pub ghosts-on_new_runtime-Regions-Ledger : goal.ghosts-on_new_runtime-Regions-Ledger
 ghosts-on_new_runtime-Regions-Ledger g a = record { name = a.blanks.regions.name; parts = a.blanks.regions.parts }

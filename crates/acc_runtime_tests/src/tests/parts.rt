@@ -3,8 +3,8 @@
 ghost use Rattle.acc_lend.specs.Images.{each_byte, number_image};
 ghost use Rattle.acc_lend.specs.ImageLaws.{each_byte-append, length-each_byte};
 
-use crate::gates::Meeting;
-use crate::same;
+use crate::tests::gates::Meeting;
+use crate::tests::same;
 use acc_base::Fault;
 use acc_lend::{Cuts, Gate, Kernel, Lease, Number, Open, Pointwise, run_parts};
 use std::process::Abort;
@@ -64,7 +64,7 @@ fn number_first<R: Threads + Wait + Sync + AllocGlobal + Clock + Abort>(
     rt: &R,
     first: usize,
 ) -> Result<(), Fault> {
-    let meeting = Meeting::new(first, 4);
+    let meeting = Meeting::new(Some(first), 4);
     number_eight(rt, &meeting.work, &meeting)?;
     same(rt, meeting.took_place(), Some(2));
     Ok(())

@@ -1,7 +1,6 @@
-//! Who makes calls in a test: each names the one array, on one device at a time.
+//! Who makes calls in a test: each names the one array, on the first device.
 
-use crate::lives::is_left;
-use crate::same;
+use crate::tests::same;
 use acc_base::{
     EnterClause, ExitClause, Fault, HOST_BASE, Item, RegionClause, Section, UpdateClause,
 };
@@ -57,11 +56,20 @@ impl Loan {
     }
 }
 
+/// What is read from the table of a runtime.
+#[derive(Clone, Copy)]
+pub enum Asked {
+    /// Whether the array is present: 1 or 0.
+    IsPresent,
+    /// How many regions are open.
+    Regions,
+    /// How many events are stored.
+    Stored,
+}
+
 /// A call of an actor's. It returns a number: 1 or 0 for yes and no, and else 0 where it has none to return.
 #[derive(Clone, Copy)]
 pub enum Deed {
-    /// What follows is for the device of this number.
-    On(u64),
     /// A region over the array is entered: its number.
     Enter(RegionClause),
     /// The region that was entered last is exited.
@@ -82,12 +90,12 @@ pub enum Deed {
     Reads(u8),
     /// The array is lent in the region that was entered last, and a kernel adds 1 to each byte: the loan's serial number.
     Lend,
-    /// The loan is brought back, with this byte in each place.
-    Gather(u8),
+    /// The loan is brought back.
+    Gather,
     /// The events are folded into the table's base: how many.
     Rebase,
-    /// Whether the array is present.
-    IsPresent,
+    /// The table is read.
+    Look(Asked),
 }
 
 /// A call, and what it returns.
@@ -102,23 +110,41 @@ pub struct Actor<'a, Regions: Limited, Tickets: Ledger, Events: Ledger, R> {
     pub runtime: &'a Runtime<Regions, Tickets, Events>,
     /// The caller that makes them.
     pub caller: Caller<Regions, Tickets, Events>,
-    /// Whether memory was refused for a call.
-    pub was_refused: bool,
+    /// Whether memory may be refused for a call, which is then made once more.
+    pub may_lack: bool,
     /// The open region that it entered last.
     pub region: Option<Opened>,
     loan: Option<Loan>,
-    device: u64,
 }
 
 /// The items of a directive that names the array in one clause.
-fn list<C: Drop>(alloc: Global, clause: C) -> Result<Vec<Item<C>>, AllocError> {
-    let mut items = Vec::new(alloc);
-    items.push(Item {
+fn items<C: Copy + Drop>(alloc: Global, clause: C) -> Result<Vec<Item<C>>, AllocError> {
+    let item = Item {
         clause,
         section: ARRAY,
         pointer: None,
-    })?;
-    Ok(items)
+    };
+    Vec::from_slice(alloc, &[item])
+}
+
+/// What a table says.
+fn answer(table: &Table, asked: Asked) -> u64 {
+    match asked {
+        Asked::IsPresent => u64::from(table.is_present(0, ARRAY)),
+        Asked::Regions => table.regions(),
+        Asked::Stored => table.trace().len() as u64,
+    }
+}
+
+/// How many events are stored behind the call of a row, before which so many were. One that is accepted makes an event,
+/// but for the step of an empty queue.
+fn stored_behind(row: Row, stored: u64) -> u64 {
+    match row {
+        (Deed::Rebase, Ok(_)) => 0,
+        (Deed::Reads(_) | Deed::Look(_), _) => stored,
+        (Deed::Step(_), Ok(0)) | (_, Err(_)) => stored,
+        _ => stored.wrapping_add(1),
+    }
 }
 
 impl<'a, Regions: Limited, Tickets: Ledger, Events: Ledger, R: Abort + Wait + AllocGlobal> Actor<
@@ -128,74 +154,52 @@ impl<'a, Regions: Limited, Tickets: Ledger, Events: Ledger, R: Abort + Wait + Al
     Events,
     R,
 > {
-    /// An actor that begins on the first device and holds nothing.
+    /// An actor that holds nothing.
     pub fn new(
         rt: &'a R,
         runtime: &'a Runtime<Regions, Tickets, Events>,
         caller: Caller<Regions, Tickets, Events>,
+        may_lack: bool,
     ) -> Actor<'a, Regions, Tickets, Events, R> {
         Actor {
             rt,
             runtime,
             caller,
-            was_refused: false,
+            may_lack,
             region: None,
             loan: None,
-            device: 0,
         }
     }
 
-    /// What the caller has left and made.
-    pub fn shares(&self) -> (u64, u64, u64) {
+    /// Compares what the caller has left and made.
+    pub fn has(&self, allowance: u64, tickets: u64, made: u64) {
         let caller = &self.caller;
-        (caller.allowance(), caller.tickets(), caller.made())
+        let found = (caller.allowance(), caller.tickets(), caller.made());
+        same(self.rt, found, (allowance, tickets, made));
     }
 
-    /// How many regions are open, how many events there are, how many bytes of the first device are in use, and how many
-    /// events are stored.
-    pub fn state(&mut self) -> (u64, u64, u64, usize) {
-        self.runtime.look(
-            self.rt,
-            &mut self.caller,
-            |table: &Table| (
-                table.regions(),
-                table.events(),
-                table.used(0),
-                table.trace().len(),
-            ),
-        )
-    }
-
-    /// Makes a call.
     fn make(&mut self, deed: Deed) -> Result<u64, Fault> {
+        let (rt, runtime) = (self.rt, self.runtime);
         match deed {
-            Deed::On(device) => {
-                self.device = device;
-                Ok(0)
-            }
             Deed::Enter(clause) => self.enter(clause),
             Deed::Exit => self.exit(),
             Deed::EnterData => self.enter_data(),
             Deed::ExitData(queue) => self.exit_data(queue),
             Deed::Update(clause, queue) => self.update(clause, queue),
-            Deed::Wait(queue) => self
-                .runtime
-                .wait(self.rt, &mut self.caller, self.device, queue),
-            Deed::Step(queue) => self.step(queue),
+            Deed::Wait(queue) => runtime.wait(rt, &mut self.caller, 0, queue),
+            Deed::Step(queue) => runtime.step(rt, &mut self.caller, 0, queue).map(u64::from),
             Deed::Write(byte) => self.write(byte),
             Deed::Reads(byte) => self.reads(byte),
             Deed::Lend => self.lend(),
-            Deed::Gather(_) => self.gather(),
-            Deed::Rebase => self.runtime.rebase(self.rt),
-            Deed::IsPresent => Ok(self.is_present()),
+            Deed::Gather => self.gather(),
+            Deed::Rebase => runtime.rebase(rt),
+            Deed::Look(asked) => Ok(self.look(asked)),
         }
     }
 
     fn enter(&mut self, clause: RegionClause) -> Result<u64, Fault> {
-        let items = list(self.rt.alloc(), clause)?;
-        let region = self
-            .runtime
-            .enter(self.rt, &mut self.caller, self.device, items)?;
+        let items = items(self.rt.alloc(), clause)?;
+        let region = self.runtime.enter(self.rt, &mut self.caller, 0, items)?;
         let number = region.number();
         self.region = Some(Opened { region });
         Ok(number)
@@ -218,31 +222,25 @@ impl<'a, Regions: Limited, Tickets: Ledger, Events: Ledger, R: Abort + Wait + Al
     }
 
     fn enter_data(&mut self) -> Result<u64, Fault> {
-        let items = list(self.rt.alloc(), EnterClause::Copyin)?;
+        let items = items(self.rt.alloc(), EnterClause::Copyin)?;
         self.runtime
-            .enter_data(self.rt, &mut self.caller, self.device, items, None)?;
+            .enter_data(self.rt, &mut self.caller, 0, items, None)?;
         Ok(0)
     }
 
     fn exit_data(&mut self, queue: u64) -> Result<u64, Fault> {
-        let items = list(self.rt.alloc(), ExitClause::Copyout)?;
-        let device = self.device;
-        self.runtime.exit_data(self.rt, &mut self.caller, device, items, true, Some(queue))?;
+        let items = items(self.rt.alloc(), ExitClause::Copyout)?;
+        self.runtime
+            .exit_data(self.rt, &mut self.caller, 0, items, true, Some(queue))?;
         Ok(0)
     }
 
     fn update(&mut self, clause: UpdateClause, queue: Option<u64>) -> Result<u64, Fault> {
-        let items = list(self.rt.alloc(), clause)?;
-        let (device, if_present) = (self.device, queue.is_none());
-        self.runtime.update(self.rt, &mut self.caller, device, items, if_present, queue)?;
+        let items = items(self.rt.alloc(), clause)?;
+        let if_present = queue.is_none();
+        self.runtime
+            .update(self.rt, &mut self.caller, 0, items, if_present, queue)?;
         Ok(0)
-    }
-
-    fn step(&mut self, queue: u64) -> Result<u64, Fault> {
-        let made = self
-            .runtime
-            .step(self.rt, &mut self.caller, self.device, queue)?;
-        Ok(u64::from(made))
     }
 
     fn write(&mut self, byte: u8) -> Result<u64, Fault> {
@@ -286,45 +284,31 @@ impl<'a, Regions: Limited, Tickets: Ledger, Events: Ledger, R: Abort + Wait + Al
         }
     }
 
-    fn is_present(&mut self) -> u64 {
-        let device = self.device;
+    fn look(&mut self, asked: Asked) -> u64 {
         self.runtime.look(
             self.rt,
             &mut self.caller,
-            |table: &Table| u64::from(table.is_present(device, ARRAY)),
+            |table: &Table| answer(table, asked),
         )
     }
 
-    /// Makes a call, and once more where memory was refused for it, which changed nothing.
-    fn make_again(&mut self, deed: Deed) -> Result<u64, Fault> {
-        let before = self.state();
-        let answer = self.make(deed);
-        if answer != Err(Fault::Memory) {
-            return answer;
+    /// Makes a call, and once more where memory was refused for it. No event is stored then.
+    fn make_again(&mut self, deed: Deed, stored: u64) -> Result<u64, Fault> {
+        let made = self.make(deed);
+        if made != Err(Fault::Memory) || !self.may_lack {
+            return made;
         }
-        let after = self.state();
-        same(self.rt, after, before);
-        self.was_refused = true;
+        let found = self.look(Asked::Stored);
+        same(self.rt, found, stored);
         self.make(deed)
     }
 
-    /// Whether the trace is as it has to be behind the call of a row, before which so many events were stored.
-    fn has_left(&mut self, row: Row, stored: usize) -> bool {
-        let device = self.device;
-        self.runtime.look(
-            self.rt,
-            &mut self.caller,
-            |table: &Table| is_left(table, device, row, stored),
-        )
-    }
-
-    /// Makes the call of a row, which returns what the row says and leaves its event.
+    /// Makes the call of a row, which returns what the row says, and stores an event where it has to.
     pub fn make_row(&mut self, row: Row) {
-        let made = self.caller.made();
-        let (_, _, _, stored) = self.state();
-        let answer = self.make_again(row.0);
-        let is_left = self.has_left(row, stored);
-        same(self.rt, (made, answer, is_left), (made, row.1, true));
+        let before = self.look(Asked::Stored);
+        let made = self.make_again(row.0, before);
+        let behind = self.look(Asked::Stored);
+        same(self.rt, (made, behind), (row.1, stored_behind(row, before)));
     }
 
     /// Makes the calls of rows.

@@ -1,0 +1,61 @@
+//! The life of an array, in calls that follow one another.
+
+use crate::tests::actors::{Actor, Asked, Deed, Row};
+use crate::tests::scenes::{Scene, play_each};
+use acc_base::{Fault, RegionClause, UpdateClause};
+use acc_runtime::Limited;
+use std::process::Abort;
+use std::sync::Wait;
+use std::sync::ledger::Ledger;
+use std::test::Fail;
+
+/// A life from the first mapping to the end of the last, in 13 events, of which ten are folded on the way.
+const LIFE: [Row; 20] = [
+    (Deed::EnterData, Ok(0)),
+    (Deed::Enter(RegionClause::Present), Ok(1)),
+    (Deed::Write(7), Ok(0)),
+    (Deed::Update(UpdateClause::ToDevice, None), Ok(0)),
+    (Deed::Write(0), Ok(0)),
+    (Deed::Lend, Ok(1)),
+    (Deed::Exit, Err(Fault::Lent { block: 1 })),
+    (Deed::Wait(None), Ok(0)),
+    (Deed::Gather, Ok(0)),
+    (Deed::Update(UpdateClause::ToSelf, Some(0)), Ok(0)),
+    (Deed::Step(0), Ok(1)),
+    (Deed::Step(0), Ok(0)),
+    (Deed::Rebase, Ok(10)),
+    (Deed::Reads(8), Ok(1)),
+    (Deed::ExitData(1), Ok(0)),
+    (Deed::Look(Asked::IsPresent), Ok(1)),
+    (Deed::Exit, Ok(0)),
+    (Deed::Wait(Some(1)), Ok(0)),
+    (Deed::Look(Asked::IsPresent), Ok(0)),
+    (Deed::Rebase, Ok(3)),
+];
+
+impl<Regions: Limited, Tickets: Ledger, Events: Ledger, R: Abort + Wait + AllocGlobal> Actor<
+    '_,
+    Regions,
+    Tickets,
+    Events,
+    R,
+> {
+    /// Lives the whole life, and has all regions again.
+    pub fn live(&mut self) {
+        self.make_rows(&LIFE);
+        self.has(64, 87, 13);
+    }
+}
+
+#[test]
+fn each_call_makes_its_event(rt: HostRuntime) -> Result<(), Fail> {
+    play_each(&rt, &[Scene::Life], false)?;
+    Ok(())
+}
+
+/// Each call that memory is refused for changes nothing, and is accepted when it is made once more.
+#[test]
+fn a_refused_growth_changes_no_runtime(rt: HostRuntime) -> Result<(), Fail> {
+    play_each(&rt, &[Scene::Life], true)?;
+    Ok(())
+}

@@ -44,6 +44,11 @@ event_told d (Update device items if_present queue) n did = events.Updated d ite
 event_told d (Wait device queue) n did = events.Waited d queue n
 event_told d (Step device queue) n did = events.Stepped d queue n
 
+-- of what the items of an event did, what stands in memory of its own: a list of one has its element in itself
+abbrev pub apart_of : List Did → List Did
+apart_of (did ∷ []) = []
+apart_of dids = dids
+
 -- the reply to a directive whose event has this number
 abbrev pub reply_told : Directive → ℕ → Reply
 reply_told (Enter device items) n = replies.Entered n

@@ -7,13 +7,13 @@ ghost use Rattle.acc_base.specs.Bytes.{host_after_write};
 ghost use Rattle.acc_base.specs.Judge.{plan_of, written};
 ghost use Rattle.acc_base.specs.Records.{State};
 ghost use Rattle.acc_clauses.specs.Acts.{CanWrite, HasPlanRoom, lens_born};
-ghost use Rattle.acc_clauses.specs.Planned.{IsPlanOf};
-ghost use Rattle.acc_table.specs.Making.{is_idle, number_told, event_told, reply_told, planned_verdict, MayBeToldOf, IsCommitted, IsAsBefore};
+ghost use Rattle.acc_clauses.specs.Planned.{IsPlanOf, state_by};
+ghost use Rattle.acc_table.specs.Making.{is_idle, number_told, event_told, reply_told, apart_of, planned_verdict, MayBeToldOf, IsCommitted, IsAsBefore};
 
 use crate::calls::Reply;
 use acc_base::{Did, Directive, Event, Fault, List};
 use acc_clauses::{Plan, Store};
-use std::alloc::Global;
+use std::alloc::{AllocError, Global};
 
 /// Whether the directive is the step of an empty queue, with which there is nothing to do.
 fn is_idle(store: &Store, directive: &Directive) -> bool
@@ -39,6 +39,7 @@ fn number_told(store: &Store, directive: &Directive) -> u64
 }
 
 /// The event of a directive on a device, with this number and what its items did, in written order.
+#[inline(always)]
 fn event_told(device: u64, directive: Directive, number: u64, did: List<Did>) -> Event
     ensures { result ≡ event_told device directive number did }
 {
@@ -97,15 +98,6 @@ fn event_told(device: u64, directive: Directive, number: u64, did: List<Did>) ->
     }
 }
 
-/// An event that stands where another will come.
-fn blank_event() -> Event {
-    Event::Stepped {
-        device: 0,
-        queue: 0,
-        block: 0,
-    }
-}
-
 /// The reply to a directive whose event has this number.
 fn reply_told(directive: &Directive, number: u64) -> Reply
     ensures { result ≡ reply_told directive.now number }
@@ -117,75 +109,70 @@ fn reply_told(directive: &Directive, number: u64) -> Reply
     }
 }
 
-/// Makes room for a planned directive in the store and for its event in the trace. It returns what the items will do,
-/// as the event stores it: a list of its own, which takes no memory for one item. Where room is refused, no bytes are
-/// kept for births, unless some were before.
+/// Of what the items do, what stands in memory of its own: all of it, but nothing where that is of one item.
+fn copy_apart(alloc: Global, did: &[Did]) -> Result<Vec<Did>, AllocError>
+    ensures { IfOk result (λ apart. apart.items ≡ apart_of did.now) }
+{
+    match did {
+        [_] => Ok(Vec::new(alloc)),
+        _ => Vec::from_slice(alloc, did),
+    }
+}
+
+/// The list of what the items do, of which this stands in memory of its own.
+#[inline(always)]
+fn list_of(did: &[Did], apart: Vec<Did>) -> List<Did>
+    requires { apart.items ≡ apart_of did.now }
+    ensures { result ≡ did.now }
+{
+    match did {
+        [only] => List::one(*only),
+        _ => List::from_vec(apart),
+    }
+}
+
+/// Makes room for a planned directive in the store and for its event in the trace. It returns of what the items will do
+/// what stands in memory of its own. Where room is refused, no bytes are kept for births, unless some were before.
 fn make_room(
     store: &mut Store,
     trace: &mut Vec<Event>,
     directive: &Directive,
     plan: &Plan,
-) -> Result<List<Did>, Fault>
+) -> Result<Vec<Did>, Fault>
     requires { IsPlanOf store.old.limits directive.now store.old.state plan.now }
     ensures same { IsAsBefore store.old store.new trace.old.items trace.new.items }
-    ensures did { IfOk result (λ did. did ≡ plan.now.written) }
+    ensures apart { IfOk result (λ apart. apart.items ≡ apart_of plan.now.written) }
     ensures room { OnOk result (HasPlanRoom directive.now plan.now store.new.room) }
     ensures births { OnOk result (store.new.room.births ≡ lens_born plan.now.tasks plan.now.dids) }
     ensures refused { OnErr result (store.old.room.births ≡ [] → store.new.room.births ≡ []) }
     ensures place { OnOk result (vec_len trace.new < vec_capacity trace.new) }
     ensures only { IfErr result (λ fault. fault ≡ Memory) }
 {
-    let did = List::from_slice(*trace.allocator(), plan.did())?;
+    let apart = copy_apart(*trace.allocator(), plan.did())?;
     trace.reserve(1)?;
     store.reserve(directive, plan)?;
-    Ok(did)
+    Ok(apart)
 }
 
-/// Does a directive for which this was planned and room was made, and returns the reply. The directive is not idle.
-fn commit(
-    store: &mut Store,
-    trace: &mut Vec<Event>,
-    plan: &Plan,
-    directive: Directive,
-    did: List<Did>,
-) -> Reply
-    requires planned { IsPlanOf store.old.limits directive store.old.state plan.now }
-    requires births { store.old.state.records.births + 64 ≤ 2 ^ 48 }
-    requires regions { store.old.state.register.next < 2 ^ 48 }
-    requires did { did ≡ plan.now.written }
-    requires busy { is_idle directive store.old.state ≡ false }
-    requires room { HasPlanRoom directive plan.now store.old.room }
-    requires place { vec_len trace.old < vec_capacity trace.old }
-    ensures done { IsCommitted (planned_verdict directive plan.now store.old) result store.old store.new trace.old.items trace.new.items }
-{
-    let number = number_told(store, &directive);
-    let reply = reply_told(&directive, number);
-    // A blank event is written first: so its memory comes into the cache while the work is done.
-    let place = trace.len();
-    trace.push_reserved(blank_event());
-    store.commit(&directive, plan);
-    trace[place] = event_told(store.number(), directive, number, did);
-    reply
-}
-
-/// Judges a directive, and makes room for it and its event. It returns what the items will do, or `None` where there is
-/// nothing to do. Nothing but room changes.
+/// Judges a directive, and makes room for it and its event. It returns of what the items will do what stands in memory
+/// of its own, or `None` where there is nothing to do. Nothing but room changes.
 ///
 /// # Errors
 ///
 /// What the store refuses to plan, or [`Fault::Memory`] where there is no such refusal.
+#[inline(always)]
 fn prepare(
     store: &mut Store,
     trace: &mut Vec<Event>,
     plan: &mut Plan,
     directive: &Directive,
-) -> Result<Option<List<Did>>, Fault>
+) -> Result<Option<Vec<Did>>, Fault>
     requires births { store.old.state.records.births + 64 ≤ 2 ^ 48 }
     ensures same { IsAsBefore store.old store.new trace.old.items trace.new.items }
     ensures judged { OnOk result (plan_of store.old.limits directive.now store.old.state ≡ Ok (planned_verdict directive.now plan.new store.old)) }
     ensures planned { OnOk result (IsPlanOf store.new.limits directive.now store.new.state plan.new) }
-    ensures idle { IfOk result (λ did. is_none did ≡ is_idle directive.now store.old.state) }
-    ensures did { IfOk result (λ told. IfSome told (λ did. did ≡ plan.new.written)) }
+    ensures idle { IfOk result (λ apart. is_none apart ≡ is_idle directive.now store.old.state) }
+    ensures apart { IfOk result (λ told. IfSome told (λ apart. apart.items ≡ apart_of plan.new.written)) }
     ensures room { IfOk result (λ told. IfSome told (λ _. HasPlanRoom directive.now plan.new store.new.room)) }
     ensures place { IfOk result (λ told. IfSome told (λ _. vec_len trace.new < vec_capacity trace.new)) }
     ensures refused { IfErr result (MayBeToldOf (plan_of store.old.limits directive.now store.old.state)) }
@@ -197,12 +184,49 @@ fn prepare(
     Ok(Some(make_room(store, trace, directive, plan)?))
 }
 
+/// Judges a directive, makes room for it and its event, and does it. It returns the number of the event, and of what
+/// the items did what stands in memory of its own; or `None` where there is nothing to do. The event is left to be
+/// stored. All this is behind a reference, so that the directive is moved but once: into its event.
+///
+/// # Errors
+///
+/// What the store refuses to plan, or [`Fault::Memory`] where there is no such refusal. Nothing changed but room.
+#[inline(never)]
+fn enact(
+    store: &mut Store,
+    trace: &mut Vec<Event>,
+    plan: &mut Plan,
+    directive: &Directive,
+) -> Result<Option<(u64, Vec<Did>)>, Fault>
+    requires births { store.old.state.records.births + 64 ≤ 2 ^ 48 }
+    requires regions { store.old.state.register.next < 2 ^ 48 }
+    ensures judged { OnOk result (plan_of store.old.limits directive.now store.old.state ≡ Ok (planned_verdict directive.now plan.new store.old)) }
+    ensures planned { OnOk result (IsPlanOf store.old.limits directive.now store.old.state plan.new) }
+    ensures idle { IfOk result (λ told. is_none told ≡ is_idle directive.now store.old.state) }
+    ensures number { IfOk result (λ told. IfSome told (λ t. t.0 ≡ number_told directive.now store.old.state)) }
+    ensures apart { IfOk result (λ told. IfSome told (λ t. t.1.items ≡ apart_of plan.new.written)) }
+    ensures place { IfOk result (λ told. IfSome told (λ _. vec_len trace.new < vec_capacity trace.new)) }
+    ensures limits { store.new.limits ≡ store.old.limits }
+    ensures state { OnOk result (store.new.state ≡ state_by store.old.limits.full (planned_verdict directive.now plan.new store.old) store.old.state) }
+    ensures trace { trace.new.items ≡ trace.old.items }
+    ensures refused { IfErr result (MayBeToldOf (plan_of store.old.limits directive.now store.old.state)) }
+    ensures same { OnErr result (store.new.state ≡ store.old.state) }
+{
+    let Some(apart) = prepare(store, trace, plan, directive)? else {
+        return Ok(None);
+    };
+    let number = number_told(store, directive);
+    store.commit(directive, plan);
+    Ok(Some((number, apart)))
+}
+
 /// Judges a directive, makes room for it, does it and stores its event, and returns the reply.
 ///
 /// # Errors
 ///
 /// What the store refuses to plan, or [`Fault::Memory`] where there is no such refusal. The directive comes back, and
 /// nothing changed.
+#[inline(always)]
 pub fn carry_out(
     store: &mut Store,
     trace: &mut Vec<Event>,
@@ -218,8 +242,13 @@ pub fn carry_out(
     ensures refused { IfErr result (λ back. MayBeToldOf (plan_of store.old.limits directive store.old.state) back.1) }
     ensures same { OnErr result (IsAsBefore store.old store.new trace.old.items trace.new.items) }
 {
-    match prepare(store, trace, plan, &directive) {
-        Ok(Some(did)) => Ok(commit(store, trace, plan, directive, did)),
+    match enact(store, trace, plan, &directive) {
+        Ok(Some((number, apart))) => {
+            let reply = reply_told(&directive, number);
+            let did = list_of(plan.did(), apart);
+            trace.push_reserved(event_told(store.number(), directive, number, did));
+            Ok(reply)
+        }
         Ok(None) => Ok(Reply::Idle),
         Err(fault) => Err((directive, fault)),
     }

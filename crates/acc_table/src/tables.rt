@@ -157,6 +157,7 @@ impl Table {
     ///   - it has not as many bytes as its block;
     ///   - with full traces, one of its bytes outside of the section is not what it was when the block was lent;
     /// - last [`Fault::Memory`], where there is no other refusal, something to do, and memory cannot be allocated.
+    #[inline(always)]
     pub fn apply(&mut self, call: Call) -> Result<Reply, (Call, Fault)>
         ensures done { IfOk result (λ reply. IsDone self.old call reply self.new) }
         ensures refused { IfErr result (λ back. IsRefusal self.old call back.1) }
@@ -184,6 +185,7 @@ impl Table {
 
     /// Carries out a directive, or hands it back with what it is refused for.
     #[tactic(auto, using(crate::proofs::Verdicts::refused_before))]
+    #[inline(always)]
     pub(crate) fn direct(&mut self, directive: Directive) -> Result<Reply, (Directive, Fault)>
         ensures done { IfOk result (λ reply. IsDone self.old (Do directive) reply self.new) }
         ensures refused { IfErr result (λ back. IsRefusal self.old (Do directive) back.1) }
@@ -251,6 +253,7 @@ impl Table {
 
     /// The device of a directive, or what is refused before its items are judged.
     #[tactic(auto, unfolding(crate::specs::Making::admitted))]
+    #[inline(always)]
     fn admit(&self, directive: &Directive) -> Result<u64, Fault>
         ensures { MatchResult result (λ device. (device ≡ device_for directive.now self.now.state) × (admitted self.now directive.now ≡ Ok tt)) (λ fault. admitted self.now directive.now ≡ Err fault) }
     {

@@ -1,0 +1,30 @@
+use Rattle.std.proofs.Common.{ℕ, ◌≡◌, sym, ◌∙◌, ap, subst, false, List, [], ◌∷◌, ◌++◌}
+use Rattle.acc_clauses.specs.Words.{Did, Event}
+use Rattle.acc_base.specs.Limits.{Limits}
+use Rattle.acc_base.specs.Judge.{Verdict, Makes, verdict_of}
+use Rattle.acc_clauses.specs.Planned.{in_written_order, state_by}
+use Rattle.acc_table.specs.Making.{is_idle, number_told, event_told, reply_told, IsCommitted}
+use Rattle.acc_table.proofs.Verdicts.{told, replied}
+use Rattle.acc_table.proofs.making.carry_out.Goals as goal
+
+pub returns-in-Ok-Some-clause-done : goal.returns-in-Ok-Some-clause-done
+returns-in-Ok-Some-clause-done c =
+    let e = c.in-Ok-Some.ensures in
+    let k : ℕ = c.args.store.now.limits.number in
+    let d = c.args.directive in
+    let s = c.args.store.now.state in
+    let dids : List Did = c.enact.new.plan.dids in
+    let did : List Did = c.list_of-did.result in
+    let own : c.number.result ≡ k = c.number.ensures ∙ ap (λ (l : Limits). l.number) e.limits in
+    let busy : is_idle d s ≡ false = sym (rw c.in-Ok-Some.field-0-is at e.idle) in
+    let told_number = rw c.in-Ok-Some.field-0-is at e.number in
+    let number : c.in-Ok-Some.number ≡ number_told d s = cc (told_number, c.in-Ok-Some.number-is) in
+    let written : c.list_of-did.result ≡ in_written_order d dids = c.list_of-did.ensures ∙ (c.did.ensures ∙ e.planned.written) in
+    let made : verdict_of k d s dids ≡ Makes (event_told k d (number_told d s) did) = told k d s dids busy ∙ ap (λ ds. Makes (event_told k d (number_told d s) ds)) (sym written) in
+    let event : c.event_told.result ≡ event_told k d (number_told d s) did = c.event_told.ensures ∙ (ap (λ m. event_told m d c.in-Ok-Some.number did) own ∙ ap (λ n. event_told k d n did) number) in
+    subst (λ (v : Verdict). IsCommitted v c.reply_told-reply.result c.args.store.now c.enact.new.store c.args.trace.now.items c.push_reserved.new.self.items) (sym made) (record {
+      reply = c.reply_told-reply.ensures ∙ (ap (reply_told d) number ∙ replied k d (number_told d s) did s);
+      limits = e.limits;
+      state = e.state ∙ ap (λ (v : Verdict). state_by c.args.store.now.limits.full v s) made;
+      trace = c.push_reserved.ensures.items ∙ (ap (λ (es : List Event). es ++ c.event_told.result ∷ []) e.trace ∙ ap (λ (x : Event). c.args.trace.now.items ++ x ∷ []) event);
+    })

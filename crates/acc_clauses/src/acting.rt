@@ -12,16 +12,18 @@ ghost use Rattle.acc_clauses.specs.Contents.{AreMarked, beside, room_of, bare_st
 ghost use Rattle.acc_clauses.specs.Overlays.{puts_by};
 ghost use Rattle.acc_clauses.specs.Acts.{CanAct, CanCount, CanBear, CanMove, CanDrop, HasRoomFor, IsRoomLeft, IsActedBy, CanMake, IsBlockMade, is_copied_now, birth_of, CanDo, IsDoneBy, pointers_of, CanPut, CanQueue, CanNeed, HasPutRoom, IsFilledLater, IsGivenBy};
 
+use crate::acted::Acted;
 use crate::environments::Environment;
 use crate::pointers::aim_on;
 use crate::rows::{gives_bytes, queue_of, section_of};
 use crate::transfers::{move_bytes, transfer_at};
-use acc_base::{Counter, Did, Item, RegionClause, Section, Step, Task, Transfer};
+use acc_base::{Counter, Item, RegionClause, Section, Step, Task, Transfer};
 use acc_dev::Device;
 use acc_host::HostMem;
 use acc_present::Present;
 
 /// Raises a counter of the range that is mapped to a block. An address says where it is looked for first.
+#[inline(always)]
 fn raise(present: &mut Present, counter: Counter, block: u64, at: u64)
     requires there { HasRange present.old.table block }
     requires below { counter_of counter block present.old.table.ranges < present.old.table.counter_max }
@@ -34,13 +36,14 @@ fn raise(present: &mut Present, counter: Counter, block: u64, at: u64)
 }
 
 /// Changes the counters of the range that is mapped to a block as the task does (OpenACC 3.3, section 2.6.7).
-fn recount(present: &mut Present, task: Task, block: u64)
-    requires can { CanCount present.old.table.counter_max task block present.old.table.ranges }
-    ensures table { present.new.table ≡ with_ranges present.old.table (changed_at block (recounted task) present.old.table.ranges) }
+#[inline(always)]
+fn recount(present: &mut Present, task: &Task, block: u64)
+    requires can { CanCount present.old.table.counter_max task.now block present.old.table.ranges }
+    ensures table { present.new.table ≡ with_ranges present.old.table (changed_at block (recounted task.now) present.old.table.ranges) }
     ensures room { IsRoomKept present.old.room present.new.room }
 {
-    let at = section_of(task).start;
-    match task {
+    let at = section_of(*task).start;
+    match *task {
         Task::Enter { counter, .. } => raise(present, counter, block, at),
         Task::ExitRegion { .. } => present.drop_near(Counter::Structured, block, at),
         Task::ExitData { finalize: true, .. } => present.clear_near(block, at),
@@ -140,28 +143,28 @@ fn bear(
 }
 
 /// Where the task copies at the end of a mapping, host memory gets the bytes of the section, at once or later.
-fn give_bytes(environment: &mut Environment, host: &mut HostMem, task: Task, block: u64)
-    requires can { CanMove (section_of task) block (bare_state (beside environment.old host.old)) }
+fn give_bytes(environment: &mut Environment, host: &mut HostMem, task: &Task, block: u64)
+    requires can { CanMove (section_of task.now) block (bare_state (beside environment.old host.old)) }
     requires free { is_lent block environment.old.device.loans ≡ false }
-    requires queue { CanQueue task (Dropped block true) (beside environment.old host.old) }
-    requires puts { HasPutRoom (λ q. puts_by q task (Dropped block true)) (room_of (beside environment.old host.old)) }
+    requires queue { CanQueue task.now (Dropped block true) (beside environment.old host.old) }
+    requires puts { HasPutRoom (λ q. puts_by q task.now (Dropped block true)) (room_of (beside environment.old host.old)) }
     requires marked { AreMarked (beside environment.old host.old) }
-    ensures given { IsGivenBy task block (beside environment.old host.old) (beside environment.new host.new) }
+    ensures given { IsGivenBy task.now block (beside environment.old host.old) (beside environment.new host.new) }
 {
-    if gives_bytes(task) {
+    if gives_bytes(*task) {
         let t = transfer_at(&environment.present, task, block);
-        move_bytes(environment, host, queue_of(task), t);
+        move_bytes(environment, host, queue_of(*task), t);
     }
 }
 
 /// Ends the mapping to a block. A block that a queued transfer names stays; else it is given back.
-fn end(environment: &mut Environment, host: &mut HostMem, task: Task, block: u64)
-    requires can { CanDrop task block true (bare_state (beside environment.old host.old)) }
+fn end(environment: &mut Environment, host: &mut HostMem, task: &Task, block: u64)
+    requires can { CanDrop task.now block true (bare_state (beside environment.old host.old)) }
     requires free { is_lent block environment.old.device.loans ≡ false }
-    requires queue { CanQueue task (Dropped block true) (beside environment.old host.old) }
-    requires puts { HasPutRoom (λ q. puts_by q task (Dropped block true)) (room_of (beside environment.old host.old)) }
+    requires queue { CanQueue task.now (Dropped block true) (beside environment.old host.old) }
+    requires puts { HasPutRoom (λ q. puts_by q task.now (Dropped block true)) (room_of (beside environment.old host.old)) }
     requires marked { AreMarked (beside environment.old host.old) }
-    ensures acted { IsActedBy task (Dropped block true) (beside environment.old host.old) (beside environment.new host.new) }
+    ensures acted { IsActedBy task.now (Dropped block true) (beside environment.old host.old) (beside environment.new host.new) }
 {
     give_bytes(environment, host, task, block);
     environment.device.laws();
@@ -172,13 +175,14 @@ fn end(environment: &mut Environment, host: &mut HostMem, task: Task, block: u64
 }
 
 /// Lowers the counters of a range, or ends its mapping where none is above zero then.
-fn lower(environment: &mut Environment, host: &mut HostMem, task: Task, block: u64, ended: bool)
-    requires can { CanDrop task block ended (bare_state (beside environment.old host.old)) }
+#[inline(always)]
+fn lower(environment: &mut Environment, host: &mut HostMem, task: &Task, block: u64, ended: bool)
+    requires can { CanDrop task.now block ended (bare_state (beside environment.old host.old)) }
     requires free { is_lent block environment.old.device.loans ≡ false }
-    requires queue { CanQueue task (Dropped block ended) (beside environment.old host.old) }
-    requires puts { HasPutRoom (λ q. puts_by q task (Dropped block ended)) (room_of (beside environment.old host.old)) }
+    requires queue { CanQueue task.now (Dropped block ended) (beside environment.old host.old) }
+    requires puts { HasPutRoom (λ q. puts_by q task.now (Dropped block ended)) (room_of (beside environment.old host.old)) }
     requires marked { AreMarked (beside environment.old host.old) }
-    ensures acted { IsActedBy task (Dropped block ended) (beside environment.old host.old) (beside environment.new host.new) }
+    ensures acted { IsActedBy task.now (Dropped block ended) (beside environment.old host.old) (beside environment.new host.new) }
 {
     if ended {
         end(environment, host, task, block);
@@ -188,64 +192,66 @@ fn lower(environment: &mut Environment, host: &mut HostMem, task: Task, block: u
 }
 
 /// Copies the section of an update, at once or later.
-fn update(environment: &mut Environment, host: &mut HostMem, task: Task, block: u64)
-    requires can { CanMove (section_of task) block (bare_state (beside environment.old host.old)) }
-    requires needed { CanNeed task (Moved block) (beside environment.old host.old) }
-    requires queue { CanQueue task (Moved block) (beside environment.old host.old) }
-    requires puts { HasPutRoom (λ q. puts_by q task (Moved block)) (room_of (beside environment.old host.old)) }
+fn update(environment: &mut Environment, host: &mut HostMem, task: &Task, block: u64)
+    requires can { CanMove (section_of task.now) block (bare_state (beside environment.old host.old)) }
+    requires needed { CanNeed task.now (Moved block) (beside environment.old host.old) }
+    requires queue { CanQueue task.now (Moved block) (beside environment.old host.old) }
+    requires puts { HasPutRoom (λ q. puts_by q task.now (Moved block)) (room_of (beside environment.old host.old)) }
     requires marked { AreMarked (beside environment.old host.old) }
-    ensures acted { IsActedBy task (Moved block) (beside environment.old host.old) (beside environment.new host.new) }
+    ensures acted { IsActedBy task.now (Moved block) (beside environment.old host.old) (beside environment.new host.new) }
 {
     let t = transfer_at(&environment.present, task, block);
-    move_bytes(environment, host, queue_of(task), t);
+    move_bytes(environment, host, queue_of(*task), t);
 }
 
 /// Does the step of a task.
-fn step_on(environment: &mut Environment, host: &mut HostMem, task: Task, step: Step)
-    requires can { CanAct environment.old.present.table.counter_max environment.old.device.memory task step (bare_state (beside environment.old host.old)) }
-    requires needed { CanNeed task step (beside environment.old host.old) }
-    requires queue { CanQueue task step (beside environment.old host.old) }
-    requires room { HasRoomFor (birth_of task step) (room_of (beside environment.old host.old)) }
-    requires puts { HasPutRoom (λ q. puts_by q task step) (room_of (beside environment.old host.old)) }
+#[inline(always)]
+fn step_on(environment: &mut Environment, host: &mut HostMem, x: &Acted)
+    requires can { CanAct environment.old.present.table.counter_max environment.old.device.memory x.now.task x.now.did.step (bare_state (beside environment.old host.old)) }
+    requires needed { CanNeed x.now.task x.now.did.step (beside environment.old host.old) }
+    requires queue { CanQueue x.now.task x.now.did.step (beside environment.old host.old) }
+    requires room { HasRoomFor (birth_of x.now.task x.now.did.step) (room_of (beside environment.old host.old)) }
+    requires puts { HasPutRoom (λ q. puts_by q x.now.task x.now.did.step) (room_of (beside environment.old host.old)) }
     requires marked { AreMarked (beside environment.old host.old) }
-    ensures acted { IsActedBy task step (beside environment.old host.old) (beside environment.new host.new) }
+    ensures acted { IsActedBy x.now.task x.now.did.step (beside environment.old host.old) (beside environment.new host.new) }
 {
-    match step {
+    match x.did.step {
         Step::Nothing => {}
-        Step::Counted { block } => recount(&mut environment.present, task, block),
+        Step::Counted { block } => recount(&mut environment.present, &x.task, block),
         Step::Born { block, place } => {
             let Task::Enter {
                 counter,
                 item,
                 queue,
-            } = task
+            } = x.task
             else {
                 unreachable!()
             };
             bear(environment, host, counter, item, queue, block, place);
         }
-        Step::Dropped { block, ended } => lower(environment, host, task, block, ended),
-        Step::Moved { block } => update(environment, host, task, block),
+        Step::Dropped { block, ended } => lower(environment, host, &x.task, block, ended),
+        Step::Moved { block } => update(environment, host, &x.task, block),
     }
 }
 
 /// Does what a task does: entry attaches after its step, and exit detaches before its step.
-pub(crate) fn act_on(environment: &mut Environment, host: &mut HostMem, task: Task, did: Did)
-    requires can { CanDo (beside environment.old host.old) task did }
-    requires room { HasRoomFor (birth_of task did.step) (room_of (beside environment.old host.old)) }
-    requires pointers { pointers_of did.aim ≤ (room_of (beside environment.old host.old)).attachments }
-    requires puts { HasPutRoom (λ q. puts_by q task did.step) (room_of (beside environment.old host.old)) }
+#[inline(always)]
+pub(crate) fn act_on(environment: &mut Environment, host: &mut HostMem, x: &Acted)
+    requires can { CanDo (beside environment.old host.old) x.now.task x.now.did }
+    requires room { HasRoomFor (birth_of x.now.task x.now.did.step) (room_of (beside environment.old host.old)) }
+    requires pointers { pointers_of x.now.did.aim ≤ (room_of (beside environment.old host.old)).attachments }
+    requires puts { HasPutRoom (λ q. puts_by q x.now.task x.now.did.step) (room_of (beside environment.old host.old)) }
     requires marked { AreMarked (beside environment.old host.old) }
-    ensures done { IsDoneBy task did (beside environment.old host.old) (beside environment.new host.new) }
+    ensures done { IsDoneBy x.now.task x.now.did (beside environment.old host.old) (beside environment.new host.new) }
 {
-    match task {
+    match x.task {
         Task::Enter { .. } => {
-            step_on(environment, host, task, did.step);
-            aim_on(environment, host, did.aim);
+            step_on(environment, host, x);
+            aim_on(environment, host, x.did.aim);
         }
         Task::ExitRegion { .. } | Task::ExitData { .. } | Task::Move { .. } => {
-            aim_on(environment, host, did.aim);
-            step_on(environment, host, task, did.step);
+            aim_on(environment, host, x.did.aim);
+            step_on(environment, host, x);
         }
     }
 }

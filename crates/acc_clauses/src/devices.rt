@@ -24,11 +24,12 @@ ghost use Rattle.acc_clauses.specs.Overlays.{puts_by};
 ghost use Rattle.acc_clauses.specs.Lending.{lent_state, gathered_state};
 ghost use Rattle.acc_clauses.specs.Acts.{IsJudged, IsKnown, HasRoomFor, HasPutRoom, HasRegionRoom, LacksRoom, IsRoomLeft, birth_of, pointers_of};
 
+use crate::acted::Acted;
 use crate::acting::act_on;
 use crate::environments::Environment;
 use crate::transfers::step;
 use crate::views::View;
-use acc_base::{Config, Did, Fault, Holding, Loan, Task};
+use acc_base::{Config, Fault, Holding, Loan};
 use acc_host::HostMem;
 use acc_lend::Lease;
 use std::alloc::Global;
@@ -119,20 +120,21 @@ impl DeviceData {
     }
 
     /// Does what a task is judged to do, where there is room for it. It allocates nothing and is never refused.
-    pub(crate) fn act(&mut self, host: &mut HostMem, task: Task, did: Did)
+    #[inline(always)]
+    pub(crate) fn act(&mut self, host: &mut HostMem, x: &Acted)
         requires host { length host.old ≡ self.old.limits.host }
-        requires judged { IsJudged self.old.limits task did self.old.device.records }
-        requires known { IsKnown self.old.device.records task }
+        requires judged { IsJudged self.old.limits x.now.task x.now.did self.old.device.records }
+        requires known { IsKnown self.old.device.records x.now.task }
         requires births { self.old.device.records.births < 2 ^ 48 }
-        requires room { HasRoomFor (birth_of task did.step) self.old.room }
-        requires pointers { pointers_of did.aim ≤ self.old.room.attachments }
-        requires puts { HasPutRoom (λ q. puts_by q task did.step) self.old.room }
+        requires room { HasRoomFor (birth_of x.now.task x.now.did.step) self.old.room }
+        requires pointers { pointers_of x.now.did.aim ≤ self.old.room.attachments }
+        requires puts { HasPutRoom (λ q. puts_by q x.now.task x.now.did.step) self.old.room }
         ensures limits { self.new.limits ≡ self.old.limits }
-        ensures state { (n : Numbers) → state_beside self.new.device host.new n ≡ act_state task did (state_beside self.old.device host.old n) }
+        ensures state { (n : Numbers) → state_beside self.new.device host.new n ≡ act_state x.now.task x.now.did (state_beside self.old.device host.old n) }
         ensures host { length host.new ≡ length host.old }
-        ensures room { IsRoomLeft (birth_of task did.step) (pointers_of did.aim) (λ q. puts_by q task did.step) self.old.room self.new.room }
+        ensures room { IsRoomLeft (birth_of x.now.task x.now.did.step) (pointers_of x.now.did.aim) (λ q. puts_by q x.now.task x.now.did.step) self.old.room self.new.room }
     {
-        act_on(&mut self.environment, host, task, did);
+        act_on(&mut self.environment, host, x);
     }
 
     /// Makes the first transfer of a queue, if it has one; its block is not lent. It allocates nothing and is never

@@ -58,6 +58,7 @@ fn lessen(environment: &mut Environment, host: &HostMem, pointer: u64, block: u6
 }
 
 /// Attaches or detaches a pointer (OpenACC 3.3, section 2.7.2).
+#[inline(always)]
 pub(crate) fn aim_on(environment: &mut Environment, host: &HostMem, aim: Aim)
     requires can { CanAim environment.old.attached.counter_max aim (bare_state (beside environment.old host.now)) }
     requires room { pointers_of aim ≤ (room_of (beside environment.old host.now)).attachments }

@@ -30,7 +30,6 @@ pub(crate) fn act_all(device: &mut DeviceData, host: &mut HostMem, acts: &[Acted
     ensures room_holdings { device.old.room.holdings ≤ device.new.room.holdings }
 {
     for n in 0..acts.len() {
-        let Acted { task, did } = acts[n];
-        device.act(host, task, did);
+        device.act(host, &acts[n]);
     }
 }

@@ -18,18 +18,18 @@ use acc_host::HostMem;
 use acc_present::Present;
 
 /// The copy of a task's section between host memory and the block that it is mapped to.
-pub(crate) fn transfer_at(present: &Present, task: Task, block: u64) -> Transfer
+pub(crate) fn transfer_at(present: &Present, task: &Task, block: u64) -> Transfer
     requires { HasRange present.now.table block }
-    ensures { result ≡ transfer_at task block present.now.table.ranges }
+    ensures { result ≡ transfer_at task.now block present.now.table.ranges }
 {
-    let section = section_of(task);
+    let section = section_of(*task);
     let start = start_of(present, block);
     let offset = section.start.saturating_sub(start);
     Transfer {
         block,
         offset,
         section,
-        out: goes_out(task),
+        out: goes_out(*task),
     }
 }
 

@@ -79,7 +79,7 @@ pub turn_refused : (l : Limits) (n i : ℕ) (xs : List Acted) (task : Task) (tas
     → prefixed (dids_in xs) (judge_all l n (drop i tasks) (state_after xs s)) ≡ all → all ≡ Err fault
 turn_refused l n i xs task tasks d s fault all within item refused so = grind (arith, nat_tests, drop_more, judge_all-cons)
 
-judge_all-nil : (l : Limits) (n : ℕ) (s : State) → judge_all l n [] s ≡ Ok []
+pub judge_all-nil : (l : Limits) (n : ℕ) (s : State) → judge_all l n [] s ≡ Ok []
 unfolding judge_all
 judge_all-nil l n s = refl
 

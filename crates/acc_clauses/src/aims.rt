@@ -95,6 +95,7 @@ fn release(view: &View<'_>, draft: &Draft, held: Option<(u64, u64)>) -> Aim
 }
 
 /// What becomes of the pointer of a task before its step, after the tasks: what leaves detaches it.
+#[inline(always)]
 pub(crate) fn aim_before(view: &View<'_>, draft: &Draft, task: Task, step: Step) -> Aim
     requires planned { IsPlanned view.now.limits draft.now view.now.state.records }
     requires unmixed { AreUnmixed (tasks_in draft.now) }

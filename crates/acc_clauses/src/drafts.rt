@@ -43,6 +43,7 @@ impl Model for Draft {
 
 // Notes the birth or the end that the task makes, after these tasks.
 #[tactic(auto, using(crate::proofs::Drafted::tally_laws))]
+#[inline(always)]
 fn tally(
     births: &mut u64,
     spans: &mut Slate<(u64, u64)>,
@@ -96,6 +97,7 @@ impl Draft {
     }
 
     /// One more task was judged.
+    #[inline(always)]
     pub(crate) fn push(&mut self, x: Acted)
         requires { length self.old < 64 }
         ensures { self.new ≡ self.old ++ x ∷ [] }

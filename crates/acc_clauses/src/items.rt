@@ -17,6 +17,7 @@ use crate::views::View;
 use acc_base::{Aim, Did, Fault, Step, Task};
 
 // Adds an entry whose step is judged. Its pointer is attached in what the step leaves.
+#[inline(always)]
 fn enter(view: &View<'_>, draft: &mut Draft, n: u64, task: Task, step: Step) -> Result<(), Fault>
     requires entry { enters task ≡ true }
     requires step { judge_step view.now.limits n task (records_after draft.old view.now.state.records) ≡ Ok step }
@@ -39,6 +40,7 @@ fn enter(view: &View<'_>, draft: &mut Draft, n: u64, task: Task, step: Step) -> 
 }
 
 /// Judges the task of the item at place `n` after those before it, and adds it to them.
+#[inline(always)]
 pub(crate) fn judge(view: &View<'_>, draft: &mut Draft, n: u64, task: Task) -> Result<(), Fault>
     requires planned { IsPlanned view.now.limits draft.old view.now.state.records }
     requires unmixed { AreUnmixed (tasks_in draft.old ++ task ∷ []) }

@@ -95,6 +95,7 @@ fn born(view: &View<'_>, draft: &Draft, n: u64, section: Section) -> Result<Step
 }
 
 // The entry of an absent section.
+#[inline(always)]
 fn enter_absent(
     view: &View<'_>,
     draft: &Draft,
@@ -120,6 +121,7 @@ fn enter_absent(
 }
 
 // The counter of a mapped range rises, below its limit.
+#[inline(always)]
 fn counted(
     view: &View<'_>,
     draft: &Draft,
@@ -145,6 +147,7 @@ fn counted(
 
 // An item of a region's entry, or of `enter data`.
 #[tactic(auto, using(crate::proofs::Laws::plan_laws), unfolding(acc_base::specs::Steps::judge_row))]
+#[inline(always)]
 fn enter(
     view: &View<'_>,
     draft: &Draft,
@@ -188,6 +191,7 @@ fn dropped(task: Task, block: u64, counters: Counters) -> Step
 
 // Undoes what an item of a region's entry counted, and nothing else.
 #[tactic(auto, using(crate::proofs::Laws::plan_laws), unfolding(acc_base::specs::Steps::judge_row))]
+#[inline(always)]
 fn leave(view: &View<'_>, draft: &Draft, holding: Holding) -> Result<Step, Fault>
     requires { IsPlanned view.now.limits draft.now view.now.state.records }
     ensures { (n : ℕ) → result ≡ judge_row view.now.limits n (Task.ExitRegion holding) (records_after draft.now view.now.state.records) }
@@ -204,6 +208,7 @@ fn leave(view: &View<'_>, draft: &Draft, holding: Holding) -> Result<Step, Fault
 
 // An item of `exit data`.
 #[tactic(auto, using(crate::proofs::Laws::plan_laws), unfolding(acc_base::specs::Steps::judge_row))]
+#[inline(always)]
 fn exit(
     view: &View<'_>,
     draft: &Draft,
@@ -240,6 +245,7 @@ fn exit(
 
 // An item of `update`.
 #[tactic(auto, unfolding(acc_base::specs::Steps::judge_row))]
+#[inline(always)]
 fn copy(
     view: &View<'_>,
     n: u64,
@@ -266,6 +272,7 @@ fn copy(
 /// What the clause tables say of the task of the item at place `n` after those that were judged before it. The exit from
 /// a region knows its block, and so its section is not searched for.
 #[tactic(auto, using(crate::proofs::Laws::kind_laws))]
+#[inline(always)]
 pub(crate) fn judge_row(view: &View<'_>, draft: &Draft, n: u64, task: Task) -> Result<Step, Fault>
     requires planned { IsPlanned view.now.limits draft.now view.now.state.records }
     requires unmixed { AreUnmixed (tasks_in draft.now ++ task ∷ []) }
@@ -303,6 +310,7 @@ pub(crate) fn judge_row(view: &View<'_>, draft: &Draft, n: u64, task: Task) -> R
 
 // The queue of a task has room for the transfer of its step.
 #[tactic(auto, using(crate::proofs::QueuesAfter::room_laws))]
+#[inline(always)]
 fn room_for(view: &View<'_>, draft: &Draft, task: Task, step: Step) -> Result<(), Fault>
     requires planned { IsPlanned view.now.limits draft.now view.now.state.records }
     requires known { queue_named (queue_of task) ≡ Ok tt }
@@ -343,6 +351,7 @@ fn block_aimed(aim: Aim) -> Option<u64>
 
 /// What the tables say of a task can be done. Neither the block in which it detaches a pointer before its step is lent,
 /// nor the one that the step needs. And its queue has room.
+#[inline(always)]
 pub(crate) fn step_free(
     view: &View<'_>,
     draft: &Draft,

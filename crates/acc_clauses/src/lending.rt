@@ -13,6 +13,7 @@ use acc_base::{Directive, Fault, Found, Loan, QUEUE_COUNT, Section};
 use acc_lend::Lease;
 
 /// The block, if there is one, is not lent.
+#[inline(always)]
 pub(crate) fn not_lent(view: &View<'_>, block: Option<u64>) -> Result<(), Fault>
     ensures { result ≡ not_lent block view.now.state.records.loans }
 {

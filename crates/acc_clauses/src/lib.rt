@@ -34,7 +34,6 @@ mod spans;
 mod spares;
 mod stores;
 mod targets;
-mod tasks;
 mod transfers;
 mod views;
 

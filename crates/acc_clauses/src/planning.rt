@@ -1,6 +1,8 @@
 //! A directive is judged whole, without memory and without a change.
 
-ghost use Rattle.std.specs.Prelude.{◌≡◌, ◌<◌, ◌≤◌, ◌^◌, MatchResult, OnOk, length, Ok, Err};
+ghost use Rattle.std.specs.Prelude.{ℕ, ◌≡◌, ◌<◌, ◌≤◌, ◌^◌, MatchResult, OnOk, length, get_or, Ok, Err};
+ghost use Rattle.acc_base.specs.declared.tasks.Task.{Task};
+ghost use Rattle.acc_base.specs.Walk.{enter_data_task};
 ghost use Rattle.std.specs.List.{AllByRecursion};
 ghost use Rattle.acc_base.specs.Acting.{judge_all};
 ghost use Rattle.acc_base.specs.Queues.{queue_named};
@@ -14,9 +16,61 @@ use crate::items::judge;
 use crate::lending::transfers_free;
 use crate::notes::{note_births, note_holdings, note_written};
 use crate::plans::Plan;
-use crate::tasks::{task_at, task_count};
 use crate::views::View;
-use acc_base::{Directive, Fault, Holding, QUEUE_COUNT};
+use acc_base::{Counter, Directive, EnterClause, Fault, Holding, Item, QUEUE_COUNT, Task};
+
+// The task of an item of `enter data`.
+fn enter_data_task(item: Item<EnterClause>, queue: Option<u64>) -> Task
+    ensures { result ≡ enter_data_task queue item }
+{
+    let item = Item {
+        clause: item.clause.as_region(),
+        section: item.section,
+        pointer: item.pointer,
+    };
+    Task::Enter {
+        counter: Counter::Dynamic,
+        item,
+        queue,
+    }
+}
+
+/// How many tasks a directive has, where the region that it leaves holds these.
+fn task_count(directive: &Directive, holdings: &[Holding]) -> usize
+    ensures { result ≡ length (tasks_with directive.now holdings.now) }
+{
+    match directive {
+        Directive::Exit { .. } => holdings.len(),
+        _ => directive.item_count(),
+    }
+}
+
+/// Judges each task of a directive as if those before it had acted, where the region that it leaves holds these. The
+/// task at a place, counted from 0, is told by a closure of the kind of the directive: so its code is that of this kind.
+#[inline(always)]
+fn judge_each<F: Fn(usize) -> Task>(
+    view: &View<'_>,
+    directive: &Directive,
+    holdings: &[Holding],
+    task: F,
+    draft: &mut Draft,
+) -> Result<(), Fault>
+    requires asked { (n : ℕ) → n < length (tasks_with directive.now holdings.now) → F.pre task n × ((t d : Task) → F.post task n t → t ≡ get_or (tasks_with directive.now holdings.now) n d) }
+    requires few { length (tasks_with directive.now holdings.now) ≤ 64 }
+    requires unmixed { AreUnmixed (tasks_with directive.now holdings.now) }
+    requires queues { AreQueuesNamed (tasks_with directive.now holdings.now) }
+    requires births { view.now.state.records.births < 2 ^ 48 }
+    ensures judged { MatchResult result (λ _. judge_all view.now.limits 0 (tasks_with directive.now holdings.now) view.now.state ≡ Ok (dids_in draft.new)) (λ fault. judge_all view.now.limits 0 (tasks_with directive.now holdings.now) view.now.state ≡ Err fault) }
+    ensures asked { OnOk result (tasks_in draft.new ≡ tasks_with directive.now holdings.now) }
+    ensures planned { OnOk result (IsPlanned view.now.limits draft.new view.now.state.records) }
+{
+    view.laws();
+    draft.clear();
+    for n in 0..task_count(directive, holdings) {
+        judge(view, draft, n as u64, task(n))?;
+    }
+    Ok(())
+}
 
 /// Judges each task of a directive as if those before it had acted, where the region that it leaves holds these.
 fn judge_all(
@@ -33,12 +87,61 @@ fn judge_all(
     ensures asked { OnOk result (tasks_in draft.new ≡ tasks_with directive.now holdings.now) }
     ensures planned { OnOk result (IsPlanned view.now.limits draft.new view.now.state.records) }
 {
-    view.laws();
-    draft.clear();
-    for n in 0..task_count(directive, holdings) {
-        judge(view, draft, n as u64, task_at(directive, holdings, n))?;
+    match directive {
+        Directive::Enter { items, .. } => {
+            let (items, counter, queue) = (items.as_slice(), Counter::Structured, None);
+            let task = |n: usize| Task::Enter {
+                counter,
+                item: items[n],
+                queue,
+            };
+            judge_each(view, directive, holdings, task, draft)
+        }
+        Directive::Exit { .. } => {
+            let task = |n: usize| Task::ExitRegion {
+                holding: holdings[holdings.len() - 1 - n],
+            };
+            judge_each(view, directive, holdings, task, draft)
+        }
+        Directive::EnterData { items, queue, .. } => {
+            let (items, queue) = (items.as_slice(), *queue);
+            let task = |n: usize| enter_data_task(items[n], queue);
+            judge_each(view, directive, holdings, task, draft)
+        }
+        Directive::ExitData {
+            items,
+            finalize,
+            queue,
+            ..
+        } => {
+            let (items, finalize, queue) = (items.as_slice(), *finalize, *queue);
+            let task = |n: usize| Task::ExitData {
+                finalize,
+                item: items[n],
+                queue,
+            };
+            judge_each(view, directive, holdings, task, draft)
+        }
+        Directive::Update {
+            items,
+            if_present,
+            queue,
+            ..
+        } => {
+            let (items, if_present, queue) = (items.as_slice(), *if_present, *queue);
+            let task = |n: usize| Task::Move {
+                if_present,
+                item: items[n],
+                queue,
+            };
+            judge_each(view, directive, holdings, task, draft)
+        }
+        Directive::Wait { .. } | Directive::Step { .. } => {
+            view.laws();
+            draft.clear();
+            Ok(())
+        }
     }
-    Ok(())
 }
 
 /// How many items a directive may name.
@@ -49,6 +152,7 @@ const ITEM_LIMIT: usize = 64;
 /// # Errors
 ///
 /// [`Fault::TooManyItems`] above 64 items.
+#[inline(always)]
 pub fn check_items(directive: &Directive) -> Result<(), Fault>
     ensures { result ≡ few_items directive.now }
 {

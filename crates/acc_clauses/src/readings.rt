@@ -37,6 +37,7 @@ pub(crate) fn found_after(view: &View<'_>, draft: &Draft, section: Section) -> F
 
 /// Where a section lies after the tasks, and the range that was found on the way.
 #[tactic(auto, using(crate::proofs::Laws::plan_laws))]
+#[inline(always)]
 pub(crate) fn locate_after(view: &View<'_>, draft: &Draft, section: Section) -> Located
     requires planned { IsPlanned view.now.limits draft.now view.now.state.records }
     requires unmixed { AreUnmixed (tasks_in draft.now) }
@@ -49,6 +50,7 @@ pub(crate) fn locate_after(view: &View<'_>, draft: &Draft, section: Section) -> 
 }
 
 /// Where a section lies after the tasks, of which none ends a mapping that it may touch.
+#[inline(always)]
 fn found_past(draft: &Draft, section: Section, found: Found) -> Found
     ensures { result ≡ found_over section found draft.now }
 {
@@ -61,6 +63,7 @@ fn found_past(draft: &Draft, section: Section, found: Found) -> Found
 /// The counters of the range that is mapped to a block after the tasks; both are 0 where none is. Before them it is not
 /// searched for where it is the one that is known.
 #[tactic(auto, using(crate::proofs::Laws::plan_laws))]
+#[inline(always)]
 pub(crate) fn counters_after(
     view: &View<'_>,
     draft: &Draft,

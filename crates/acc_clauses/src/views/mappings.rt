@@ -16,6 +16,7 @@ impl View<'_> {
     }
 
     /// Where a section lies once the mappings to these blocks have ended, and a mapped range that says so, if one does.
+    #[inline(always)]
     pub(crate) fn find_apart(&self, section: Section, blocks: &[u64]) -> (Found, Option<Range>)
         ensures found { result.0 ≡ where_is_apart section blocks.now self.now.state.records.ranges }
         ensures range { IfSome result.1 (λ range. range_of range.block self.now.state.records.ranges ≡ Some range) }
@@ -62,6 +63,7 @@ impl View<'_> {
 
     /// The reference counters of the range that is mapped to a block, as [`View::counters`] returns them. It is not
     /// searched for where it is the one that is known.
+    #[inline(always)]
     pub(crate) fn counters_known(&self, block: u64, known: Option<Range>) -> Counters
         requires { IfSome known (λ range. range_of range.block self.now.state.records.ranges ≡ Some range) }
         ensures structured { result.structured ≡ structured_of block self.now.state.records.ranges }

@@ -1,44 +1,7 @@
-use Rattle.std.proofs.Common.{◌<◌, sym, ap, ◌∙◌, length, arith, rules}
-use Rattle.acc_base.specs.declared.tasks.Task.{Task}
-use Rattle.acc_base.specs.Queues.{queue_named}
-use Rattle.acc_base.specs.Tasks.{queue_of}
-use Rattle.acc_base.specs.Judge.{tasks_with}
-use Rattle.acc_clauses.proofs.Asking.{queue_at_turn}
-use Rattle.acc_clauses.proofs.Turns.{turns_begun, task_judged, turn_refused, turns_done, unmixed_turn, asked_turn, few_turn, IsPlanned-next}
+use Rattle.std.proofs.Common.{arith}
+use Rattle.std.proofs.lemmas.Bool.Decides.{nat_tests}
+use Rattle.acc_clauses.proofs.Turns.{judge_all-nil}
 use Rattle.acc_clauses.proofs.planning.judge_all.Goals as goal
 
-pub loop-n-init : goal.loop-n-init
-loop-n-init c = grind (arith, turns_begun)
-
-pub judge-requires-clause-unmixed : goal.judge-requires-clause-unmixed
-judge-requires-clause-unmixed c =
-    let within : c.loop-n.n < length (tasks_with c.args.directive.now c.args.holdings.now) = omega (arith, c.loop-n-test.true, c.task_count-n-end.ensures) in
-    unmixed_turn c.loop-n.n _ c.task_at.result (tasks_with c.args.directive.now c.args.holdings.now) c.task_at.result within (c.task_at.ensures c.task_at.result) c.loop-n.invariant.asked c.requires.unmixed
-
-pub judge-requires-clause-queue : goal.judge-requires-clause-queue
-judge-requires-clause-queue c =
-    let within : c.loop-n.n < length (tasks_with c.args.directive.now c.args.holdings.now) = omega (arith, c.loop-n-test.true, c.task_count-n-end.ensures) in
-    ap (λ (t : Task). queue_named (queue_of t)) (c.task_at.ensures c.task_at.result) ∙ queue_at_turn (tasks_with c.args.directive.now c.args.holdings.now) c.loop-n.n c.task_at.result within c.requires.queues
-
-pub returns-in_err-judge-clause-judged : goal.returns-in_err-judge-clause-judged
-returns-in_err-judge-clause-judged c =
-    let within : c.loop-n.n < length (tasks_with c.args.directive.now c.args.holdings.now) = omega (arith, c.loop-n-test.true, c.task_count-n-end.ensures) in
-    let refused = turn_refused c.args.view.now.limits c.loop-n.n c.loop-n.n c.loop-n.draft c.task_at.result (tasks_with c.args.directive.now c.args.holdings.now) c.task_at.result c.args.view.now.state _ _ within (c.task_at.ensures c.task_at.result) c.in_err-judge.ensures c.loop-n.invariant.judged in
-    search rules
-
-pub loop-n-preserved : goal.loop-n-preserved
-loop-n-preserved c =
-    let r = c.loop-n.invariant in
-    let tasks = tasks_with c.args.directive.now c.args.holdings.now in
-    let within : c.loop-n.n < length tasks = omega (arith, c.loop-n-test.true, c.task_count-n-end.ensures) in
-    let next = c.in_ok-judge.ensures in
-    let is = c.task_at.ensures c.task_at.result in
-    record {
-      few = few_turn c.loop-n.n _ _ _ next.more r.few;
-      asked = asked_turn c.loop-n.n c.loop-n.draft c.judge.new.draft _ tasks c.task_at.result within is next.more r.asked;
-      planned = IsPlanned-next c.args.view.now.limits c.loop-n.n c.loop-n.draft c.judge.new.draft c.task_at.result c.args.view.now.state (sym r.few) r.planned next;
-      judged = task_judged c.args.view.now.limits c.loop-n.n c.loop-n.n c.loop-n.draft c.judge.new.draft c.task_at.result tasks c.task_at.result c.args.view.now.state _ within is next r.judged;
-    }
-
-pub returns-clause-judged : goal.returns-clause-judged
-returns-clause-judged c = grind (arith, turns_done)
+pub returns-in-Wait-clause-judged : goal.returns-in-Wait-clause-judged
+returns-in-Wait-clause-judged c = grind (arith, nat_tests, judge_all-nil)

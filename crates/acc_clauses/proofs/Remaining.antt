@@ -68,10 +68,6 @@ pub rest_done : (acts : List Acted) (i : ℕ) (s u : State) → length acts ≤ 
 unfolding act_all_state
 rest_done acts i s u h e = let none : drop i acts ≡ [] = drop_all i acts h in rw none at e
 
--- all lengths are noted behind the last task
-pub lens_done : (acts : List Acted) (i : ℕ) (lens all : List ℕ) → length acts ≤ i → lens ++ lens_born (tasks_in (drop i acts)) (dids_in (drop i acts)) ≡ all → lens ≡ all
-lens_done acts i lens all h e = let none : drop i acts ≡ [] = drop_all i acts h in let same : lens ++ [] ≡ all = rw none at e in sym (append-nil lens) ∙ same
-
 -- all holdings are noted behind the last task
 pub holdings_done : (acts : List Acted) (i : ℕ) (holdings all : List Holding) → length acts ≤ i → holdings ++ holdings_by (tasks_in (drop i acts)) (dids_in (drop i acts)) ≡ all → holdings ≡ all
 holdings_done acts i holdings all h e = let none : drop i acts ≡ [] = drop_all i acts h in let same : holdings ++ [] ≡ all = rw none at e in sym (append-nil holdings) ∙ same

@@ -369,10 +369,3 @@ LacksRoom lens regions holdings pointers room = (0 < length lens) ⊎ (room.regi
 -- for a plan of a directive, also for its transfers in some queue
 abbrev pub LacksPlanRoom : Directive → Planned → Room → Type 0
 LacksPlanRoom d p room = LacksRoom (lens_born p.tasks p.dids) (regions_entered d) (length (holdings_by p.tasks p.dids)) (pointers_in p.dids) room ⊎ ((q : ℕ) × (spare_at q room.puts < puts_in q p.tasks p.dids))
-
--- ---- what a plan notes
-
--- beside the tasks of a plan stand the lengths of their new blocks, and what a region holds that they enter
-pub record IsNoted (tasks : List Task) (dids : List Did) (lens : List ℕ) (holdings : List Holding) : Type 0 where
-  pub lens_are : lens ≡ lens_born tasks dids
-  pub holdings_are : holdings ≡ holdings_by tasks dids

@@ -83,11 +83,17 @@ abbrev pub ended_of : List Acted → List ℕ
 ended_of [] = []
 ended_of (x ∷ xs) = end_by x.did.step ++ ended_of xs
 
--- what a draft notes beside its tasks: how many births there are among them, the spans that those take, and the ends
-pub record IsDraft (xs : List Acted) (births : ℕ) (spans : List (ℕ × ℕ)) (ended : List ℕ) : Type 0 where
-  pub births_are : births ≡ length (births_of xs)
+-- the lengths alone
+abbrev pub lens_of : List (ℕ × ℕ) → List ℕ
+lens_of births = map (λ (b : ℕ × ℕ). b.1) births
+
+-- what a draft notes beside its tasks: what they do, the lengths of the births among them, the spans that those take,
+-- and the ends
+pub record IsDraft (xs : List Acted) (dids : List Did) (lens : List ℕ) (spans : List (ℕ × ℕ)) (ended : List ℕ) : Type 0 where
+  pub dids_are : dids ≡ dids_in xs
+  pub lens_are : lens ≡ lens_of (births_of xs)
   pub spans_are : AreSpans (births_of xs) spans
-  pub few_spans : length spans ≤ births
+  pub few_spans : length spans ≤ length lens
   pub ended_are : ended ≡ ended_of xs
   pub few : length xs ≤ 64
 

@@ -32,6 +32,11 @@ abbrev pub in_written_order : Directive → List Did → List Did
 in_written_order (directives.Exit number) dids = reverse dids
 in_written_order _ dids = dids
 
+-- what the items did, in written order, from what was noted of them turned round, and from what they did as they acted
+abbrev pub told_of : List Did → List Did → List Did
+told_of [] dids = dids
+told_of (did ∷ turned) dids = did ∷ turned
+
 -- the plan is what judging the directive in this state found. The directive asks at most 64 tasks, and the plan has
 -- what they do. There is the queue that it names. No transfer that it makes is of a block that is lent
 pub record IsPlanOf (l : Limits) (d : Directive) (s : State) (p : Planned) : Type 0 where

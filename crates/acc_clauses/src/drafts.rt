@@ -2,7 +2,7 @@
 
 ghost use Rattle.std.specs.Prelude.{List, [], ◌∷◌, ◌++◌, ◌≡◌, ◌<◌, ◌≤◌, length, true};
 ghost use Rattle.acc_clauses.specs.Words.{Counters, Found};
-ghost use Rattle.acc_clauses.specs.Overlays.{IsDraft, births_of, ended_of, with_aim, found_over, counters_over};
+ghost use Rattle.acc_clauses.specs.Overlays.{IsDraft, dids_in, births_of, lens_of, ended_of, with_aim, found_over, counters_over};
 ghost use Rattle.acc_clauses.specs.Spans.{AreSpans};
 ghost use Rattle.acc_clauses.specs.declared.acted.Acted.{Acted};
 
@@ -18,8 +18,10 @@ use std::marker::Model;
 #[derive(Drop)]
 pub(crate) struct Draft {
     acts: Slate<Acted>,
-    // How many blocks they give birth to.
-    births: u64,
+    // What they do.
+    dids: Slate<Did>,
+    // The lengths of the blocks that they give birth to.
+    lens: Slate<u64>,
     // The addresses that those take.
     spans: Slate<(u64, u64)>,
     // The blocks whose mappings they end.
@@ -38,27 +40,30 @@ impl Model for Draft {
 
     ghost view = { λ d. d.acts };
 
-    ghost invariant = { λ d. IsDraft d.acts d.births d.spans d.ended × IsOutlined d.acts d.outline };
+    ghost invariant = { λ d. IsDraft d.acts d.dids d.lens d.spans d.ended × IsOutlined d.acts d.outline };
 }
 
 // Notes the birth or the end that the task makes, after these tasks.
 #[tactic(auto, using(crate::proofs::Drafted::tally_laws))]
 #[inline(always)]
 fn tally(
-    births: &mut u64,
+    dids: &mut Slate<Did>,
+    lens: &mut Slate<u64>,
     spans: &mut Slate<(u64, u64)>,
     ended: &mut Slate<u64>,
     x: Acted,
     acts: &[Acted],
 )
-    requires draft { IsDraft acts.now births.old spans.old ended.old }
+    requires draft { IsDraft acts.now dids.old lens.old spans.old ended.old }
     requires few { length acts.now < 64 }
-    ensures { IsDraft (acts.now ++ x ∷ []) births.new spans.new ended.new }
+    ensures { IsDraft (acts.now ++ x ∷ []) dids.new lens.new spans.new ended.new }
 {
+    dids.push(x.did);
     match x.did.step {
         Step::Born { place, .. } => {
-            *births += 1;
-            add_birth(spans, (place, section_of(x.task).len));
+            let len = section_of(x.task).len;
+            lens.push(len);
+            add_birth(spans, (place, len));
         }
         Step::Dropped { block, ended: over } => {
             if over {
@@ -78,7 +83,8 @@ impl Draft {
     {
         Draft {
             acts: Slate::new(),
-            births: 0,
+            dids: Slate::new(),
+            lens: Slate::new(),
             spans: Slate::new(),
             ended: Slate::new(),
             outline: Outline::new(),
@@ -90,7 +96,8 @@ impl Draft {
         ensures { self.new ≡ [] }
     {
         self.acts.clear();
-        self.births = 0;
+        self.dids.clear();
+        self.lens.clear();
         self.spans.clear();
         self.ended.clear();
         self.outline = Outline::new();
@@ -103,7 +110,8 @@ impl Draft {
         ensures { self.new ≡ self.old ++ x ∷ [] }
     {
         tally(
-            &mut self.births,
+            &mut self.dids,
+            &mut self.lens,
             &mut self.spans,
             &mut self.ended,
             x,
@@ -118,11 +126,13 @@ impl Draft {
         ensures { (xs : List Acted) (x : Acted) → self.old ≡ xs ++ x ∷ [] → self.new ≡ xs ++ with_aim aim x ∷ [] }
     {
         if let Some(x) = self.acts.pop() {
-            let step = x.did.step;
-            self.acts.push(Acted {
-                task: x.task,
-                did: Did { step, aim },
-            });
+            let did = Did {
+                step: x.did.step,
+                aim,
+            };
+            self.acts.push(Acted { task: x.task, did });
+            let _ = self.dids.pop();
+            self.dids.push(did);
         }
     }
 
@@ -134,12 +144,21 @@ impl Draft {
         self.acts.as_slice()
     }
 
-    /// How many blocks they give birth to.
-    pub(crate) fn births(&self) -> u64
-        ensures value { result ≡ length (births_of self.now) }
-        ensures few { result ≤ 64 }
+    /// What they do.
+    pub(crate) fn dids(&self) -> &[Did]
+        ensures value { result.now ≡ dids_in self.now }
+        ensures few { length result.now ≤ 64 }
     {
-        self.births
+        self.dids.as_slice()
+    }
+
+    /// The lengths of the blocks that they give birth to, one after the other.
+    pub(crate) fn lens(&self) -> &[u64]
+        ensures value { result.now ≡ lens_of (births_of self.now) }
+        ensures count { length result.now ≡ length (births_of self.now) }
+        ensures few { length result.now ≤ 64 }
+    {
+        self.lens.as_slice()
     }
 
     /// The addresses that those take: the place and the length of each span.

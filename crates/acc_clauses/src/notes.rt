@@ -3,48 +3,27 @@
 ghost use Rattle.std.specs.Prelude.{◌≡◌, ◌+◌, ◌++◌, ◌<◌, ◌≤◌, length};
 ghost use Rattle.acc_base.specs.Walk.{block_counted, pointer_attached};
 ghost use Rattle.acc_clauses.specs.Overlays.{tasks_in, dids_in};
-ghost use Rattle.acc_clauses.specs.Planned.{in_written_order, holding_by, holdings_by};
-ghost use Rattle.acc_clauses.specs.Acts.{birth_of, lens_born};
+ghost use Rattle.acc_clauses.specs.Planned.{told_of, in_written_order, holding_by, holdings_by};
 
 use crate::acted::Acted;
-use crate::rows::section_of;
 use crate::slates::Slate;
 use acc_base::{Aim, Counter, Did, Directive, Holding, Step, Task};
 use arrayvec::ArrayVec;
 
-/// What the tasks of a directive do, in the order in which its items are written.
-pub fn note_written(written: &mut ArrayVec<Did, 64>, directive: &Directive, acts: &[Acted])
-    requires { length acts.now ≤ 64 }
-    ensures { written.new.items ≡ in_written_order directive.now (dids_in acts.now) }
+/// Notes what the tasks of the exit from a region do, where they are several: turned round, since the last item acts
+/// first. Of other directives they stand as they act, and nothing is noted.
+pub fn note_turned(turned: &mut ArrayVec<Did, 64>, directive: &Directive, dids: &[Did])
+    requires { length dids.now ≤ 64 }
+    ensures { told_of turned.new.items dids.now ≡ in_written_order directive.now dids.now }
 {
-    written.clear();
-    for x in acts {
-        written.push(x.did);
-    }
+    turned.clear();
     if let Directive::Exit { .. } = directive {
-        written.reverse();
-    }
-}
-
-// Notes the length of the block that a task gives birth to, if it does.
-fn note_birth(lens: &mut Slate<u64>, x: &Acted)
-    requires { length lens.old < 64 }
-    ensures lens { lens.new ≡ lens.old ++ birth_of x.now.task x.now.did.step }
-    ensures few { length lens.new ≤ length lens.old + 1 }
-{
-    if let Step::Born { .. } = x.did.step {
-        lens.push(section_of(x.task).len);
-    }
-}
-
-/// The lengths of the blocks that these tasks give birth to, one after the other.
-pub fn note_births(lens: &mut Slate<u64>, acts: &[Acted])
-    requires { length acts.now ≤ 64 }
-    ensures { lens.new ≡ lens_born (tasks_in acts.now) (dids_in acts.now) }
-{
-    lens.clear();
-    for x in acts {
-        note_birth(lens, x);
+        if dids.len() > 1 {
+            for did in dids {
+                turned.push(*did);
+            }
+            turned.reverse();
+        }
     }
 }
 

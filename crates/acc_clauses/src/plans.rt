@@ -18,23 +18,22 @@ use std::marker::Model;
 #[derive(Drop)]
 pub struct Plan {
     pub(crate) draft: Draft,
-    // What was noted of its tasks, in written order: lengths of new blocks, holdings of a region that they enter, and
-    // what they do.
-    pub(crate) lens: Slate<u64>,
+    // The holdings of a region that its tasks enter.
     pub(crate) holdings: Slate<Holding>,
-    pub(crate) written: ArrayVec<Did, 64>,
+    // What its tasks do in written order, where that is not the order in which they act.
+    pub(crate) turned: ArrayVec<Did, 64>,
 }
 
 impl Model for Plan {
     ghost use Rattle.acc_clauses.specs.Overlays.{tasks_in, dids_in};
-    ghost use Rattle.acc_clauses.specs.Planned.{Planned};
-    ghost use Rattle.acc_clauses.specs.Acts.{IsNoted};
+    ghost use Rattle.std.specs.Prelude.{◌≡◌};
+    ghost use Rattle.acc_clauses.specs.Planned.{Planned, told_of, holdings_by};
 
     ghost Value = { Planned };
 
-    ghost view = { λ p. record { tasks = tasks_in p.draft; dids = dids_in p.draft; written = p.written.items } };
+    ghost view = { λ p. record { tasks = tasks_in p.draft; dids = dids_in p.draft; written = told_of p.turned.items (dids_in p.draft) } };
 
-    ghost invariant = { λ p. IsNoted (tasks_in p.draft) (dids_in p.draft) p.lens p.holdings };
+    ghost invariant = { λ p. p.holdings ≡ holdings_by (tasks_in p.draft) (dids_in p.draft) };
 }
 
 impl Plan {
@@ -44,9 +43,8 @@ impl Plan {
     {
         Plan {
             draft: Draft::new(),
-            lens: Slate::new(),
             holdings: Slate::new(),
-            written: ArrayVec::new(),
+            turned: ArrayVec::new(),
         }
     }
 
@@ -60,18 +58,24 @@ impl Plan {
     }
 
     /// What each item does, in the order in which the directive or the region names them. It allocates nothing.
+    #[inline(always)]
     pub fn did(&self) -> &[Did]
         ensures { result.now ≡ self.now.written }
     {
-        &self.written
+        if self.turned.is_empty() {
+            self.draft.dids()
+        } else {
+            &self.turned
+        }
     }
 
     /// The lengths of the blocks that its tasks give birth to, one after the other.
+    #[tactic(auto, using(crate::proofs::Drafted::lens_laws))]
     pub(crate) fn lens(&self) -> &[u64]
         ensures lens { result.now ≡ lens_born self.now.tasks self.now.dids }
         ensures few { length result.now ≤ 64 }
     {
-        self.lens.as_slice()
+        self.draft.lens()
     }
 
     /// What the region that it enters holds, in written order; nothing where it enters none.

@@ -113,7 +113,7 @@ pub(crate) fn number_after(view: &View<'_>, draft: &Draft) -> u64
     requires births { view.now.state.records.births < 2 ^ 48 }
     ensures { result ≡ (records_after draft.now view.now.state.records).births + 1 }
 {
-    view.next_block() + draft.births()
+    view.next_block() + draft.lens().len() as u64
 }
 
 /// How many transfers wait in a queue after the tasks.

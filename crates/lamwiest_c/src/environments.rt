@@ -86,6 +86,7 @@ impl TableWithLeases {
     }
 
     /// Makes a call that moves no lease.
+    #[inline(always)]
     fn make(&mut self, call: Call) -> Result<u64, Refusal>
         ensures { IsMadeIn self.old call (λ r. result ≡ r) self.new }
     {
@@ -103,6 +104,7 @@ impl TableWithLeases {
     /// # Errors
     ///
     /// That of the table.
+    #[inline(always)]
     pub fn direct(&mut self, directive: Directive) -> Result<u64, Refusal>
         ensures { IsMadeIn self.old (Do directive) (λ r. result ≡ r) self.new }
     {

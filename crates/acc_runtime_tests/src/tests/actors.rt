@@ -65,6 +65,8 @@ pub enum Asked {
     Regions,
     /// How many events are stored.
     Stored,
+    /// How many bytes of the device are used.
+    Used,
 }
 
 /// A call of an actor's. It returns a number: 1 or 0 for yes and no, and else 0 where it has none to return.
@@ -133,6 +135,7 @@ fn answer(table: &Table, asked: Asked) -> u64 {
         Asked::IsPresent => u64::from(table.is_present(0, ARRAY)),
         Asked::Regions => table.regions(),
         Asked::Stored => table.trace().len() as u64,
+        Asked::Used => table.used(0),
     }
 }
 
@@ -172,7 +175,7 @@ impl<'a, Regions: Limited, Tickets: Ledger, Events: Ledger, R: Abort + Wait + Al
     }
 
     /// Compares what the caller has left and made.
-    pub fn has(&self, allowance: u64, tickets: u64, made: u64) {
+    pub fn must_have(&self, allowance: u64, tickets: u64, made: u64) {
         let caller = &self.caller;
         let found = (caller.allowance(), caller.tickets(), caller.made());
         same(self.rt, found, (allowance, tickets, made));
@@ -292,14 +295,15 @@ impl<'a, Regions: Limited, Tickets: Ledger, Events: Ledger, R: Abort + Wait + Al
         )
     }
 
-    /// Makes a call, and once more where memory was refused for it. No event is stored then.
+    /// Makes a call, and once more where memory was refused for it. No event is stored then, and no block is kept.
     fn make_again(&mut self, deed: Deed, stored: u64) -> Result<u64, Fault> {
+        let used = self.look(Asked::Used);
         let made = self.make(deed);
         if made != Err(Fault::Memory) || !self.may_lack {
             return made;
         }
-        let found = self.look(Asked::Stored);
-        same(self.rt, found, stored);
+        let found = (self.look(Asked::Stored), self.look(Asked::Used));
+        same(self.rt, found, (stored, used));
         self.make(deed)
     }
 

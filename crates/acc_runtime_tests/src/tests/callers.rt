@@ -28,10 +28,11 @@ const FOUND: [Row; 3] = [
 ];
 
 /// What is found where a region was entered by another thread.
-const LEFT: [Row; 3] = [
+const LEFT: [Row; 4] = [
     (Deed::Look(Asked::Regions), Ok(1)),
     (Deed::Exit, Ok(0)),
     (Deed::Look(Asked::Regions), Ok(0)),
+    (Deed::Look(Asked::Used), Ok(16)),
 ];
 
 impl<
@@ -66,7 +67,7 @@ impl<
         }
         self.refuse_with(0, Fault::NoTickets { left: 0 })?;
         self.refuse_with(1, Fault::NoAllowance { left: 0 })?;
-        self.has(64, 100, 0);
+        self.must_have(64, 100, 0);
         Ok(())
     }
 
@@ -94,7 +95,7 @@ impl<
             || self.map_and_tell(meeting),
         );
         self.caller.merge(other);
-        self.has(64, 98, 2);
+        self.must_have(64, 98, 2);
     }
 
     /// One thread enters a region with all that its caller has, and another exits from it, which gets the place.
@@ -109,7 +110,7 @@ impl<
         self.make_rows(&LEFT);
         same(rt, (left, other.allowance()), (63, 0));
         self.caller.merge(other);
-        self.has(64, 96, 4);
+        self.must_have(64, 96, 4);
     }
 
     /// Does these things one after the other.

@@ -87,7 +87,7 @@ impl<
         let clause = RegionClause::Create { zero: true };
         self.make_rows(&[(Deed::Enter(clause), Ok(1)), (Deed::Lend, Ok(1))]);
         self.drill_as(threads, Some(first), Err(fault))?;
-        self.has(62, 96, 4);
+        self.must_have(62, 96, 4);
         Ok(())
     }
 }

@@ -52,7 +52,10 @@ impl<
 > Actor<'_, Regions, Tickets, Events, R> {
     fn play(&mut self, scene: Scene) -> Result<(), Fault> {
         match scene {
-            Scene::Life => Ok(self.live()),
+            Scene::Life => {
+                self.live();
+                Ok(())
+            }
             Scene::Serve(service) => self.serve_as(service),
             Scene::Workers(first) => self.serve_both(first),
             Scene::Drill(_, ends) => self.drill_as(2, None, ends),

@@ -45,10 +45,11 @@ const SERVICES: [Scene; 2] = [
     }),
 ];
 
-/// The array is mapped, and a copy of it is put into queue 3.
-const PUT: [Row; 2] = [
+/// The array is mapped, and a copy of it is put into queue 3. Both events are folded, so the next one needs memory.
+const PUT: [Row; 3] = [
     (Deed::EnterData, Ok(0)),
     (Deed::Update(UpdateClause::ToSelf, Some(3)), Ok(0)),
+    (Deed::Rebase, Ok(2)),
 ];
 
 /// A channel in which these words wait, and which is closed behind them.
@@ -70,6 +71,20 @@ impl<
     Events: Ledger + Send + Sync,
     R: Abort + Clock + Threads + Wait + AllocGlobal + Sync,
 > Actor<'_, Regions, Tickets, Events, R> {
+    /// Compares what a worker did. Memory may be refused for a step, which is returned: that is one refusal more, and a
+    /// later word made the step.
+    fn must_serve(&self, found: Served, saw_all: bool, wanted: Served) -> Result<(), Fault> {
+        let lacked = self.may_lack && wanted.refusals < found.refusals;
+        let refusals = wanted.refusals.saturating_add(u64::from(lacked));
+        let steps = wanted.steps;
+        same(
+            self.rt,
+            (found, saw_all || lacked),
+            (Served { steps, refusals }, true),
+        );
+        if lacked { Err(Fault::Memory) } else { Ok(()) }
+    }
+
     /// Serves the words of a channel as the worker of a number in a meeting, and compares what it did. Another caller
     /// looks how many events there are when the gate is called.
     fn serve_from(
@@ -79,11 +94,11 @@ impl<
         service: Service,
         meeting: &Meeting,
         number: usize,
-    ) {
+    ) -> Result<(), Fault> {
         let watch = Watch::new(meeting, number, self.runtime, looking, service.events);
         let words = from.iter(self.rt);
         let served = serve(self.rt, self.runtime, &mut self.caller, words, &watch);
-        same(self.rt, (served, watch.saw_all()), (service.served, true));
+        self.must_serve(served, watch.saw_all(), service.served)
     }
 
     fn serve_in(
@@ -94,8 +109,7 @@ impl<
     ) -> Result<(), Fault> {
         let looking = self.caller.split(0, 0)?;
         let from = bells(self.rt, self.rt.alloc(), service.words)?;
-        self.serve_from(&from, looking, service, meeting, number);
-        Ok(())
+        self.serve_from(&from, looking, service, meeting, number)
     }
 
     /// Tells a worker the words of a service. What it leaves of the one copy is made then.
@@ -160,6 +174,13 @@ impl<
 #[test]
 fn queues_are_served_as_the_words_say(rt: HostRuntime) -> Result<(), Fail> {
     play_each(&rt, &SERVICES, false)?;
+    Ok(())
+}
+
+/// A step that memory is refused for is a refusal, and its transfer is left for the next word.
+#[test]
+fn a_refused_growth_is_counted_by_a_worker(rt: HostRuntime) -> Result<(), Fail> {
+    play_each(&rt, &SERVICES, true)?;
     Ok(())
 }
 

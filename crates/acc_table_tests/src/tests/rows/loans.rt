@@ -1,7 +1,7 @@
 //! Loans: what a lent block is refused, and how it comes back.
 
 use crate::tests::language::Ask::{Do, Exit, Lend};
-use crate::tests::language::Check::{Bytes, Counted, Device, Events, Host, Queue, Used};
+use crate::tests::language::Check::{Bytes, Counted, Device, Events, Host, Queue, Stored, Used};
 use crate::tests::language::Line::{
     Adds, Brings, Does, Gathers, Gives, Idles, Makes, On, Refuses, Says,
 };
@@ -125,7 +125,7 @@ pub const ROWS: &[Row] = &[
             Gives(Lend(1, (A, 1)), 1),
             Adds(1, 1),
             Gathers(1),
-            Says(Events(5)),
+            Says(Stored(5)),
             Says(Bytes(0, Some(&[7]))),
             Says(Bytes(4, Some(&[8]))),
             Says(Device((A, 1), Some(&[8]))),

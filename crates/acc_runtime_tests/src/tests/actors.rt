@@ -120,13 +120,14 @@ pub struct Actor<'a, Regions: Limited, Tickets: Ledger, Events: Ledger, R> {
 }
 
 /// The items of a directive that names the array in one clause.
-fn items<C: Copy + Drop>(alloc: Global, clause: C) -> Result<Vec<Item<C>>, AllocError> {
-    let item = Item {
+fn items<C: Drop>(alloc: Global, clause: C) -> Result<Vec<Item<C>>, AllocError> {
+    let mut items = Vec::new(alloc);
+    items.push(Item {
         clause,
         section: ARRAY,
         pointer: None,
-    };
-    Vec::from_slice(alloc, &[item])
+    })?;
+    Ok(items)
 }
 
 /// What a table says.

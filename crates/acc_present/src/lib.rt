@@ -8,4 +8,4 @@ mod ranges;
 mod register;
 
 pub use presence::Present;
-pub use register::OpenRegion;
+pub use register::{Holds, OpenRegion};

@@ -2,6 +2,7 @@
 
 ghost use Rattle.std.specs.Prelude.{◌≡◌, false, ℕ, ◌+◌, ◌*◌, ◌^◌, ◌<◌, ◌≤◌, ◌⊎◌, ◌↔◌, length, map, option_map, MatchResult, None, Some, Err, IfOk, IfErr, OnOk, OnErr, IfSome, MatchOption, vec_capacity};
 ghost use Rattle.std.specs.Bool.{OnTrue};
+ghost use Rattle.std.specs.List.{flat_map};
 ghost use Rattle.acc_base.specs.declared.mappings.Range.{Range};
 ghost use Rattle.acc_base.specs.declared.mappings.Counter.TheVariants.{Structured, Dynamic};
 ghost use Rattle.acc_base.specs.declared.mappings.Found.TheVariants.{Absent};
@@ -12,7 +13,7 @@ ghost use Rattle.acc_present.specs.Present.{IsWithinLimit, new_table, with_range
 ghost use Rattle.acc_present.specs.Kept.{IsNext, IsChangeable, changed_by};
 
 use crate::ranges::{CounterChange, Recount, changed, told_by, value_of};
-use crate::register::{OpenRegion, Register};
+use crate::register::{Holds, OpenRegion, Register};
 use acc_base::{Counter, Counters, Fault, Found, Holding, Range, Section, Steps};
 use acc_index::Index;
 use acc_ordered::{KeyValue, KeyValueRef, OrderedTree};
@@ -169,7 +170,7 @@ impl Present {
 
     /// Where a section lies among the ranges without those of the listed blocks, as far as the last range says that does
     /// not begin behind the section's start, with that range. Else the first range that does.
-    #[inline]
+    #[inline(always)]
     fn locate(
         &self,
         section: Section,
@@ -547,17 +548,18 @@ impl Present {
         self.register.enter(number, holdings)
     }
 
-    /// As [`Present::enter`], where there is room for one more region and for its holdings: it allocates nothing and is
-    /// not refused. It takes at most one from the room of regions, and leaves no room for holdings of a further region.
-    pub fn enter_reserved(&mut self, number: u64, holdings: &[Holding])
+    /// As [`Present::enter`], with those that tell what the region holds of each. There is room for one more region, and
+    /// for one holding of each: it allocates nothing and is not refused. It takes at most one from the room of regions,
+    /// and leaves no room for holdings of a further region.
+    pub fn enter_reserved<H: Holds>(&mut self, number: u64, entered: &[H])
         requires room { 1 ≤ self.old.room.regions }
-        requires room_holdings { length holdings.now ≤ self.old.room.holdings }
+        requires room_holdings { length entered.now ≤ self.old.room.holdings }
         requires new { region_at number self.old.table.regions ≡ None }
-        ensures table { self.new.table ≡ with_regions self.old.table (with_region (record { number = number; holdings = holdings.now }) self.old.table.regions) }
+        ensures table { self.new.table ≡ with_regions self.old.table (with_region (record { number = number; holdings = flat_map H.held entered.now }) self.old.table.regions) }
         ensures room_ranges { self.old.room.ranges ≤ self.new.room.ranges }
         ensures room_regions { self.old.room.regions ≤ self.new.room.regions + 1 }
     {
-        self.register.enter_reserved(number, holdings);
+        self.register.enter_reserved(number, entered);
     }
 
     /// What an open region holds, in the written order of its items, or `None` where no region of that number is open.

@@ -111,7 +111,8 @@ fn reply_told(directive: &Directive, number: u64) -> Reply
 
 /// Of what the items do, what stands in memory of its own: all of it, but nothing where that is of one item.
 fn copy_apart(alloc: Global, did: &[Did]) -> Result<Vec<Did>, AllocError>
-    ensures { IfOk result (λ apart. apart.items ≡ apart_of did.now) }
+    ensures apart { IfOk result (λ apart. apart.items ≡ apart_of did.now) }
+    ensures one { length did.now ≡ 1 → IsOk result }
 {
     match did {
         [_] => Ok(Vec::new(alloc)),

@@ -1,5 +1,5 @@
 use Rattle.std.proofs.Common.{◌≡◌, ◌++◌, drop, length}
-use Rattle.acc_clauses.proofs.notes.note_turned.Given as goal
+use Rattle.acc_clauses.proofs.plans.note_turned.Given as goal
 
 abbrev pub invariant-loop-did : goal.invariant-loop-did
 invariant-loop-did l = record {

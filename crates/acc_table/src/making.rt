@@ -38,63 +38,71 @@ fn number_told(store: &Store, directive: &Directive) -> u64
     }
 }
 
-/// The event of a directive on a device, with this number and what its items did, in written order.
+/// Stores the event of a directive on a device, with this number and what its items did, in written order. Each kind is
+/// stored where it is known, so that no event is first made of what all kinds may have.
 #[inline(always)]
-fn event_told(device: u64, directive: Directive, number: u64, did: List<Did>) -> Event
-    ensures { result ≡ event_told device directive number did }
+fn store_event(
+    trace: &mut Vec<Event>,
+    device: u64,
+    directive: Directive,
+    number: u64,
+    did: List<Did>,
+)
+    requires { vec_len trace.old < vec_capacity trace.old }
+    ensures { trace.new.items ≡ trace.old.items ++ event_told device directive number did ∷ [] }
 {
     match directive {
-        Directive::Enter { items, .. } => Event::Entered {
+        Directive::Enter { items, .. } => trace.push_reserved(Event::Entered {
             device,
             number,
             items,
             did,
-        },
-        Directive::Exit { number } => Event::Left {
+        }),
+        Directive::Exit { number } => trace.push_reserved(Event::Left {
             device,
             number,
             did,
-        },
-        Directive::EnterData { items, queue, .. } => Event::EnteredData {
+        }),
+        Directive::EnterData { items, queue, .. } => trace.push_reserved(Event::EnteredData {
             device,
             items,
             queue,
             did,
-        },
+        }),
         Directive::ExitData {
             items,
             finalize,
             queue,
             ..
-        } => Event::ExitedData {
+        } => trace.push_reserved(Event::ExitedData {
             device,
             items,
             finalize,
             queue,
             did,
-        },
+        }),
         Directive::Update {
             items,
             if_present,
             queue,
             ..
-        } => Event::Updated {
+        } => trace.push_reserved(Event::Updated {
             device,
             items,
             if_present,
             queue,
             did,
-        },
-        Directive::Wait { queue, .. } => Event::Waited {
+        }),
+        Directive::Wait { queue, .. } => trace.push_reserved(Event::Waited {
             device,
             queue,
             count: number,
-        },
-        Directive::Step { queue, .. } => Event::Stepped {
+        }),
+        Directive::Step { queue, .. } => trace.push_reserved(Event::Stepped {
             device,
             queue,
             block: number,
-        },
+        }),
     }
 }
 
@@ -247,7 +255,7 @@ pub fn carry_out(
         Ok(Some((number, apart))) => {
             let reply = reply_told(&directive, number);
             let did = list_of(plan.did(), apart);
-            trace.push_reserved(event_told(store.number(), directive, number, did));
+            store_event(trace, store.number(), directive, number, did);
             Ok(reply)
         }
         Ok(None) => Ok(Reply::Idle),

@@ -40,11 +40,7 @@ pub fn copy_regions_of(
 }
 
 /// The ranges that are kept for some blocks, in their order. One is for each.
-pub fn ranges_of(
-    ranges: &Index<Range>,
-    blocks: &[u64],
-    alloc: Global,
-) -> Result<Vec<Range>, Fault>
+pub fn ranges_of(ranges: &Index<Range>, blocks: &[u64], alloc: Global) -> Result<Vec<Range>, Fault>
     requires { AllByRecursion (λ b. IsSome (kept_in ranges.now b)) blocks.now }
     ensures ok { IfOk result (λ copied. copied.items ≡ map (λ b. or_blank (kept_in ranges.now b)) blocks.now) }
     ensures only { IfErr result (λ fault. fault ≡ Fault.Memory) }

@@ -11,6 +11,7 @@ ghost use Rattle.acc_ordered.specs.Listing.{seen};
 ghost use Rattle.acc_present.specs.Present.{IsWithinLimit, new_table, with_ranges, with_regions, HasRange, HasRegion, IsToldBy, IsRoomKept, IsRangeRoomTaken, IsRegionRoomTaken, IsRoomMissing, IsMemoryNeeded, IsLawful, region_of};
 ghost use Rattle.acc_present.specs.Kept.{kept_in, range_told, IsNext, IsChangeable, changed_by};
 
+use crate::copying::ranges_of;
 use crate::ranges::{CounterChange, changed, told_by, value_of};
 use crate::register::{OpenRegion, Register};
 use acc_base::{Counter, Counters, Fault, Found, Holding, Range, Section, Steps};
@@ -199,8 +200,11 @@ impl Present {
     fn behind(&self, range: Range) -> Option<Range>
         ensures { result ≡ range_from (range.section.start + 1) self.now.table.ranges }
     {
-        let after = range.section.start.checked_add(1)?;
-        range_if(&self.ranges, self.starts.next(after))
+        let starts = &self.starts;
+        range_if(
+            &self.ranges,
+            starts.next(range.section.start.checked_add(1)?),
+        )
     }
 
     /// The range that is mapped to a block, if one is. It is found mostly without a search.
@@ -415,7 +419,8 @@ impl Present {
         ensures table { self.new.table ≡ with_ranges self.old.table (changed_at range.block (changed_by change) self.old.table.ranges) }
         ensures room { IsRoomKept self.old.room self.new.room }
     {
-        *self.ranges.value_mut_near(range.block, near) = changed(change, range);
+        let own = self.ranges.value_mut_near(range.block, near);
+        *own = changed(change, range);
     }
 
     /// Changes a counter of the range that is mapped to a block. One is, and the counter does not rise.

@@ -5,12 +5,12 @@ use Rattle.acc_present.specs.Kept.{kept_in, range_told}
 use Rattle.acc_present.proofs.Mapping.{first_told, none_past}
 use Rattle.acc_present.proofs.presence.Present.behind.Goals as goal
 
-pub returns-in_err-checked_add-after : goal.returns-in_err-checked_add-after
-returns-in_err-checked_add-after c =
-    let past : 2 ^ 64 ≤ c.args.range.section.start + 1 = grind (arith, c.in_err-checked_add-after.ensures) in
+pub returns-in_err-checked_add : goal.returns-in_err-checked_add
+returns-in_err-checked_add c =
+    let past : 2 ^ 64 ≤ c.args.range.section.start + 1 = grind (arith, c.in_err-checked_add.ensures) in
     c.from_residual.ensures ∙ sym (none_past (c.args.range.section.start + 1) c.self.inside.starts.entries (kept_in c.self.inside.ranges) past c.self.invariant.2.bound) ∙ ap (λ (p : PresentState). range_from (c.args.range.section.start + 1) p.table.ranges) c.self.view_is
 
 pub returns : goal.returns
 returns c =
-    let from : c.in_ok-checked_add-after.field-0 ≡ c.args.range.section.start + 1 = c.in_ok-checked_add-after.ensures.1 in
-    c.range_if.ensures ∙ ap (range_told (kept_in c.self.inside.ranges)) c.next.ensures ∙ first_told c.in_ok-checked_add-after.field-0 c.self.inside.starts.entries (kept_in c.self.inside.ranges) c.self.invariant.2 ∙ ap (λ (p : PresentState). range_from c.in_ok-checked_add-after.field-0 p.table.ranges) c.self.view_is ∙ ap (λ (k : ℕ). range_from k c.args.self.now.table.ranges) from
+    let from : c.in_ok-checked_add.field-0 ≡ c.args.range.section.start + 1 = c.in_ok-checked_add.ensures.1 in
+    c.range_if.ensures ∙ ap (range_told (kept_in c.self.inside.ranges)) c.next.ensures ∙ first_told c.in_ok-checked_add.field-0 c.self.inside.starts.entries (kept_in c.self.inside.ranges) c.self.invariant.2 ∙ ap (λ (p : PresentState). range_from c.in_ok-checked_add.field-0 p.table.ranges) c.self.view_is ∙ ap (λ (k : ℕ). range_from k c.args.self.now.table.ranges) from

@@ -21,11 +21,11 @@ now c =
     let whole = sym (ap (λ (p : PresentState). p.table.ranges) c.self.view_is) in
     let none : range_of c.args.range.block (ranges_in kept es) ≡ None = subst (λ (rs : List Range). range_of c.args.range.block rs ≡ None) whole c.requires.new in
     rw c.insert.ensures.entries (mapped_now c.args.range es kept (kept_in c.insert-2.new.self) c.self.invariant.2 (omega arith)
-        (subst (λ (rs : List Range). where_is c.args.range.section rs ≡ Absent) whole c.requires.absent) none
-        (λ b. ap (value_at b) c.insert-2.ensures.entries ∙ value-with c.args.range.block b c.args.range c.self.inside.ranges.entries (c.self.invariant.2.agrees c.args.range.block ∙ none)))
+    (subst (λ (rs : List Range). where_is c.args.range.section rs ≡ Absent) whole c.requires.absent) none
+    (λ b. ap (value_at b) c.insert-2.ensures.entries ∙ value-with c.args.range.block b c.args.range c.self.inside.ranges.entries (c.self.invariant.2.agrees c.args.range.block ∙ none)))
 
-pub insert-2-requires-clause-new : goal.insert-2-requires-clause-new
-insert-2-requires-clause-new c = c.self.invariant.2.agrees c.args.range.block ∙ subst (λ (rs : List Range). range_of c.args.range.block rs ≡ None) (sym (ap (λ (p : PresentState). p.table.ranges) c.self.view_is)) c.requires.new
+pub insert-requires-2-clause-new : goal.insert-requires-2-clause-new
+insert-requires-2-clause-new c = c.self.invariant.2.agrees c.args.range.block ∙ subst (λ (rs : List Range). range_of c.args.range.block rs ≡ None) (sym (ap (λ (p : PresentState). p.table.ranges) c.self.view_is)) c.requires.new
 
 pub invariant_of-self : goal.invariant_of-self
 invariant_of-self c =

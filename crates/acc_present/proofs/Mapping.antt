@@ -133,6 +133,10 @@ block_is block rs r found =
     let passes = subst (λ o. IfSome o (λ x. Contains rs x × ((x.block == block) ≡ true))) found (find_passes (λ x. x.block == block) rs) in
     equal r.block block passes.1
 
+-- so it is the range of its block
+pub own_range : (block : ℕ) (rs : List Range) (r : Range) → range_of block rs ≡ Some r → range_of r.block rs ≡ Some r
+own_range block rs r found = ap (λ (n : ℕ). range_of n rs) (block_is block rs r found) ∙ found
+
 -- the entry of a key is that of a block, by both, and has the block's range
 pub record IsEntryOf (block : ℕ) (es : List (KeyValue ℕ)) (kept : ℕ → Option Range) (r : Range) : Type 0 where
   pub entry : KeyValue ℕ

@@ -12,6 +12,7 @@ ghost use Rattle.acc_present.specs.Present.{IsWithinLimit, new_table, with_range
 ghost use Rattle.acc_present.specs.Kept.{kept_in, range_told, IsNext, IsChangeable, changed_by};
 
 use crate::copying::ranges_of;
+use crate::hints::Hints;
 use crate::ranges::{CounterChange, changed, told_by, value_of};
 use crate::register::{OpenRegion, Register};
 use acc_base::{Counter, Counters, Fault, Found, Holding, Range, Section, Steps};
@@ -27,7 +28,8 @@ use std::marker::Model;
 /// Only `new`, `add`, `enter` and `reserve` allocate for it, and `copy_ranges` and `copy_regions` for their results.
 ///
 /// Each range is kept under the number of its block in an [`Index`], where it is found mostly without a search. An
-/// [`OrderedTree`] has the blocks by the rising starts of their ranges.
+/// [`OrderedTree`] has the blocks by the rising starts of their ranges. A section that begins where a range does is mostly
+/// found without it, by a hint.
 #[derive(Drop)]
 pub struct Present {
     counter_max: u64,
@@ -35,6 +37,7 @@ pub struct Present {
     starts: OrderedTree<u64>,
     // The range of each block.
     ranges: Index<Range>,
+    hints: Hints,
     register: Register,
 }
 
@@ -92,6 +95,7 @@ impl Present {
             counter_max,
             starts: OrderedTree::new(alloc, 0),
             ranges: Index::new(alloc),
+            hints: Hints::new(alloc),
             register: Register::new(alloc),
         }
     }
@@ -185,6 +189,10 @@ impl Present {
         if section.len == 0 {
             return Ok((Found::Empty, None));
         }
+        if let Some((found, range)) = self.begun(section, blocks) {
+            steps.tick();
+            return Ok((found, Some(range)));
+        }
         let around = self
             .starts
             .around_counted(section.start.saturating_add(1), steps);
@@ -194,6 +202,24 @@ impl Present {
             }
         }
         Err(range_if(&self.ranges, around.from))
+    }
+
+    /// Where a section lies, as [`Present::locate`] says, with a range that begins where it does. `None` where no hint
+    /// tells one, or that range says nothing.
+    #[inline]
+    fn begun(&self, section: Section, blocks: &[u64]) -> Option<(Found, Range)>
+        requires some { 0 < section.len }
+        ensures found { IfSome result (λ told. told.0 ≡ where_is_apart section blocks.now self.now.table.ranges) }
+        ensures range { IfSome result (λ told. range_of told.1.block self.now.table.ranges ≡ Some told.1) }
+        ensures block { IfSome result (λ told. IsToldBy told.0 (Some told.1)) }
+    {
+        self.laws();
+        let range = self.range(self.hints.block(section.start))?;
+        if range.section.start != section.start {
+            return None;
+        }
+        let found = told_by(range, section, blocks)?;
+        Some((found, range))
     }
 
     /// The mapped range behind another.
@@ -310,6 +336,7 @@ impl Present {
             key: range.section.start,
             value: range.block,
         });
+        self.hints.tell(range.section.start, range.block);
         self.ranges.insert(range.block, range);
     }
 
@@ -583,6 +610,7 @@ impl Present {
         self.ranges.laws();
         self.starts.reserve(ranges)?;
         self.ranges.reserve(ranges as usize)?;
+        self.hints.reserve(&self.ranges, ranges as usize);
         self.register.reserve(regions as usize, holdings as usize)?;
         Ok(())
     }

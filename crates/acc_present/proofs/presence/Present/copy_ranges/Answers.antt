@@ -1,6 +1,5 @@
 use Rattle.std.proofs.Common.{◌≡◌, List, ap, subst, ◌∙◌}
-use Rattle.std.specs.Prelude.{IfOk, IsSome, map}
-use Rattle.std.specs.List.{AllByRecursion}
+use Rattle.std.specs.Prelude.{IfOk, map}
 use Rattle.acc_base.specs.declared.mappings.Range.{Range}
 use Rattle.acc_present.specs.Present.{PresentState}
 use Rattle.acc_present.specs.Kept.{kept_in, or_blank}

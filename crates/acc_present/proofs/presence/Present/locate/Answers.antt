@@ -9,7 +9,7 @@ use Rattle.acc_present.specs.Kept.{kept_in, ranges_in, range_told, IsNext}
 use Rattle.acc_present.proofs.Finding.{last_filled, told_last, silent_last, no_last, from_behind, last_own}
 use Rattle.acc_present.proofs.Mapping.{first_told, last_told}
 use Rattle.acc_present.proofs.presence.Present.locate.Goals as goal
-use Rattle.acc_present.proofs.presence.Present.locate.Goals.{in-Some+in_default-told_by, in_default}
+use Rattle.acc_present.proofs.presence.Present.locate.Goals.{in-Some-range_if+in_default-told_by, in_default-range_if}
 
 pub told_by-requires-clause-mapped : goal.told_by-requires-clause-mapped
 told_by-requires-clause-mapped c =
@@ -17,7 +17,7 @@ told_by-requires-clause-mapped c =
     let es = c.self.inside.starts.entries in
     let kept = kept_in c.self.inside.ranges in
     let last = last_told k es kept (seen c.around_counted-around.result.before) c.range_if.result c.self.invariant.2 c.around_counted-around.ensures.before c.range_if.ensures in
-    last_filled k (ranges_in kept es) c.in-Some.range c.self.invariant.2.mapped (last ∙ c.in-Some.is)
+    last_filled k (ranges_in kept es) c.in-Some-range_if.range c.self.invariant.2.mapped (last ∙ c.in-Some-range_if.is)
 
 pub returns-in-Some-told_by-clause-found : goal.returns-in-Some-told_by-clause-found
 returns-in-Some-told_by-clause-found c =
@@ -27,7 +27,7 @@ returns-in-Some-told_by-clause-found c =
     let near : k ≤ c.args.section.start + 1 = omega (arith, c.saturating_add.ensures) in
     let some : 0 < c.args.section.len = grind (arith, nat_tests, c.if-section-eq0.false) in
     let last = last_told k es kept (seen c.around_counted-around.result.before) c.range_if.result c.self.invariant.2 c.around_counted-around.ensures.before c.range_if.ensures in
-    told_last k c.args.section c.args.blocks.now (ranges_in kept es) c.in-Some.range c.in-Some-told_by.found near some c.self.invariant.2.mapped (last ∙ c.in-Some.is) c.in-Some-told_by.ensures.told
+    told_last k c.args.section c.args.blocks.now (ranges_in kept es) c.in-Some-range_if.range c.in-Some-told_by.found near some c.self.invariant.2.mapped (last ∙ c.in-Some-range_if.is) c.in-Some-told_by.ensures.told
     ∙ ap (λ (p : PresentState). where_is_apart c.args.section c.args.blocks.now p.table.ranges) c.self.view_is
 
 -- the first range from the address on that was searched for
@@ -43,8 +43,8 @@ returns-clause-next c =
     let some : 0 < c.args.section.len = grind (arith, nat_tests, c.if-section-eq0.false) in
     let last = last_told k es kept (seen c.around_counted-around.result.before) c.range_if.result c.self.invariant.2 c.around_counted-around.ensures.before c.range_if.ensures in
     let next : IsNext c.args.section c.args.blocks.now (ranges_in kept es) (range_from k (ranges_in kept es)) = elim c.match-range_if.branch [
-      | in-Some+in_default-told_by w ↦ silent_last k c.args.section c.args.blocks.now (ranges_in kept es) w.in-Some.range near some c.self.invariant.2.mapped (last ∙ w.in-Some.is) w.in_default-told_by.ensures.silent
-      | in_default w ↦ no_last k c.args.section c.args.blocks.now (ranges_in kept es) some c.self.invariant.2.mapped (last ∙ w.in_default.is)
+      | in-Some-range_if+in_default-told_by w ↦ silent_last k c.args.section c.args.blocks.now (ranges_in kept es) w.in-Some-range_if.range near some c.self.invariant.2.mapped (last ∙ w.in-Some-range_if.is) w.in_default-told_by.ensures.silent
+      | in_default-range_if w ↦ no_last k c.args.section c.args.blocks.now (ranges_in kept es) some c.self.invariant.2.mapped (last ∙ w.in_default-range_if.is)
     ] in
     subst (λ (p : PresentState). IsNext c.args.section c.args.blocks.now p.table.ranges c.range_if-2.result) c.self.view_is (subst (λ (o : Option Range). IsNext c.args.section c.args.blocks.now (ranges_in kept es) o) (sym (first c)) next)
 
@@ -59,4 +59,4 @@ returns-in-Some-told_by-clause-range c =
     let es = c.self.inside.starts.entries in
     let kept = kept_in c.self.inside.ranges in
     let last = last_told k es kept (seen c.around_counted-around.result.before) c.range_if.result c.self.invariant.2 c.around_counted-around.ensures.before c.range_if.ensures in
-    subst (λ (p : PresentState). range_of c.in-Some.range.block p.table.ranges ≡ Some c.in-Some.range) c.self.view_is (last_own k (ranges_in kept es) c.in-Some.range c.self.invariant.2.mapped (last ∙ c.in-Some.is))
+    subst (λ (p : PresentState). range_of c.in-Some-range_if.range.block p.table.ranges ≡ Some c.in-Some-range_if.range) c.self.view_is (last_own k (ranges_in kept es) c.in-Some-range_if.range c.self.invariant.2.mapped (last ∙ c.in-Some-range_if.is))

@@ -3,4 +3,3 @@ pub mod Mapping
 pub mod Registering
 pub mod Limits
 pub mod Crossing
-pub mod Recounting

@@ -3,6 +3,7 @@
 #![tactic(auto)]
 
 mod copying;
+mod hints;
 mod presence;
 mod ranges;
 mod register;

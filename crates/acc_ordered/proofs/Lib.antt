@@ -10,4 +10,3 @@ pub mod Beside
 pub mod Avl
 pub mod Kept
 pub mod Located
-pub mod Rewritten

@@ -14,7 +14,7 @@ use Rattle.acc_base.proofs.Legality.{IsJudgedItem, item_judged}
 use Rattle.acc_clauses.specs.declared.acted.Acted.{Acted}
 use Rattle.acc_clauses.specs.Overlays.{IsPlanned, AreUnmixed, tasks_in, dids_in, records_after, state_after}
 use Rattle.std.specs.Prelude.{reverse}
-use Rattle.acc_clauses.specs.Planned.{IsJudgedNext}
+use Rattle.acc_clauses.specs.Planned.{IsJudgedNext, told_of}
 use Rattle.acc_clauses.proofs.Laws.{unmixed_front}
 
 -- what was done before what is still judged
@@ -103,6 +103,11 @@ asked_turn i xs ys x tasks d within item more so = grind (arith, nat_tests, drop
 -- one task more is done
 pub few_turn : (i : ℕ) (xs ys : List Acted) (x : Acted) → ys ≡ xs ++ x ∷ [] → length xs ≡ i → length ys ≡ i + 1
 few_turn i xs ys x more few = rw more (omega (arith, length-append xs (x ∷ []), few))
+
+-- what was noted turned round is told
+pub told_turned : (turned dids : List Did) → 0 < length turned → told_of turned dids ≡ turned
+told_turned [] dids some = absurd (omega (arith, some))
+told_turned (d ∷ ds) dids some = refl
 
 -- one alone stands where it stood
 pub reverse_few : (dids : List Did) → length dids ≤ 1 → reverse dids ≡ dids

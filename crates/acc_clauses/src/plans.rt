@@ -7,8 +7,8 @@ ghost use Rattle.acc_clauses.specs.Acts.{lens_born};
 
 use crate::acted::Acted;
 use crate::drafts::Draft;
+use crate::slates::Slate;
 use acc_base::{Did, Directive};
-use arrayvec::ArrayVec;
 use std::marker::Model;
 
 /// A directive that was judged whole: what each of its items will do.
@@ -18,7 +18,7 @@ use std::marker::Model;
 pub struct Plan {
     pub(crate) draft: Draft,
     // What its tasks do in written order, where that is not the order in which they act.
-    pub(crate) turned: ArrayVec<Did, 64>,
+    pub(crate) turned: Slate<Did>,
 }
 
 impl Model for Plan {
@@ -27,22 +27,21 @@ impl Model for Plan {
 
     ghost Value = { Planned };
 
-    ghost view = { λ p. record { tasks = tasks_in p.draft; dids = dids_in p.draft; written = told_of p.turned.items (dids_in p.draft) } };
+    ghost view = { λ p. record { tasks = tasks_in p.draft; dids = dids_in p.draft; written = told_of p.turned (dids_in p.draft) } };
 }
 
 /// Notes what the tasks of the exit from a region do, where they are several: turned round, since the last item acts
 /// first. Of other directives they stand as they act, and nothing is noted.
-pub(crate) fn note_turned(turned: &mut ArrayVec<Did, 64>, directive: &Directive, dids: &[Did])
+pub(crate) fn note_turned(turned: &mut Slate<Did>, directive: &Directive, dids: &[Did])
     requires { length dids.now ≤ 64 }
-    ensures { told_of turned.new.items dids.now ≡ in_written_order directive.now dids.now }
+    ensures { told_of turned.new dids.now ≡ in_written_order directive.now dids.now }
 {
     turned.clear();
     if let Directive::Exit { .. } = directive {
         if dids.len() > 1 {
-            for did in dids {
-                turned.push(*did);
+            for n in 0..dids.len() {
+                turned.push(dids[dids.len() - 1 - n]);
             }
-            turned.reverse();
         }
     }
 }
@@ -54,7 +53,7 @@ impl Plan {
     {
         Plan {
             draft: Draft::new(),
-            turned: ArrayVec::new(),
+            turned: Slate::new(),
         }
     }
 
@@ -72,10 +71,11 @@ impl Plan {
     pub fn did(&self) -> &[Did]
         ensures { result.now ≡ self.now.written }
     {
-        if self.turned.is_empty() {
+        let turned = self.turned.as_slice();
+        if turned.is_empty() {
             self.draft.dids()
         } else {
-            &self.turned
+            turned
         }
     }
 

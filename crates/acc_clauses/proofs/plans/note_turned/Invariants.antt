@@ -1,8 +1,9 @@
-use Rattle.std.proofs.Common.{◌≡◌, ◌++◌, drop, length}
+use Rattle.std.proofs.Common.{◌≡◌, take, length}
+use Rattle.std.specs.Prelude.{reverse}
 use Rattle.acc_clauses.proofs.plans.note_turned.Given as goal
 
-abbrev pub invariant-loop-did : goal.invariant-loop-did
-invariant-loop-did l = record {
-  len : length l.turned.items ≡ l.did-index;
-  so_far : l.turned.items ++ drop l.did-index l.dids ≡ l.dids;
+abbrev pub invariant-loop-n : goal.invariant-loop-n
+invariant-loop-n l = record {
+  len : length l.turned ≡ l.n;
+  so_far : l.turned ≡ take l.n (reverse l.dids);
 }

@@ -46,6 +46,8 @@ pub struct Options<'a> {
     pub svg: Option<&'a str>,
     /// The file for the pictures behind directives; each gets the number of its line in the name.
     pub svg_every: Option<&'a str>,
+    /// The file for the page that shows the script step by step.
+    pub html: Option<&'a str>,
     /// The size of host memory in bytes.
     pub host: u64,
     /// The size of each device's memory in bytes.
@@ -135,6 +137,7 @@ const OF_RUNS: &[&str] = &[
     "explain",
     "svg",
     "svg-every",
+    "html",
     "drill",
 ];
 
@@ -248,6 +251,7 @@ fn with_views<'a>(alloc: Global, command: Command<'a>) -> Result<Command<'a>, Al
         flag(alloc, "explain", "Tell why a line is at fault or refused"),
         picture_option(alloc, "svg", "Draw the memories at the end"),
         picture_option(alloc, "svg-every", "Draw them behind each directive"),
+        picture_option(alloc, "html", "Show the script step by step").value_name("PAGE"),
     ]?)
 }
 
@@ -284,6 +288,7 @@ pub fn options_of<'a>(matches: &'a ArgMatches<'_>) -> Options<'a> {
             explain: matches.get_flag("explain"),
             picture: matches.get_str("svg").is_some(),
             pictures: matches.get_str("svg-every").is_some(),
+            page: matches.get_str("html").is_some(),
         },
         emit: matches.contains_id("emit"),
         until_refusal: matches.get_flag("until-refusal"),
@@ -292,6 +297,7 @@ pub fn options_of<'a>(matches: &'a ArgMatches<'_>) -> Options<'a> {
         lines: matches.get_one::<u64>("lines").unwrap_or(DEFAULT_LINES),
         svg: matches.get_str("svg"),
         svg_every: matches.get_str("svg-every"),
+        html: matches.get_str("html"),
         host: matches.get_one::<u64>("host").unwrap_or(DEFAULT_SIZE),
         device: matches.get_one::<u64>("device").unwrap_or(DEFAULT_SIZE),
         devices: matches.get_one::<u64>("devices").unwrap_or(DEFAULT_DEVICES),
@@ -322,7 +328,8 @@ differs is told on standard error. Then the status is 1, and 0 where none
 differs, whatever was refused. --svg draws the memories at the end of the
 script, as a file that a browser opens; --svg-every draws them behind each
 directive and each kernel, with the number of the line in the file's name:
-life.7.svg for life.svg.
+life.7.svg for life.svg. --html writes one page for a browser, in which arrow
+keys step through the script, with the memories behind each line.
 
 With --emit c the script is written as a C program with OpenACC directives,
 which does what the script does, and has the expected output in it. A statement

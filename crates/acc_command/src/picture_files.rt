@@ -16,6 +16,8 @@ pub struct PictureFiles<'a, 'b, D> {
     pub last: Option<&'a str>,
     /// The file of the pictures behind directives, without the number of the line.
     pub each: Option<&'a str>,
+    /// The file of the page that shows the script step by step, if there is one.
+    pub page: Option<&'a str>,
 }
 
 impl<D: FileStore> PictureSink for PictureFiles<'_, '_, D> {
@@ -23,6 +25,7 @@ impl<D: FileStore> PictureSink for PictureFiles<'_, '_, D> {
         let is_written = match frame {
             Frame::Last => self.files.write(self.last.unwrap_or(""), picture),
             Frame::Line(number) => self.write_numbered(number, picture)?,
+            Frame::Each => self.files.write(self.page.unwrap_or(""), picture),
         };
         if is_written {
             Ok(())

@@ -261,6 +261,7 @@ fn use_script<
             alloc: rt.alloc(),
             last: options.svg,
             each: options.svg_every,
+            page: options.html,
         },
         reason,
     };
@@ -277,6 +278,7 @@ fn mishap_of(options: Options<'_>, stop: Stop) -> Mishap<'_> {
         Stop::Picture(Frame::Line(number)) => {
             Mishap::Unwritten(options.svg_every.unwrap_or(""), Some(number))
         }
+        Stop::Picture(Frame::Each) => Mishap::Unwritten(options.html.unwrap_or(""), None),
     }
 }
 

@@ -5,11 +5,12 @@ ghost use Rattle.acc_script.specs.Told.{Took};
 
 use crate::copiers::Copier;
 use crate::picture_sinks::{Frame, PictureSink, Stop};
+use crate::ran_lines::{RanLine, picture_of};
+use crate::timelines::Timeline;
 use acc_base::{Config, Event, Fault, ScriptFault};
-use acc_explain::{explain_fault, explain_refusal, explain_unclosed, is_pragma, warn_of_pragma};
 use acc_log::Log;
-use acc_picture::{Caption, put_picture};
-use acc_read::{Names, Page, Statement, line_at, statement_text};
+use acc_picture::Caption;
+use acc_read::{Names, Page, Statement};
 use acc_script::{Effect, MemorySink, Session, Sink, Source, Status, Watcher, run, write_all};
 use std::alloc::Global;
 use std::sync::Wait;
@@ -30,12 +31,19 @@ pub struct Views {
     pub picture: bool,
     /// A picture of them behind each directive and each kernel.
     pub pictures: bool,
+    /// A page that shows the script step by step.
+    pub page: bool,
 }
 
 impl Views {
     /// Whether any of it names arrays.
     fn name_arrays(self) -> bool {
-        self.log || self.explain || self.picture || self.pictures
+        self.log || self.picture || self.pictures || self.explain_faults()
+    }
+
+    /// Whether any of it explains faults.
+    fn explain_faults(self) -> bool {
+        self.explain || self.page
     }
 }
 
@@ -90,6 +98,7 @@ pub fn follow<R: Threads + Wait + Sync + AllocGlobal, S: Source, O: Sink, E: Sin
         names: Names::new(rt.alloc()),
         log: Log::new(rt.alloc()),
         entries: Vec::new(rt.alloc()),
+        timeline: Timeline::new(rt.alloc()),
         drawn: 0,
         stop: None,
     };
@@ -156,6 +165,8 @@ struct Follower<'a, E, G> {
     log: Log,
     /// The lines whose data regions are open, the innermost last.
     entries: Vec<u64>,
+    /// What the page shows of the lines so far.
+    timeline: Timeline,
     /// How many events the trace had when a line was last checked for a picture.
     drawn: usize,
     /// Why nothing more is shown.
@@ -187,18 +198,29 @@ impl<O: Sink, E: Sink, G: PictureSink> Watcher<O> for Follower<'_, E, G> {
         writer: &mut O,
     ) {
         if self.stop.is_none() {
-            if let Err(stop) = self.show(number, line, session, effect, writer) {
+            let ran = RanLine {
+                number,
+                line,
+                session,
+            };
+            if let Err(stop) = self.show(ran, effect, writer) {
                 self.halt(stop);
             }
         }
     }
 
     fn end(&mut self, number: u64, line: &[u8], session: &Session, ending: Result<Status, Fault>) {
+        let ran = RanLine {
+            number,
+            line,
+            session,
+        };
         match ending {
             Ok(_) => self.draw_last(session),
-            Err(Fault::Script { kind, .. }) => self.give_reason(number, line, session, kind),
+            Err(Fault::Script { kind, .. }) => self.give_reason(ran, kind),
             Err(_) => {}
         }
+        self.end_page(ending);
         if self.views.log {
             self.log.tell_total();
         }
@@ -217,42 +239,38 @@ impl<E: Sink, G: PictureSink> Follower<'_, E, G> {
     #[tactic(auto, using(acc_script::proofs::Fronts::took_nothing))]
     fn show<O: Sink>(
         &mut self,
-        number: u64,
-        line: &[u8],
-        session: &Session,
+        ran: RanLine<'_>,
         effect: Effect,
         writer: &mut O,
     ) -> Result<(), Stop>
         ensures { Took (O.told writer.old) (O.told writer.new) [] }
     {
-        self.tell(number, line, session, effect)?;
+        self.tell(ran, effect)?;
         self.write_told(writer)?;
-        self.draw_line(number, line, session)
+        self.draw_line(ran)
     }
 
     /// Puts what a line did into the log, and explains it.
-    fn tell(
-        &mut self,
-        number: u64,
-        line: &[u8],
-        session: &Session,
-        effect: Effect,
-    ) -> Result<(), Fault> {
+    fn tell(&mut self, ran: RanLine<'_>, effect: Effect) -> Result<(), Fault> {
+        let (number, table) = (ran.number, &ran.session.table);
         if self.views.log {
-            let text = statement_text(line);
             self.log
-                .tell(&self.names, number, text, &session.table, effect)?;
+                .tell(&self.names, number, ran.statement(), table, effect)?;
         }
         if self.views.explain {
-            self.note_region(number, session)?;
-            self.explain(number, line, session, effect);
+            ran.explain(&mut self.log.page, self.alloc, &self.names, effect);
+        }
+        if self.views.page {
+            self.timeline.add_line(&self.names, ran, effect)?;
+        }
+        if self.views.explain_faults() {
+            self.note_region(number, table.regions())?;
         }
         Ok(())
     }
 
     /// Keeps the number of a line that entered a region, until it is exited.
-    fn note_region(&mut self, number: u64, session: &Session) -> Result<(), Fault> {
-        let open = session.table.regions();
+    fn note_region(&mut self, number: u64, open: u64) -> Result<(), Fault> {
         let known = self.entries.len() as u64;
         if known < open {
             self.entries.push(number)?;
@@ -261,34 +279,6 @@ impl<E: Sink, G: PictureSink> Follower<'_, E, G> {
             self.entries.pop();
         }
         Ok(())
-    }
-
-    /// Explains a line that was refused, or that is a comment and looks like a directive of C. A refused line is read
-    /// once more: it changed nothing.
-    fn explain(&mut self, number: u64, line: &[u8], session: &Session, effect: Effect) {
-        if is_pragma(line) {
-            warn_of_pragma(&mut self.log.page, number);
-        }
-        let Effect::Refused(fault) = effect else {
-            return;
-        };
-        let innermost = session.innermost();
-        if let Ok(statement) = line_at(
-            self.alloc,
-            &session.arrays,
-            session.device,
-            innermost,
-            line,
-        ) {
-            explain_refusal(
-                &mut self.log.page,
-                &session.table,
-                &self.names,
-                number,
-                &statement,
-                fault,
-            );
-        }
     }
 
     /// Flushes what was printed so far, and then writes the log and the explanations.
@@ -309,12 +299,13 @@ impl<E: Sink, G: PictureSink> Follower<'_, E, G> {
     }
 
     /// Draws what a line left, where pictures are asked for, and it is a directive or a kernel that was done.
-    fn draw_line(&mut self, number: u64, line: &[u8], session: &Session) -> Result<(), Stop> {
-        if !self.views.pictures || !self.is_picture_due(session) {
+    fn draw_line(&mut self, ran: RanLine<'_>) -> Result<(), Stop> {
+        if !self.views.pictures || !self.is_picture_due(ran.session) {
             return Ok(());
         }
-        let text = statement_text(line);
-        self.draw(session, Frame::Line(number), Caption::Line { number, text })
+        let picture = ran.picture(self.alloc, &self.names)?;
+        self.pictures
+            .keep(Frame::Line(ran.number), picture.whole()?)
     }
 
     /// Whether there is a new event that is no write of the host.
@@ -327,32 +318,42 @@ impl<E: Sink, G: PictureSink> Follower<'_, E, G> {
 
     fn draw_last(&mut self, session: &Session) {
         if self.views.picture && self.stop.is_none() {
-            if let Err(stop) = self.draw(session, Frame::Last, Caption::End) {
+            if let Err(stop) = self.draw(session) {
                 self.halt(stop);
             }
         }
     }
 
-    fn draw(&self, session: &Session, frame: Frame, caption: Caption<'_>) -> Result<(), Stop> {
-        let mut page = Page::new(self.alloc);
-        let table = &session.table;
-        if put_picture(&mut page, self.alloc, table, &self.names, caption).is_err() {
-            return Err(Stop::Fault(Fault::Memory));
-        }
-        self.pictures.keep(frame, page.whole()?)
+    fn draw(&self, session: &Session) -> Result<(), Stop> {
+        let picture = picture_of(self.alloc, session, &self.names, Caption::End)?;
+        self.pictures.keep(Frame::Last, picture.whole()?)
     }
 
     /// Puts why a line is at fault. Where there is no memory, the reason is cut short, and the fault itself is still
     /// written.
-    fn give_reason(&mut self, number: u64, line: &[u8], session: &Session, kind: ScriptFault) {
-        if !self.views.explain {
-            return;
+    fn give_reason(&mut self, ran: RanLine<'_>, kind: ScriptFault) {
+        if self.views.explain {
+            ran.explain_fault(self.reason, self.alloc, &self.entries, kind);
         }
-        if kind == ScriptFault::Unclosed {
-            explain_unclosed(self.reason, &self.entries);
-        } else {
-            let _ = explain_fault(self.reason, self.alloc, &session.arrays, number, line, kind);
+        if self.views.page {
+            self.timeline.add_fault(ran, &self.entries, kind);
         }
+    }
+
+    /// Keeps the page of a script that ran to its end, or to a line that is at fault.
+    fn end_page(&mut self, ending: Result<Status, Fault>) {
+        let has_page = self.views.page && self.stop.is_none();
+        if has_page && matches!(ending, Ok(_) | Err(Fault::Script { .. })) {
+            if let Err(stop) = self.keep_page() {
+                self.halt(stop);
+            }
+        }
+    }
+
+    fn keep_page(&self) -> Result<(), Stop> {
+        let mut page = Page::new(self.alloc);
+        self.timeline.put(&mut page)?;
+        self.pictures.keep(Frame::Each, page.whole()?)
     }
 
     /// Returns why something could not be shown; else how the run ended, if by a fault; else whether the last lines

@@ -4,9 +4,12 @@
 mod copiers;
 mod differences;
 mod follows;
+mod page_text;
 mod picture_sinks;
+mod ran_lines;
 mod report_objects;
 mod row_counts;
+mod timelines;
 
 pub use acc_log::RowCounts;
 pub use acc_read::Page;

@@ -9,11 +9,13 @@ pub enum Frame {
     Last,
     /// Behind the line of a number.
     Line(u64),
+    /// Behind each line: the page that shows the script step by step.
+    Each,
 }
 
 /// Keeps pictures.
 pub trait PictureSink {
-    /// Keeps a picture, the bytes of a file of SVG.
+    /// Keeps a picture, the bytes of a file of SVG; those of a file of HTML for the page.
     ///
     /// # Errors
     ///

@@ -19,6 +19,7 @@ pub const PLAIN: Views = Views {
     explain: false,
     picture: false,
     pictures: false,
+    page: false,
 };
 
 /// Shows what each call did, and why lines are refused.
@@ -51,10 +52,10 @@ impl PictureSink for Album {
     }
 }
 
-/// When a picture was made, as a number: 0 at the end, and else one more than the line.
+/// When a picture was made, as a number: 0 at the end, and else one more than the line. No page is made.
 fn number_of_frame(frame: Frame) -> u64 {
     match frame {
-        Frame::Last => 0,
+        Frame::Last | Frame::Each => 0,
         Frame::Line(number) => number.wrapping_add(1),
     }
 }

@@ -1,8 +1,7 @@
 //! Arrows from blocks to what the attached pointers in them are aimed at.
 
 use crate::device_pictures::DevicePicture;
-use crate::device_rows::row_at;
-use crate::places::{DEVICE_END, WIDTH, middle_of};
+use crate::places::{DEVICE_END, WIDTH, last_from, middle_of};
 use crate::shapes::{Point, close_group, close_title, open_titled, put_curve};
 use acc_base::{Attachment, Section};
 use acc_read::{Names, Page};
@@ -37,8 +36,8 @@ fn arrow_of(table: &Table, scene: &DevicePicture, attached: Attachment) -> Optio
     let place = table.device_address(scene.device, attached.pointer)?;
     let target = target_of(table, scene.device, attached.pointer)?;
     Some(Arrow {
-        from: row_at(&scene.rows, place)?,
-        to: row_at(&scene.rows, target)?,
+        from: last_from(&scene.rows, place)?,
+        to: last_from(&scene.rows, target)?,
         attached,
         target,
     })

@@ -1,8 +1,8 @@
 //! What a device has, as a picture shows it.
 
-use crate::device_rows::{DeviceRow, device_row, row_at};
+use crate::device_rows::{DeviceRow, device_row};
 use crate::gathering::{Part, Stretch, add_attached, add_parts, add_stretches};
-use crate::places::{LINE_PITCH, MARGIN, group_size, row_y};
+use crate::places::{LINE_PITCH, MARGIN, group_size, last_from, row_y};
 use crate::queues::{QueueLine, add_queues};
 use acc_base::Attachment;
 use acc_read::Names;
@@ -98,7 +98,7 @@ fn attach(rows: &mut [DeviceRow], place: Option<u64>, attached: Attachment) {
     let Some(place) = place else {
         return;
     };
-    let nth = row_at(rows, place).unwrap_or(0);
+    let nth = last_from(rows, place).unwrap_or(0);
     if let Some(row) = rows.get_mut(nth) {
         row.attach(attached);
     }

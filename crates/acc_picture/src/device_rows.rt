@@ -1,7 +1,9 @@
 //! The rows of the device: blocks and holes.
 
 use crate::gathering::{Stretch, StretchKind};
-use crate::places::{ATTACHED, DEVICE_ADDRESS, DEVICE_BYTES, NAME, STATE, device_area, text_in};
+use crate::places::{
+    ATTACHED, Addressed, DEVICE_ADDRESS, DEVICE_BYTES, NAME, STATE, device_area, text_in,
+};
 use crate::shapes::{
     Area, close_group, close_text, close_title, open_text, open_titled, put_address, put_box,
     put_number, put_text,
@@ -62,11 +64,6 @@ impl DeviceRow {
     pub fn attach(&mut self, attached: Attachment) {
         self.attached = self.attached.or(Some(attached));
         self.pointers = self.pointers.saturating_add(1);
-    }
-
-    /// The device address of its first byte.
-    pub fn place(&self) -> u64 {
-        self.first.place
     }
 
     /// Puts the row as the one of a number, counted from 0.
@@ -145,8 +142,8 @@ fn put_counter(page: &mut Page, names: &Names, attached: Attachment) {
     page.number(attached.count);
 }
 
-/// The number of the row that has a device address, from 0 on, where rows lie by rising address.
-pub fn row_at(rows: &[DeviceRow], address: u64) -> Option<usize> {
-    let behind = rows.iter().take_while(|row| row.place() <= address).count();
-    behind.checked_sub(1)
+impl Addressed for DeviceRow {
+    fn address(&self) -> u64 {
+        self.first.place
+    }
 }

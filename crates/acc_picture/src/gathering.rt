@@ -1,6 +1,7 @@
 //! What a table has in host memory and on one device.
 
 use crate::births::add_births;
+use crate::places::Addressed;
 use acc_base::{Attachment, HOST_BASE, Section};
 use acc_read::Names;
 use acc_table::{Mapped, Table};
@@ -24,6 +25,12 @@ impl Part {
             Some(mapped) if mapped.lent => StretchKind::Lent,
             Some(_) => StretchKind::Mapped,
         }
+    }
+}
+
+impl Addressed for Part {
+    fn address(&self) -> u64 {
+        self.section.start
     }
 }
 

@@ -1,9 +1,8 @@
 //! Lines between the rows of host memory and of the device, from bytes of the host to their block.
 
 use crate::device_pictures::DevicePicture;
-use crate::device_rows::row_at;
 use crate::gathering::{Part, Stretch, StretchKind};
-use crate::places::{DEVICE_X, HOST_END, group_size, middle_of};
+use crate::places::{DEVICE_X, HOST_END, group_size, last_from, middle_of};
 use crate::shapes::{close_group, close_title, open_titled, put_curve};
 use acc_read::Page;
 
@@ -14,7 +13,7 @@ pub fn put_links(page: &mut Page, scene: &DevicePicture, parts: &[Part], nth: us
     let mut count = 0;
     for part in parts {
         let to = match part.mapped {
-            Some(mapped) => row_at(&scene.rows, mapped.place),
+            Some(mapped) => last_from(&scene.rows, mapped.place),
             None => None,
         };
         if to != last {
@@ -55,19 +54,10 @@ pub fn put_kept(page: &mut Page, scene: &DevicePicture) {
 }
 
 fn put_kept_line(page: &mut Page, scene: &DevicePicture, stretch: Stretch) {
-    let (Some(section), Some(to)) = (stretch.section, row_at(&scene.rows, stretch.place)) else {
+    let (Some(section), Some(to)) = (stretch.section, last_from(&scene.rows, stretch.place)) else {
         return;
     };
-    if let Some(nth) = part_at(&scene.parts, section.start) {
+    if let Some(nth) = last_from(&scene.parts, section.start) {
         put_between(page, "kept", nth / group_size(scene.parts.len()), to);
     }
-}
-
-/// The number of the part that has an address, from 0 on, where parts lie by rising address.
-fn part_at(parts: &[Part], address: u64) -> Option<usize> {
-    let behind = parts
-        .iter()
-        .take_while(|part| part.section.start <= address)
-        .count();
-    behind.checked_sub(1)
 }

@@ -130,3 +130,18 @@ pub fn group_size(count: usize) -> usize
         count.div_ceil(GROUP_LIMIT)
     }
 }
+
+/// What has addresses that lie side by side.
+pub trait Addressed {
+    /// The first of them.
+    fn address(&self) -> u64;
+}
+
+/// The number of the last one that begins at an address or below it, counted from 0, where all lie by rising address.
+pub fn last_from<T: Addressed>(all: &[T], address: u64) -> Option<usize> {
+    let begun = all
+        .iter()
+        .take_while(|one| one.address() <= address)
+        .count();
+    begun.checked_sub(1)
+}

@@ -48,7 +48,7 @@ fn add_words(words: &mut Vec<String>, alloc: Global, text: &str) -> Result<(), A
     Ok(())
 }
 
-/// A store that has no file, and keeps none.
+/// A store that has no file, and takes each as written.
 #[derive(Drop)]
 struct NoFiles;
 
@@ -58,7 +58,7 @@ impl FileStore for NoFiles {
     }
 
     fn write(&self, _name: &str, _bytes: &[u8]) -> bool {
-        false
+        true
     }
 }
 

@@ -11,6 +11,14 @@ use std::thread::Threads;
 /// What the program writes on standard error where there is no memory.
 const MEMORY: &str = "accrun: 1 Memory\n";
 
+/// A script that is shown as a page, with a line that is refused.
+const PAGE: Row = (
+    "--html page.html",
+    "array a 4\nenter data copyin(a)\nexit data delete(a)\nupdate self(a)\n",
+    "line 4: refused 11 NotPresent item 0\n",
+    1,
+);
+
 /// What stands in front of the first byte that is 0.
 fn text_of(bytes: &[u8]) -> &[u8] {
     let len = bytes.iter().position(|byte| *byte == 0);
@@ -76,6 +84,11 @@ fn a_refused_growth_leaves_pointers_and_queues(rt: HostRuntime) {
 #[test]
 fn a_refused_growth_leaves_refusals_as_they_are(rt: HostRuntime) {
     check_scarce(&rt, &[SMALL_DEVICE]);
+}
+
+#[test]
+fn a_refused_growth_leaves_what_a_page_shows(rt: HostRuntime) {
+    check_scarce(&rt, &[PAGE]);
 }
 
 #[test]

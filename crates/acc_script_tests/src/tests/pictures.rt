@@ -50,7 +50,7 @@ const LIFE: &str =
     data copy(s) attach(s[8])\nexit data delete(t) async(3)\nexit data copyout(t[0:20]) async(3)\nend data\n";
 
 /// What is drawn, and when.
-const ROWS: [Row; 12] = [
+const ROWS: [Row; 14] = [
     (
         "--svg life.svg --devices 2",
         "array a 16\nset device_num(1)\nenter data copyin(a)\n",
@@ -118,6 +118,24 @@ const ROWS: [Row; 12] = [
             "<svg xmlns=",
             "device bytes used 0, open regions 0, events 0<",
         ],
+        1,
+    ),
+    (
+        "--html life.html",
+        "array a 16 # </script> \"\\\n",
+        0,
+        &[
+            "life.html",
+            "[\"array a 16 # \\u003c/script> \\\"\\\\\",\"\",\"\",\" 0-",
+            "</html>\n",
+        ],
+        1,
+    ),
+    (
+        "--html life.html",
+        "array a 4\ndata create(a)\n",
+        2,
+        &["[\"\",\"Unclosed\",\""],
         1,
     ),
     ("--svg-every life.svg", LIFE, 1, &["After line "], 4),

@@ -1,0 +1,97 @@
+//! A line of a script that ran, and what there is to tell of it.
+
+use acc_base::{Fault, ScriptFault};
+use acc_explain::{explain_fault, explain_refusal, explain_unclosed, is_pragma, warn_of_pragma};
+use acc_picture::{Caption, put_picture};
+use acc_read::{Names, Page, line_at, statement_text};
+use acc_script::{Effect, MemorySink, Session, write_effect};
+use std::alloc::Global;
+
+/// A line of a script that ran, or is at fault, and the session that it left.
+#[derive(Clone, Copy)]
+pub struct RanLine<'a> {
+    /// The number of the line, from 1 on.
+    pub number: u64,
+    /// Its text, with a comment.
+    pub line: &'a [u8],
+    /// What it left.
+    pub session: &'a Session,
+}
+
+impl<'a> RanLine<'a> {
+    /// Its statement, which is empty where there is none.
+    pub fn statement(self) -> &'a [u8] {
+        statement_text(self.line)
+    }
+
+    /// Explains the line where it was refused, or is a comment and looks like a directive of C. A refused line is read
+    /// once more: it changed nothing.
+    pub fn explain(self, page: &mut Page, alloc: Global, names: &Names, effect: Effect) {
+        if is_pragma(self.line) {
+            warn_of_pragma(page, self.number);
+        }
+        let Effect::Refused(fault) = effect else {
+            return;
+        };
+        let session = self.session;
+        let (device, innermost) = (session.device, session.innermost());
+        if let Ok(statement) = line_at(alloc, &session.arrays, device, innermost, self.line) {
+            explain_refusal(page, &session.table, names, self.number, &statement, fault);
+        }
+    }
+
+    /// Explains why the line ends the script, where `entries` are the lines of the open data regions. Where there is no
+    /// memory, the reason is cut short.
+    pub fn explain_fault(self, page: &mut Page, alloc: Global, entries: &[u64], kind: ScriptFault) {
+        if kind == ScriptFault::Unclosed {
+            explain_unclosed(page, entries);
+        } else {
+            let arrays = &self.session.arrays;
+            let _ = explain_fault(page, alloc, arrays, self.number, self.line, kind);
+        }
+    }
+
+    /// What a line of this effect prints.
+    ///
+    /// # Errors
+    ///
+    /// [`Fault::Memory`] where there is none for it.
+    pub fn printed(self, alloc: Global, effect: Effect) -> Result<MemorySink, Fault> {
+        let mut printed = MemorySink::new(alloc);
+        // This sink fails for lack of memory alone.
+        if write_effect(&mut printed, self.number, &self.session.table, effect) {
+            Ok(printed)
+        } else {
+            Err(Fault::Memory)
+        }
+    }
+
+    /// The picture that the line left.
+    ///
+    /// # Errors
+    ///
+    /// [`Fault::Memory`] where there is none for it.
+    pub fn picture(self, alloc: Global, names: &Names) -> Result<Page, Fault> {
+        let caption = Caption::Line {
+            number: self.number,
+            text: self.statement(),
+        };
+        picture_of(alloc, self.session, names, caption)
+    }
+}
+
+/// The picture of a session's memories.
+///
+/// # Errors
+///
+/// [`Fault::Memory`] where there is none for it.
+pub fn picture_of(
+    alloc: Global,
+    session: &Session,
+    names: &Names,
+    caption: Caption<'_>,
+) -> Result<Page, Fault> {
+    let mut page = Page::new(alloc);
+    put_picture(&mut page, alloc, &session.table, names, caption)?;
+    Ok(page)
+}

@@ -1,0 +1,204 @@
+//! The page that shows a script step by step.
+
+use crate::page_text::{HEAD, TAIL};
+use crate::ran_lines::RanLine;
+use acc_base::{Fault, ScriptFault};
+use acc_read::{Names, Page};
+use acc_script::Effect;
+use std::alloc::Global;
+use std::collections::BTreeMap;
+use std::fmt::Write;
+
+/// What each line of a script did, as data of the page.
+///
+/// A state is a report and a picture. Its pieces are lines, and groups with a title. Each is stored once.
+#[derive(Drop)]
+pub struct Timeline {
+    alloc: Global,
+    /// The pieces, as strings of JSON.
+    pieces: Page,
+    /// The number of each piece.
+    numbers: BTreeMap<Vec<u8>, u64>,
+    /// The lines of the script, as arrays of JSON.
+    lines: Page,
+}
+
+impl Timeline {
+    /// Returns a timeline of no line.
+    pub fn new(alloc: Global) -> Timeline {
+        Timeline {
+            alloc,
+            pieces: Page::new(alloc),
+            numbers: BTreeMap::new(alloc),
+            lines: Page::new(alloc),
+        }
+    }
+
+    /// Adds a line that ran, with what it printed, why it was refused, and the state that it left.
+    ///
+    /// # Errors
+    ///
+    /// [`Fault::Memory`] where there is none for them.
+    pub fn add_line(
+        &mut self,
+        names: &Names,
+        ran: RanLine<'_>,
+        effect: Effect,
+    ) -> Result<(), Fault> {
+        let printed = ran.printed(self.alloc, effect)?;
+        let mut reason = Page::new(self.alloc);
+        ran.explain(&mut reason, self.alloc, names, effect);
+        self.open_line(ran.line, printed.as_slice(), reason.whole()?);
+        self.add_state(names, ran, effect)?;
+        self.lines.text("]");
+        Ok(())
+    }
+
+    /// Adds a line that is at fault, where `entries` are the lines of the open data regions.
+    pub fn add_fault(&mut self, ran: RanLine<'_>, entries: &[u64], kind: ScriptFault) {
+        let mut printed = Page::new(self.alloc);
+        let _ = write!(printed, "{kind}");
+        let mut reason = Page::new(self.alloc);
+        ran.explain_fault(&mut reason, self.alloc, entries, kind);
+        self.open_line(ran.line, printed.as_slice(), reason.as_slice());
+        self.lines.text("]");
+    }
+
+    fn open_line(&mut self, line: &[u8], printed: &[u8], reason: &[u8]) {
+        let is_first = self.lines.as_slice().is_empty();
+        self.lines.text(if is_first { "[" } else { ",\n[" });
+        put_string(&mut self.lines, line);
+        self.lines.text(",");
+        put_string(&mut self.lines, printed);
+        self.lines.text(",");
+        put_string(&mut self.lines, reason);
+    }
+
+    /// Adds the state that a line left, where it may have changed something. A kernel that is refused may keep a block
+    /// lent.
+    fn add_state(&mut self, names: &Names, ran: RanLine<'_>, effect: Effect) -> Result<(), Fault> {
+        let may_change = matches!(effect, Effect::Nothing | Effect::Refused(_));
+        if ran.statement().is_empty() || (!may_change && !self.numbers.is_empty()) {
+            return Ok(());
+        }
+        let report = ran.printed(self.alloc, Effect::Reported)?;
+        let picture = ran.picture(self.alloc, names)?;
+        let mut state = Vec::new(self.alloc);
+        self.add_pieces(report.as_slice(), &mut state)?;
+        self.add_pieces(picture.whole()?, &mut state)?;
+        put_runs(&mut self.lines, &state);
+        Ok(())
+    }
+
+    /// Adds the pieces of a text, which is UTF-8, to a state.
+    fn add_pieces(&mut self, text: &[u8], state: &mut Vec<u64>) -> Result<(), Fault> {
+        let mut piece = Page::new(self.alloc);
+        for line in str::from_utf8(text).unwrap_or("").lines() {
+            self.add_text(line, &mut piece, state)?;
+        }
+        Ok(())
+    }
+
+    /// Adds a line of a state to the piece that it continues or begins. Unless that goes on, it is added.
+    fn add_text(
+        &mut self,
+        line: &str,
+        piece: &mut Page,
+        state: &mut Vec<u64>,
+    ) -> Result<(), Fault> {
+        piece.text(line);
+        if piece.as_slice().starts_with(b"<g><title>") && line != "</g>" {
+            piece.text("\n");
+            return Ok(());
+        }
+        self.add_piece(piece.whole()?, state)?;
+        piece.clear();
+        Ok(())
+    }
+
+    fn add_piece(&mut self, piece: &[u8], state: &mut Vec<u64>) -> Result<(), Fault> {
+        let number = match self.numbers.get(piece).copied() {
+            Some(number) => number,
+            None => self.add_new(piece)?,
+        };
+        state.push(number)?;
+        Ok(())
+    }
+
+    fn add_new(&mut self, piece: &[u8]) -> Result<u64, Fault> {
+        let number = self.numbers.len() as u64;
+        let key = Vec::from_slice(self.alloc, piece)?;
+        self.numbers.insert(key, number)?;
+        self.pieces.text(if number == 0 { "" } else { ",\n" });
+        put_string(&mut self.pieces, piece);
+        Ok(number)
+    }
+
+    /// Puts the page, which needs no other file.
+    ///
+    /// # Errors
+    ///
+    /// [`Fault::Memory`] where there was none for some of it.
+    pub fn put(&self, page: &mut Page) -> Result<(), Fault> {
+        page.text(HEAD);
+        page.text("{\"pieces\":[\n");
+        page.bytes(self.pieces.whole()?);
+        page.text("\n],\"lines\":[\n");
+        page.bytes(self.lines.whole()?);
+        page.text("\n]}");
+        page.text(TAIL);
+        Ok(())
+    }
+}
+
+/// Puts numbers as a text of runs: ` 3-5 9` for 3, 4, 5 and 9.
+fn put_runs(page: &mut Page, numbers: &[u64]) {
+    page.text(",\"");
+    let mut first = 0;
+    let mut count = 0;
+    for number in numbers {
+        if *number != u64::saturating_add(first, count) {
+            put_run(page, first, count);
+            first = *number;
+            count = 0;
+        }
+        count = u64::saturating_add(count, 1);
+    }
+    put_run(page, first, count);
+    page.text("\"");
+}
+
+/// Puts a run of so many numbers, if there are some.
+fn put_run(page: &mut Page, first: u64, count: u64) {
+    if count > 0 {
+        page.text(" ");
+        page.number(first);
+    }
+    if count > 1 {
+        page.text("-");
+        page.number(first.saturating_add(count - 1));
+    }
+}
+
+/// Puts a text as a string of JSON, which may stand in an element `script`.
+fn put_string(page: &mut Page, text: &[u8]) {
+    page.text("\"");
+    for byte in text {
+        put_byte(page, *byte);
+    }
+    page.text("\"");
+}
+
+/// A `<` might begin the end of the element.
+fn put_byte(page: &mut Page, byte: u8) {
+    match byte {
+        b'"' => page.text("\\\""),
+        b'\\' => page.text("\\\\"),
+        b'\n' => page.text("\\n"),
+        0..=31 | b'<' => {
+            page.text("\\u00");
+            page.digits(&[byte]);
+        }
+        _ => page.bytes(&[byte]),
+    }
+}

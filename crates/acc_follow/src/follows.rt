@@ -6,7 +6,9 @@ ghost use Rattle.acc_script.specs.Told.{Took};
 use crate::copiers::Copier;
 use crate::picture_sinks::{Frame, PictureSink, Stop};
 use acc_base::{Config, Event, Fault, ScriptFault};
-use acc_explain::{explain_fault, explain_refusal, explain_unclosed, is_pragma, warn_of_pragma};
+use acc_explain::{
+    explain_fault, explain_refusal, explain_unclosed, fault_column, is_pragma, warn_of_pragma,
+};
 use acc_log::Log;
 use acc_picture::{Caption, put_picture};
 use acc_read::{Names, Page, Statement, line_at, statement_text};
@@ -30,6 +32,8 @@ pub struct Views {
     pub picture: bool,
     /// A picture of them behind each directive and each kernel.
     pub pictures: bool,
+    /// Which line printed what ([`Beside::lines`]).
+    pub lines: bool,
 }
 
 impl Views {
@@ -59,6 +63,10 @@ pub struct Beside<'a, E, G> {
     pub pictures: &'a G,
     /// Gets why a line is at fault, to be written behind the fault itself.
     pub reason: &'a mut Page,
+    /// Gets the column of what is wrong in that line, from 1 on.
+    pub column: &'a mut u64,
+    /// Gets for each line of the output the number of the line that printed it, where that is asked for.
+    pub lines: &'a mut Vec<u64>,
 }
 
 /// Runs a whole script as [`run`] does, and shows more of it.
@@ -80,6 +88,8 @@ pub fn follow<R: Threads + Wait + Sync + AllocGlobal, S: Source, O: Sink, E: Sin
         err,
         pictures,
         reason,
+        column,
+        lines,
     } = beside;
     let mut follower = Follower {
         alloc: rt.alloc(),
@@ -87,14 +97,15 @@ pub fn follow<R: Threads + Wait + Sync + AllocGlobal, S: Source, O: Sink, E: Sin
         err,
         pictures,
         reason,
+        column,
         names: Names::new(rt.alloc()),
         log: Log::new(rt.alloc()),
         entries: Vec::new(rt.alloc()),
         drawn: 0,
         stop: None,
     };
-    let ending = if setting.views.echo || setting.views.json {
-        run_copied(rt, setting, reader, out, &mut follower)
+    let ending = if setting.views.echo || setting.views.json || setting.views.lines {
+        run_copied(rt, setting, reader, out, lines, &mut follower)
     } else {
         run(
             rt,
@@ -115,6 +126,7 @@ fn run_copied<R: Threads + Wait + Sync + AllocGlobal, S: Source, O: Sink, X: Wat
     setting: Setting,
     reader: &mut S,
     out: &mut O,
+    lines: &mut Vec<u64>,
     watcher: &mut X,
 ) -> Result<Status, Fault>
     requires { (1 ≤ setting.parts) × (setting.parts ≤ 64) }
@@ -126,6 +138,7 @@ fn run_copied<R: Threads + Wait + Sync + AllocGlobal, S: Source, O: Sink, X: Wat
         alloc: rt.alloc(),
         echo: setting.views.echo,
         json: setting.views.json,
+        lines,
         copied: 0,
         failed: None,
     };
@@ -152,6 +165,7 @@ struct Follower<'a, E, G> {
     err: &'a mut E,
     pictures: &'a G,
     reason: &'a mut Page,
+    column: &'a mut u64,
     names: Names,
     log: Log,
     /// The lines whose data regions are open, the innermost last.
@@ -342,9 +356,10 @@ impl<E: Sink, G: PictureSink> Follower<'_, E, G> {
         self.pictures.keep(frame, page.whole()?)
     }
 
-    /// Puts why a line is at fault. Where there is no memory, the reason is cut short, and the fault itself is still
-    /// written.
+    /// Puts where and why a line is at fault. Where there is no memory, the reason is cut short, and the fault itself is
+    /// still written.
     fn give_reason(&mut self, number: u64, line: &[u8], session: &Session, kind: ScriptFault) {
+        *self.column = fault_column(self.alloc, &session.arrays, line, kind);
         if !self.views.explain {
             return;
         }

@@ -14,8 +14,10 @@ use std::fmt::{self, Write};
 pub enum Mishap<'a> {
     /// A fault of a run, or of the limits.
     Fault(Fault),
-    /// A file of this name cannot be read, or has more than 16,777,216 bytes.
-    Unread(&'a str),
+    /// A fault of the script in a file of this name, one of several.
+    Within(&'a str, Fault),
+    /// A file of this name cannot be read, and why.
+    Unread(&'a str, &'static str),
     /// The line of a number cannot be emitted as C, and why.
     Unfit(u64, Reason),
     /// A picture's file of this name cannot be written; with the number of its line, where it is one of many.
@@ -37,21 +39,70 @@ impl From<EmitFault> for Mishap<'_> {
     }
 }
 
-/// Writes why the program ends with status 2, in one piece. A failure of the sink changes nothing.
-pub fn tell_mishap<E: Sink>(alloc: Global, err: &mut E, mishap: Mishap<'_>) {
+/// Writes why the program ends with status 2, in one piece. A fault of a script in a file has its place in front, with
+/// the column unless that is 0. A failure of the sink changes nothing.
+pub fn tell_mishap<E: Sink>(
+    alloc: Global,
+    err: &mut E,
+    file: Option<&str>,
+    column: u64,
+    mishap: Mishap<'_>,
+) {
     match mishap {
-        Mishap::Fault(fault) => tell(err, fault),
-        Mishap::Unread(name) => tell_file(alloc, err, "accrun: cannot read ", name, None),
-        Mishap::Unwritten(name, line) => {
-            tell_file(alloc, err, "accrun: cannot write ", name, line)
-        }
-        Mishap::Unfit(number, reason) => tell_unfit(err, number, reason.text()),
+        Mishap::Fault(fault) => tell_fault(alloc, err, file, column, fault),
+        Mishap::Within(name, fault) => tell_fault(alloc, err, Some(name), 0, fault),
+        Mishap::Unread(name, reason) => tell_unread(alloc, err, name, reason),
+        Mishap::Unwritten(name, line) => tell_unwritten(alloc, err, name, line),
+        Mishap::Unfit(line, reason) => tell_unfit(alloc, err, file, line, reason.text()),
     }
 }
 
-fn tell_file<E: Sink>(alloc: Global, err: &mut E, words: &str, name: &str, line: Option<u64>) {
+fn tell_unread<E: Sink>(alloc: Global, err: &mut E, name: &str, reason: &str) {
     let mut page = Page::new(alloc);
-    page.text(words);
+    page.text("accrun: cannot read ");
+    page.text(name);
+    page.text(": ");
+    page.text(reason);
+    page.text("\n");
+    let _ = write_all(err, page.as_slice());
+}
+
+/// Puts texts, one behind the other.
+pub fn put_texts(page: &mut Page, texts: &[&str]) {
+    for text in texts {
+        page.text(text);
+    }
+}
+
+fn tell_fault<E: Sink>(alloc: Global, err: &mut E, file: Option<&str>, column: u64, fault: Fault) {
+    match (file, fault) {
+        (Some(name), Fault::Script { line, kind }) => {
+            let mut page = Page::new(alloc);
+            put_place(&mut page, name, line, column);
+            put_texts(&mut page, &[": error: ", kind.name(), "\n"]);
+            let _ = write_all(err, page.as_slice());
+        }
+        _ => tell(err, fault),
+    }
+}
+
+/// Puts a place of a file: its name, and the line and the column, unless these are 0.
+pub fn put_place(page: &mut Page, name: &str, line: u64, column: u64) {
+    page.text(name);
+    put_part(page, line);
+    put_part(page, column);
+}
+
+fn put_part(page: &mut Page, number: u64) {
+    if number > 0 {
+        page.text(":");
+        page.number(number);
+    }
+}
+
+fn tell_unwritten<E: Sink>(alloc: Global, err: &mut E, name: &str, line: Option<u64>) {
+    let mut page = Page::new(alloc);
+    page.text("accrun: cannot write ");
     match line {
         Some(number) => put_numbered(&mut page, name, number),
         None => page.text(name),
@@ -60,11 +111,31 @@ fn tell_file<E: Sink>(alloc: Global, err: &mut E, words: &str, name: &str, line:
     let _ = write_all(err, page.as_slice());
 }
 
-fn tell_unfit<E: Sink>(err: &mut E, number: u64, reason: &str) {
-    // The longest line has 103 bytes: that of `Unsettled` with a number of 20 digits.
-    let mut line = ArrayString::<112>::new();
-    let _ = writeln!(line, "accrun: line {number} cannot be emitted: {reason}");
+/// Writes which sizes there are, one of which is no multiple of 16. A failure of the sink changes nothing.
+pub fn tell_sizes<E: Sink>(err: &mut E, host: u64, device: u64) {
+    // The longest line has 114 bytes: that with two numbers of 20 digits.
+    let mut line = ArrayString::<120>::new();
+    let _ = writeln!(
+        line,
+        "accrun: 2 BadConfig: --host {host} --device {device}: a size has to be a multiple of 16"
+    );
     let _ = write_all(err, line.as_bytes());
+}
+
+fn tell_unfit<E: Sink>(alloc: Global, err: &mut E, file: Option<&str>, line: u64, reason: &str) {
+    let mut page = Page::new(alloc);
+    match file {
+        Some(name) => put_place(&mut page, name, line, 0),
+        None => put_line_number(&mut page, line),
+    }
+    let error = if file.is_some() { ": error:" } else { "" };
+    put_texts(&mut page, &[error, " cannot be emitted: ", reason, "\n"]);
+    let _ = write_all(err, page.as_slice());
+}
+
+fn put_line_number(page: &mut Page, line: u64) {
+    page.text("accrun: line ");
+    page.number(line);
 }
 
 /// Writes the one line of a fault, in one piece and without allocation. A failure of the sink changes nothing.
@@ -82,17 +153,25 @@ fn write_fault<W: Write>(line: &mut W, fault: Fault) -> fmt::Result {
     }
 }
 
-/// Writes where an output differs from the expected one. A failure of the sink changes nothing.
-pub fn tell_difference<E: Sink>(alloc: Global, err: &mut E, difference: Difference<'_>) {
+/// Writes where the output of a file's script, or of the program, differs from the expected one. A failure of the sink
+/// changes nothing.
+pub fn tell_difference<E: Sink>(
+    alloc: Global,
+    err: &mut E,
+    file: Option<&str>,
+    difference: Difference<'_>,
+) {
     let mut page = Page::new(alloc);
-    put_place(&mut page, difference.line);
+    page.text(file.unwrap_or("accrun"));
+    put_differing(&mut page, difference.line);
     put_line(&mut page, "expected: ", difference.expected);
     put_line(&mut page, "found:    ", difference.found);
     let _ = write_all(err, page.as_slice());
 }
 
-fn put_place(page: &mut Page, line: u64) {
-    let _ = writeln!(page, "accrun: line {line} of the output is not as expected");
+/// Puts that a line of the output is not the expected one.
+pub fn put_differing(page: &mut Page, line: u64) {
+    let _ = writeln!(page, ": line {line} of the output is not as expected");
 }
 
 fn put_line(page: &mut Page, whose: &str, line: Option<&[u8]>) {

@@ -2,9 +2,19 @@
 
 use acc_base::Fault;
 use acc_script::{FromRead, read_all};
+use std::alloc::Global;
 use std::fs::{self, OpenFile};
-use std::io::Write;
+use std::io::{ErrorKind, Read, Write};
 use std::rt::Files;
+
+/// Why a file cannot be read.
+#[derive(Clone, Copy)]
+pub enum Unread {
+    /// There is no memory for it.
+    Memory,
+    /// The system does not give it, or it is too long: why, in words.
+    Because(&'static str),
+}
 
 /// Reads and writes whole files by their names.
 pub trait FileStore {
@@ -12,8 +22,8 @@ pub trait FileStore {
     ///
     /// # Errors
     ///
-    /// [`Fault::Read`] where it cannot be read, or has more than 16,777,216 bytes; [`Fault::Memory`].
-    fn read(&self, name: &str) -> Result<Vec<u8>, Fault>;
+    /// Those of [`Unread`]; a file may have 16,777,216 bytes.
+    fn read(&self, name: &str) -> Result<Vec<u8>, Unread>;
 
     /// Makes a file of these bytes, in place of one that has that name; false where that failed. It removes a half that
     /// it wrote, if that is a regular file.
@@ -28,10 +38,10 @@ pub struct Disk<'a, R> {
 }
 
 impl<R: Files + AllocGlobal> FileStore for Disk<'_, R> {
-    fn read(&self, name: &str) -> Result<Vec<u8>, Fault> {
+    fn read(&self, name: &str) -> Result<Vec<u8>, Unread> {
         match fs::open(self.rt, name) {
-            Ok(file) => read_all(self.rt.alloc(), &mut FromRead::new(file)),
-            Err(_) => Err(Fault::Read),
+            Ok(file) => read_open(self.rt.alloc(), file),
+            Err(error) => Err(Unread::Because(reason_of(error.kind()))),
         }
     }
 
@@ -44,6 +54,27 @@ impl<R: Files + AllocGlobal> FileStore for Disk<'_, R> {
         }
         remove_half(self.rt, name, &file);
         false
+    }
+}
+
+fn read_open<F: Read + OpenFile + Drop>(alloc: Global, file: F) -> Result<Vec<u8>, Unread> {
+    if file.metadata().is_ok_and(|metadata| metadata.is_dir()) {
+        return Err(Unread::Because("Is a directory"));
+    }
+    match read_all(alloc, &mut FromRead::new(file)) {
+        Ok(bytes) => Ok(bytes),
+        Err(Fault::Memory) => Err(Unread::Memory),
+        Err(_) => Err(Unread::Because("it is too long, or a read failed")),
+    }
+}
+
+/// Why the system does not open a file, in its own words.
+fn reason_of(kind: ErrorKind) -> &'static str {
+    match kind {
+        ErrorKind::NotFound => "No such file or directory",
+        ErrorKind::PermissionDenied => "Permission denied",
+        ErrorKind::NotADirectory => "Not a directory",
+        _ => "the system refuses it",
     }
 }
 

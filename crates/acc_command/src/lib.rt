@@ -12,6 +12,6 @@ mod tools;
 mod words;
 
 pub use endings::tell;
-pub use file_stores::{Disk, FileStore};
+pub use file_stores::{Disk, FileStore, Unread};
 pub use tools::{CLEAN, FAULTED, REFUSED, tell_words, tool};
 pub use words::{WordsFault, read_words};

@@ -1,6 +1,7 @@
 //! The command line.
 
 use acc_follow::Views;
+use clap::error::ErrorKind;
 use clap::{Arg, ArgAction, ArgMatches, Command, Error, value_parser};
 use std::alloc::{AllocError, Global};
 
@@ -62,53 +63,39 @@ pub struct Options<'a> {
     pub drill: Option<u64>,
 }
 
-fn size_option<'a>(alloc: Global, name: &'a str, help: &'a str) -> Arg<'a> {
+/// An option with a value.
+fn valued<'a>(alloc: Global, name: &'a str, value: &'a str, help: &'a str) -> Arg<'a> {
     Arg::new(alloc, name)
         .long(name)
-        .value_name("BYTES")
+        .value_name(value)
         .help(help)
         .action(ArgAction::Set)
-        .value_parser(value_parser!(u64).range(16..=67_108_864))
-        .default_value("65536")
+}
+
+fn size_option<'a>(alloc: Global, name: &'a str, help: &'a str) -> Arg<'a> {
+    valued(alloc, name, "BYTES", help).default_value("65536")
 }
 
 fn devices_option<'a>(alloc: Global) -> Arg<'a> {
-    Arg::new(alloc, "devices")
-        .long("devices")
-        .value_name("N")
-        .help("How many devices there are")
-        .action(ArgAction::Set)
+    valued(alloc, "devices", "N", "How many devices there are")
         .value_parser(value_parser!(u64).range(1..=4))
         .default_value("1")
 }
 
 fn threads_option<'a>(alloc: Global) -> Arg<'a> {
-    Arg::new(alloc, "threads")
-        .long("threads")
-        .value_name("N")
-        .help("Threads of a kernel, or of the drill")
-        .action(ArgAction::Set)
-        .value_parser(value_parser!(u64).range(1..=64))
-        .default_value("1")
-}
-
-fn drill_option<'a>(alloc: Global) -> Arg<'a> {
-    Arg::new(alloc, "drill")
-        .long("drill")
-        .value_name("ROUNDS")
-        .help("Enter and exit regions in N threads instead")
-        .action(ArgAction::Set)
-        .value_parser(value_parser!(u64).range(1..=1_000))
+    valued(
+        alloc,
+        "threads",
+        "N",
+        "Threads of a kernel, or of the drill",
+    )
+    .value_parser(value_parser!(u64).range(1..=64))
+    .default_value("1")
 }
 
 fn trace_option<'a>(alloc: Global) -> Arg<'a> {
-    Arg::new(alloc, "trace")
-        .long("trace")
-        .value_name("WHAT")
-        .help("What the trace keeps")
-        .action(ArgAction::Set)
+    valued(alloc, "trace", "WHAT", "What the trace keeps")
         .value_parser(TRACES)
-        .hide_possible_values(true)
         .default_value("counts")
 }
 
@@ -118,74 +105,56 @@ fn file_argument<'a>(alloc: Global) -> Arg<'a> {
         .action(ArgAction::Set)
 }
 
-fn expect_option<'a>(alloc: Global) -> Arg<'a> {
-    Arg::new(alloc, "expect")
-        .long("expect")
-        .value_name("OUTPUT")
-        .help("Compare the output with this file")
-        .action(ArgAction::Set)
+fn expect_option<'a>(alloc: Global) -> Result<Arg<'a>, AllocError> {
+    valued(
+        alloc,
+        "expect",
+        "OUTPUT",
+        "Compare the output with this file",
+    )
+    .requires_if("-", "FILE")
 }
 
 /// The languages that a script can be emitted in.
 const LANGUAGES: &[&str] = &["c"];
 
 /// Options of runs, which do not go with what is done in place of one.
-const OF_RUNS: &[&str] = &[
-    "echo",
-    "json",
-    "log",
-    "explain",
-    "svg",
-    "svg-every",
-    "html",
-    "drill",
-];
+const OF_RUNS: &[&str] = &["echo", "json", "log", "explain", "svg", "svg-every", "html"];
 
 fn emit_option<'a>(alloc: Global) -> Result<Arg<'a>, AllocError> {
-    let option = Arg::new(alloc, "emit")
-        .long("emit")
-        .value_name("LANGUAGE")
-        .help("Write the script as a program instead")
-        .action(ArgAction::Set)
-        .value_parser(LANGUAGES)
-        .hide_possible_values(true);
+    let help = "Write the script as a program instead";
+    let option = valued(alloc, "emit", "LANGUAGE", help).value_parser(LANGUAGES);
     without_runs(option)
 }
 
 fn rows_option<'a>(alloc: Global) -> Result<Arg<'a>, AllocError> {
-    let option = Arg::new(alloc, "rows")
-        .long("rows")
-        .value_name("FILE")
-        .help("Count the rows that scripts reach instead")
-        .action(ArgAction::Set)
-        .num_args(1..);
+    let help = "Count the rows that scripts reach instead";
+    let option = valued(alloc, "rows", "FILE", help).num_args(1..);
     without_runs(option)?
         .conflicts_with("emit")?
         .conflicts_with("FILE")
 }
 
 fn random_option<'a>(alloc: Global) -> Result<Arg<'a>, AllocError> {
-    let option = Arg::new(alloc, "random")
-        .long("random")
-        .value_name("SEED")
-        .help("Write a random script instead")
-        .action(ArgAction::Set)
-        .value_parser(value_parser!(u64));
+    let option = valued(alloc, "random", "SEED", "Write a random script instead").value_parser(
+        value_parser!(u64),
+    );
     without_runs(option)?
         .conflicts_with("emit")?
         .conflicts_with("rows")?
         .conflicts_with("FILE")
 }
 
-fn lines_option<'a>(alloc: Global) -> Result<Arg<'a>, AllocError> {
-    Arg::new(alloc, "lines")
-        .long("lines")
-        .value_name("N")
-        .help("How many statements it has")
-        .action(ArgAction::Set)
-        .value_parser(value_parser!(u64).range(1..=10_000))
-        .default_value("40")
-        .requires_arg("random")
+fn drill_option<'a>(alloc: Global) -> Result<Arg<'a>, AllocError> {
+    let help = "Enter and exit regions in N threads instead";
+    let option = valued(alloc, "drill", "ROUNDS", help).value_parser(value_parser!(u64).range(
+        1..=1_000,
+    ));
+    without_runs(option)?
+        .conflicts_with("emit")?
+        .conflicts_with("rows")?
+        .conflicts_with("random")?
+        .conflicts_with("FILE")
 }
 
 fn without_runs<'a>(mut option: Arg<'a>) -> Result<Arg<'a>, AllocError> {
@@ -195,12 +164,11 @@ fn without_runs<'a>(mut option: Arg<'a>) -> Result<Arg<'a>, AllocError> {
     Ok(option)
 }
 
-fn picture_option<'a>(alloc: Global, name: &'a str, help: &'a str) -> Arg<'a> {
-    Arg::new(alloc, name)
-        .long(name)
-        .value_name("PICTURE")
-        .help(help)
-        .action(ArgAction::Set)
+fn lines_option<'a>(alloc: Global) -> Result<Arg<'a>, AllocError> {
+    valued(alloc, "lines", "N", "How many statements it has")
+        .value_parser(value_parser!(u64).range(1..=10_000))
+        .default_value("40")
+        .requires_arg("random")
 }
 
 fn flag<'a>(alloc: Global, name: &'a str, help: &'a str) -> Arg<'a> {
@@ -216,10 +184,58 @@ fn flag<'a>(alloc: Global, name: &'a str, help: &'a str) -> Arg<'a> {
 ///
 /// `clap`'s own, whose text is for the user: also where help was asked for, and for lack of memory.
 pub fn parsed_words<'a>(alloc: Global, words: &'a [String]) -> Result<ArgMatches<'a>, Error> {
+    let mut command = all_options(alloc)?;
+    parsed_by(alloc, &mut command, words)
+}
+
+fn all_options<'a>(alloc: Global) -> Result<Command<'a>, Error> {
     let command = with_views(alloc, with_limits(alloc, bare(alloc))?)?;
     let command = with_programs(alloc, command)?;
-    let command = with_scripts(alloc, command)?;
-    command.try_get_matches_from(words)
+    with_scripts(alloc, command)
+}
+
+fn parsed_by<'a>(
+    alloc: Global,
+    command: &mut Command<'a>,
+    words: &'a [String],
+) -> Result<ArgMatches<'a>, Error> {
+    let matches = command.try_get_matches_from_mut(words)?;
+    match bad_size(alloc, &matches)? {
+        None => Ok(matches),
+        Some(text) => Err(command.error(ErrorKind::ValueValidation, text.as_str())?),
+    }
+}
+
+/// What is wrong with the sizes, if anything is.
+fn bad_size(alloc: Global, matches: &ArgMatches<'_>) -> Result<Option<String>, AllocError> {
+    match size_told(alloc, "host", matches.get_str("host").unwrap_or(""))? {
+        Some(text) => Ok(Some(text)),
+        None => size_told(alloc, "device", matches.get_str("device").unwrap_or("")),
+    }
+}
+
+fn size_told(alloc: Global, name: &str, text: &str) -> Result<Option<String>, AllocError> {
+    let reason = match bytes_of(text) {
+        Some(bytes) if (16..=67_108_864).contains(&bytes) => return Ok(None),
+        Some(bytes) => format!(in alloc; "{bytes} is not in 16..=67108864")?,
+        None => String::from_str(alloc, "wanted a number of bytes, as 4096, 64K or 1M")?,
+    };
+    let told = format!(in alloc; "invalid value '{text}' for '--{name} <BYTES>': {reason}")?;
+    Ok(Some(told))
+}
+
+/// The number of bytes that a text says: decimal digits, and behind them K for 1,024 bytes or M for 1,048,576, if any.
+pub fn bytes_of(text: &str) -> Option<u64> {
+    let (digits, unit) = unit_of(text);
+    Some(digits.parse::<u64>().ok()?.saturating_mul(unit))
+}
+
+fn unit_of(text: &str) -> (&str, u64) {
+    match (text.strip_suffix('K'), text.strip_suffix('M')) {
+        (Some(digits), _) => (digits, 1_024),
+        (_, Some(digits)) => (digits, 1_048_576),
+        _ => (text, 1),
+    }
 }
 
 fn bare<'a>(alloc: Global) -> Command<'a> {
@@ -227,7 +243,7 @@ fn bare<'a>(alloc: Global) -> Command<'a> {
         .about("Runs a script of OpenACC data directives on simulated devices")
         .version(VERSION)
         .override_usage(USAGE)
-        .after_help(AFTER_HELP)
+        .after_long_help(AFTER_HELP)
 }
 
 fn with_limits<'a>(alloc: Global, command: Command<'a>) -> Result<Command<'a>, AllocError> {
@@ -236,7 +252,6 @@ fn with_limits<'a>(alloc: Global, command: Command<'a>) -> Result<Command<'a>, A
         size_option(alloc, "device", "Size of each device's memory"),
         devices_option(alloc),
         threads_option(alloc),
-        drill_option(alloc),
         trace_option(alloc),
     ]?)
 }
@@ -244,14 +259,18 @@ fn with_limits<'a>(alloc: Global, command: Command<'a>) -> Result<Command<'a>, A
 fn with_views<'a>(alloc: Global, command: Command<'a>) -> Result<Command<'a>, AllocError> {
     command.args(vec![in alloc;
         file_argument(alloc),
-        expect_option(alloc),
         flag(alloc, "echo", "Write each statement before its output"),
         flag(alloc, "json", "Write the report as JSON"),
         flag(alloc, "log", "Tell what each call did"),
         flag(alloc, "explain", "Tell why a line is at fault or refused"),
-        picture_option(alloc, "svg", "Draw the memories at the end"),
-        picture_option(alloc, "svg-every", "Draw them behind each directive"),
-        picture_option(alloc, "html", "Show the script step by step").value_name("PAGE"),
+        valued(alloc, "svg", "PICTURE", "Draw the memories at the end"),
+        valued(
+            alloc,
+            "svg-every",
+            "PICTURE",
+            "Draw them behind each directive"
+        ),
+        valued(alloc, "html", "PAGE", "Show the script step by step"),
     ]?)
 }
 
@@ -269,7 +288,9 @@ fn script_options<'a>(alloc: Global) -> Result<Vec<Arg<'a>>, Error> {
     let rows = rows_option(alloc)?;
     let random = random_option(alloc)?;
     let lines = lines_option(alloc)?;
-    Ok(vec![in alloc; rows, random, lines]?)
+    let drill = drill_option(alloc)?;
+    let expect = expect_option(alloc)?;
+    Ok(vec![in alloc; rows, random, lines, drill, expect]?)
 }
 
 fn with_scripts<'a>(alloc: Global, command: Command<'a>) -> Result<Command<'a>, Error> {
@@ -279,7 +300,7 @@ fn with_scripts<'a>(alloc: Global, command: Command<'a>) -> Result<Command<'a>, 
 /// What a command line asks for.
 pub fn options_of<'a>(matches: &'a ArgMatches<'_>) -> Options<'a> {
     Options {
-        file: matches.get_str("FILE"),
+        file: matches.get_str("FILE").filter(|name| *name != "-"),
         expect: matches.get_str("expect"),
         views: Views {
             echo: matches.get_flag("echo"),
@@ -288,6 +309,7 @@ pub fn options_of<'a>(matches: &'a ArgMatches<'_>) -> Options<'a> {
             explain: matches.get_flag("explain"),
             picture: matches.get_str("svg").is_some(),
             pictures: matches.get_str("svg-every").is_some(),
+            lines: false,
             page: matches.get_str("html").is_some(),
         },
         emit: matches.contains_id("emit"),
@@ -298,8 +320,8 @@ pub fn options_of<'a>(matches: &'a ArgMatches<'_>) -> Options<'a> {
         svg: matches.get_str("svg"),
         svg_every: matches.get_str("svg-every"),
         html: matches.get_str("html"),
-        host: matches.get_one::<u64>("host").unwrap_or(DEFAULT_SIZE),
-        device: matches.get_one::<u64>("device").unwrap_or(DEFAULT_SIZE),
+        host: size_in(matches, "host"),
+        device: size_in(matches, "device"),
         devices: matches.get_one::<u64>("devices").unwrap_or(DEFAULT_DEVICES),
         threads: matches.get_one::<u64>("threads").unwrap_or(DEFAULT_THREADS),
         drill: matches.get_one::<u64>("drill"),
@@ -307,29 +329,35 @@ pub fn options_of<'a>(matches: &'a ArgMatches<'_>) -> Options<'a> {
     }
 }
 
+fn size_in(matches: &ArgMatches<'_>, name: &str) -> u64 {
+    let text = matches.get_str(name);
+    text.and_then(bytes_of).unwrap_or(DEFAULT_SIZE)
+}
+
 const USAGE: &str = "accrun [OPTIONS] [FILE]";
 
-/// What the help has after the options: the statements, an example, the status.
+/// What the long help has after the options: the statements, an example, the status.
 const AFTER_HELP: &str = "\
-A size is from 16 to 67108864 bytes, a multiple of 16. There are 1 to 4 devices,
-numbered from 0. A kernel works in 1 to 64 threads, and the output of a script
-does not depend on that. WHAT is counts or full: of each event the trace keeps
-what it did to counters and, where it is full, its bytes; the output does not
-depend on it. ROUNDS is from 1 to 1000: how often each thread enters and exits a
-region over one array on device 0. Then no script is read, and one line tells
-what is left: the allowance of regions, the number of events, and both counters
-of the array.
+A size is from 16 to 67108864 bytes, a multiple of 16; 64K is 65536, and 1M is
+1048576. There are 1 to 4 devices, numbered from 0. A kernel works in 1 to 64
+threads, and the output of a script does not depend on that. Of each event the
+trace keeps what it did to counters and, where it is full, its bytes; the output
+does not depend on it. ROUNDS is from 1 to 1000: how often each thread enters
+and exits a region over one array on device 0. Then no script is read, and one
+line tells what is left: the allowance of regions, the number of events, and
+both counters of the array.
 
-The script is FILE, or comes on standard input. It is read whole before its
-first line runs. With --echo each statement stands behind '> ' before what it
-prints. With --json the report is one object on one line. With --expect the
-output is not written: it is compared with OUTPUT, and the first line that
-differs is told on standard error. Then the status is 1, and 0 where none
-differs, whatever was refused. --svg draws the memories at the end of the
-script, as a file that a browser opens; --svg-every draws them behind each
-directive and each kernel, with the number of the line in the file's name:
-life.7.svg for life.svg. --html writes one page for a browser, in which arrow
-keys step through the script, with the memories behind each line.
+The script is FILE, or comes on standard input; for FILE and OUTPUT '-' is
+standard input too. It is read whole before its first line runs. With --echo
+each statement stands behind '> ' before what it prints. With --json the report
+is one object on one line. With --expect the output is not written: it is
+compared with OUTPUT, and the first line that differs is told on standard error.
+Then the status is 1, and 0 where none differs, whatever was refused. --svg
+draws the memories at the end of the script, as a file that a browser opens;
+--svg-every draws them behind each directive and each kernel, with the number of
+the line in the file's name: life.7.svg for life.svg. --html writes one page for
+a browser, in which arrow keys step through the script, with the memories behind
+each line.
 
 With --emit c the script is written as a C program with OpenACC directives,
 which does what the script does, and has the expected output in it. A statement

@@ -63,7 +63,7 @@ pub fn write_rows<'a, R: Threads + Wait + Sync + AllocGlobal, D: FileStore, O: S
     let mut rows = RowCounts::new(rt.alloc());
     for name in names {
         let script = read_file(files, name)?;
-        rows = count_rows(rt, config, &script, rows)?;
+        rows = count_rows(rt, config, &script, rows).map_err(|fault| Mishap::Within(name, fault))?;
     }
     let mut page = Page::new(rt.alloc());
     let is_complete = rows.put(&mut page);

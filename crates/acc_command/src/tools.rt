@@ -3,17 +3,18 @@
 ghost use Rattle.std.specs.Prelude.{◌≤◌};
 
 use crate::drills::run_drill;
-use crate::endings::{Mishap, tell, tell_difference, tell_mishap};
-use crate::file_stores::FileStore;
+use crate::endings::{Mishap, tell, tell_difference, tell_mishap, tell_sizes};
+use crate::file_stores::{FileStore, Unread};
 use crate::options::{Options, options_of, parsed_words};
 use crate::picture_files::PictureFiles;
 use crate::programs::{emit_script, write_random, write_rows};
 use crate::words::WordsFault;
 use acc_base::{Config, Fault};
 use acc_follow::{Beside, Frame, Page, Setting, Stop, first_difference, follow};
-use acc_script::{MemorySink, MemorySource, Sink, Source, Status, write_all};
+use acc_script::{MemorySink, MemorySource, Sink, Source, Status, read_all, write_all};
 use clap::Error;
 use clap::error::ErrorKind;
+use std::alloc::Global;
 use std::sync::Wait;
 use std::thread::Threads;
 
@@ -91,12 +92,12 @@ fn do_asked<R: Threads + Wait + Sync + AllocGlobal, S: Source, O: Sink, E: Sink,
     err: &mut E,
     files: &D,
 ) -> u8 {
-    let mut reason = Page::new(rt.alloc());
+    let mut told = Told::new(rt.alloc());
     let ends = Ends {
         out: &mut *out,
         err: &mut *err,
         files,
-        reason: &mut reason,
+        told: &mut told,
     };
     let ending = match options.expect {
         Some(name) => compared(rt, options, name, reader, ends),
@@ -106,21 +107,63 @@ fn do_asked<R: Threads + Wait + Sync + AllocGlobal, S: Source, O: Sink, E: Sink,
         Ok(Status::Clean) => CLEAN,
         Ok(Status::Refused) => REFUSED,
         Err(mishap) => {
-            tell_mishap(rt.alloc(), err, mishap);
-            let _ = write_all(err, reason.as_slice());
+            tell_end(rt, err, options, told.column, mishap);
+            let _ = write_all(err, told.reason.as_slice());
             FAULTED
+        }
+    }
+}
+
+/// Writes why the program ends. Where it is told for people, the sizes are named that it cannot have.
+fn tell_end<R: AllocGlobal, E: Sink>(
+    rt: &R,
+    err: &mut E,
+    options: Options<'_>,
+    column: u64,
+    mishap: Mishap<'_>,
+) {
+    let is_more = options.file.is_some() || options.views.explain;
+    match mishap {
+        Mishap::Fault(Fault::BadConfig) if is_more => {
+            tell_sizes(err, options.host, options.device);
+        }
+        _ => tell_mishap(rt.alloc(), err, options.file, column, mishap),
+    }
+}
+
+/// What a run tells beside its output, for whoever ends it.
+#[derive(Drop)]
+pub struct Told {
+    /// Why a line is at fault.
+    reason: Page,
+    /// The column of what is wrong in it, from 1 on; 0 where none is known.
+    column: u64,
+    /// For each line of the output the number of the line that printed it, where that is asked for.
+    pub lines: Vec<u64>,
+}
+
+impl Told {
+    /// Nothing so far.
+    pub fn new(alloc: Global) -> Told {
+        Told {
+            reason: Page::new(alloc),
+            column: 0,
+            lines: Vec::new(alloc),
         }
     }
 }
 
 /// What a run writes to, and the store of its files.
 #[derive(Drop)]
-struct Ends<'a, O, E, D> {
-    out: &'a mut O,
-    err: &'a mut E,
-    files: &'a D,
-    /// Gets why a line is at fault.
-    reason: &'a mut Page,
+pub struct Ends<'a, O, E, D> {
+    /// Gets its output.
+    pub out: &'a mut O,
+    /// Gets the log and the explanations.
+    pub err: &'a mut E,
+    /// The store of files.
+    pub files: &'a D,
+    /// Gets what it tells beside.
+    pub told: &'a mut Told,
 }
 
 fn flushed<'a, O: Sink>(
@@ -177,8 +220,22 @@ fn run_file<'a, R: Threads + Wait + Sync + AllocGlobal, O: Sink, E: Sink, D: Fil
 pub fn read_file<'a, D: FileStore>(files: &D, name: &'a str) -> Result<Vec<u8>, Mishap<'a>> {
     match files.read(name) {
         Ok(bytes) => Ok(bytes),
-        Err(Fault::Memory) => Err(Mishap::Fault(Fault::Memory)),
-        Err(_) => Err(Mishap::Unread(name)),
+        Err(Unread::Memory) => Err(Mishap::Fault(Fault::Memory)),
+        Err(Unread::Because(reason)) => Err(Mishap::Unread(name, reason)),
+    }
+}
+
+/// Reads the expected output from a file, or from standard input where that is named `-`.
+fn read_expected<'a, R: AllocGlobal, S: Source, D: FileStore>(
+    rt: &R,
+    name: &'a str,
+    reader: &mut S,
+    files: &D,
+) -> Result<Vec<u8>, Mishap<'a>> {
+    if name == "-" {
+        Ok(read_all(rt.alloc(), reader)?)
+    } else {
+        read_file(files, name)
     }
 }
 
@@ -192,19 +249,19 @@ fn compared<'a, R: Threads + Wait + Sync + AllocGlobal, S: Source, O: Sink, E: S
     let Ends {
         err,
         files,
-        reason,
+        told,
         ..
     } = ends;
-    let expected = read_file(files, name)?;
+    let expected = read_expected(rt, name, reader, files)?;
     let mut found = MemorySink::new(rt.alloc());
     let within = Ends {
         out: &mut found,
         err: &mut *err,
         files,
-        reason,
+        told,
     };
     match carried_out(rt, options, reader, within) {
-        Ok(_) => Ok(agreement(rt, &expected, found.as_slice(), err)),
+        Ok(_) => Ok(agreement(rt, options.file, &expected, found.as_slice(), err)),
         // This sink fails for lack of memory alone.
         Err(Mishap::Fault(Fault::Write)) => Err(Mishap::Fault(Fault::Memory)),
         Err(mishap) => Err(mishap),
@@ -213,6 +270,7 @@ fn compared<'a, R: Threads + Wait + Sync + AllocGlobal, S: Source, O: Sink, E: S
 
 fn agreement<R: AllocGlobal, E: Sink>(
     rt: &R,
+    file: Option<&str>,
     expected: &[u8],
     found: &[u8],
     err: &mut E,
@@ -220,7 +278,7 @@ fn agreement<R: AllocGlobal, E: Sink>(
     match first_difference(expected, found) {
         None => Status::Clean,
         Some(difference) => {
-            tell_difference(rt.alloc(), err, difference);
+            tell_difference(rt.alloc(), err, file, difference);
             Status::Refused
         }
     }
@@ -244,7 +302,7 @@ fn use_script<
         out,
         err,
         files,
-        reason,
+        told,
     } = ends;
     if options.emit {
         return emit_script(rt, options, config, reader, out);
@@ -263,7 +321,9 @@ fn use_script<
             each: options.svg_every,
             page: options.html,
         },
-        reason,
+        reason: &mut told.reason,
+        column: &mut told.column,
+        lines: &mut told.lines,
     };
     match follow(rt, setting, reader, out, beside) {
         Ok(status) => Ok(status),

@@ -12,6 +12,31 @@ use std::alloc::{AllocError, Global};
 /// How many bytes of a token are shown at most.
 const SHOWN: usize = 40;
 
+/// How many bytes a line may have.
+const LONGEST: usize = 4_096;
+
+/// The column of what is wrong in a line at fault, in bytes from 1 on; 1 where there is no memory to find it.
+pub fn fault_column(alloc: Global, arrays: &Arrays, line: &[u8], kind: ScriptFault) -> u64 {
+    let place = match kind {
+        ScriptFault::TooLong => LONGEST,
+        ScriptFault::Unclosed => 0,
+        ScriptFault::NotText => text_len(line),
+        _ => token_place(Reader { alloc, arrays }, line, kind).unwrap_or(0),
+    };
+    (place as u64).saturating_add(1)
+}
+
+/// How many bytes stand before the first one that no line may have.
+fn text_len(line: &[u8]) -> usize {
+    line.iter().take_while(|b| is_text_byte(**b)).count()
+}
+
+fn token_place(reader: Reader<'_>, line: &[u8], kind: ScriptFault) -> Result<usize, AllocError> {
+    let text = before_comment(line);
+    let tokens = tokens_of(reader.alloc, text)?;
+    Ok(place_of(text, &tokens, reader.place(text, &tokens, kind)))
+}
+
 /// Puts why the line of a number is at fault: the line, with a mark at the first wrong place, and what stands there.
 /// What could stand there follows, and what to write in its place where that is known.
 ///
@@ -47,7 +72,7 @@ fn put_long(page: &mut Page, number: u64, line: &[u8]) {
 }
 
 fn put_not_text(page: &mut Page, number: u64, line: &[u8]) {
-    let place = line.iter().take_while(|b| is_text_byte(**b)).count();
+    let place = text_len(line);
     put_source(page, number, line, place);
     page.text("found the byte ");
     page.address(u64::from(line.get(place).copied().unwrap_or(0)));

@@ -14,6 +14,6 @@ mod sources;
 mod tokens;
 mod wanted;
 
-pub use faults::{explain_fault, explain_unclosed};
+pub use faults::{explain_fault, explain_unclosed, fault_column};
 pub use hints::{is_pragma, warn_of_pragma};
 pub use refusals::explain_refusal;

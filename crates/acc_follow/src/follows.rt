@@ -8,6 +8,7 @@ use crate::picture_sinks::{Frame, PictureSink, Stop};
 use crate::ran_lines::{RanLine, picture_of};
 use crate::timelines::Timeline;
 use acc_base::{Config, Event, Fault, ScriptFault};
+use acc_explain::fault_column;
 use acc_log::Log;
 use acc_picture::Caption;
 use acc_read::{Names, Page, Statement};
@@ -33,6 +34,8 @@ pub struct Views {
     pub pictures: bool,
     /// A page that shows the script step by step.
     pub page: bool,
+    /// Which line printed what ([`Beside::lines`]).
+    pub lines: bool,
 }
 
 impl Views {
@@ -67,6 +70,10 @@ pub struct Beside<'a, E, G> {
     pub pictures: &'a G,
     /// Gets why a line is at fault, to be written behind the fault itself.
     pub reason: &'a mut Page,
+    /// Gets the column of what is wrong in that line, from 1 on.
+    pub column: &'a mut u64,
+    /// Gets for each line of the output the number of the line that printed it, where that is asked for.
+    pub lines: &'a mut Vec<u64>,
 }
 
 /// Runs a whole script as [`run`] does, and shows more of it.
@@ -88,6 +95,8 @@ pub fn follow<R: Threads + Wait + Sync + AllocGlobal, S: Source, O: Sink, E: Sin
         err,
         pictures,
         reason,
+        column,
+        lines,
     } = beside;
     let mut follower = Follower {
         alloc: rt.alloc(),
@@ -95,6 +104,7 @@ pub fn follow<R: Threads + Wait + Sync + AllocGlobal, S: Source, O: Sink, E: Sin
         err,
         pictures,
         reason,
+        column,
         names: Names::new(rt.alloc()),
         log: Log::new(rt.alloc()),
         entries: Vec::new(rt.alloc()),
@@ -102,8 +112,8 @@ pub fn follow<R: Threads + Wait + Sync + AllocGlobal, S: Source, O: Sink, E: Sin
         drawn: 0,
         stop: None,
     };
-    let ending = if setting.views.echo || setting.views.json {
-        run_copied(rt, setting, reader, out, &mut follower)
+    let ending = if setting.views.echo || setting.views.json || setting.views.lines {
+        run_copied(rt, setting, reader, out, lines, &mut follower)
     } else {
         run(
             rt,
@@ -124,6 +134,7 @@ fn run_copied<R: Threads + Wait + Sync + AllocGlobal, S: Source, O: Sink, X: Wat
     setting: Setting,
     reader: &mut S,
     out: &mut O,
+    lines: &mut Vec<u64>,
     watcher: &mut X,
 ) -> Result<Status, Fault>
     requires { (1 ≤ setting.parts) × (setting.parts ≤ 64) }
@@ -135,6 +146,7 @@ fn run_copied<R: Threads + Wait + Sync + AllocGlobal, S: Source, O: Sink, X: Wat
         alloc: rt.alloc(),
         echo: setting.views.echo,
         json: setting.views.json,
+        lines,
         copied: 0,
         failed: None,
     };
@@ -161,6 +173,7 @@ struct Follower<'a, E, G> {
     err: &'a mut E,
     pictures: &'a G,
     reason: &'a mut Page,
+    column: &'a mut u64,
     names: Names,
     log: Log,
     /// The lines whose data regions are open, the innermost last.
@@ -329,9 +342,10 @@ impl<E: Sink, G: PictureSink> Follower<'_, E, G> {
         self.pictures.keep(Frame::Last, picture.whole()?)
     }
 
-    /// Puts why a line is at fault. Where there is no memory, the reason is cut short, and the fault itself is still
-    /// written.
+    /// Puts where and why a line is at fault. Where there is no memory, the reason is cut short, and the fault itself is
+    /// still written.
     fn give_reason(&mut self, ran: RanLine<'_>, kind: ScriptFault) {
+        *self.column = fault_column(self.alloc, &ran.session.arrays, ran.line, kind);
         if self.views.explain {
             ran.explain_fault(self.reason, self.alloc, &self.entries, kind);
         }

@@ -1,8 +1,7 @@
 //! What the program does over sources, sinks and files in memory: where one of them fails, where memory cannot grow, and
 //! with options that `tests/scripts` cannot show. How scripts end at limits that no option gives.
 
-use acc_base::Fault;
-use acc_command::{FileStore, tool};
+use acc_command::{FileStore, Unread, tool};
 use acc_script::{MemorySink, MemorySource, Sink, Source};
 use std::alloc::{AllocError, Global};
 use std::fmt::Debug;
@@ -53,8 +52,8 @@ fn add_words(words: &mut Vec<String>, alloc: Global, text: &str) -> Result<(), A
 struct NoFiles;
 
 impl FileStore for NoFiles {
-    fn read(&self, _name: &str) -> Result<Vec<u8>, Fault> {
-        Err(Fault::Read)
+    fn read(&self, _name: &str) -> Result<Vec<u8>, Unread> {
+        Err(Unread::Because("there is none"))
     }
 
     fn write(&self, _name: &str, _bytes: &[u8]) -> bool {

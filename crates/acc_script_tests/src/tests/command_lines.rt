@@ -8,14 +8,15 @@ use std::test::Fail;
 use std::thread::Threads;
 
 /// Command lines that are accepted, and a text that standard output has then for an empty script.
-const ACCEPTED: [(&str, &str); 3] = [
+const ACCEPTED: [(&str, &str); 4] = [
     ("--help", "Usage: accrun [OPTIONS] [FILE]"),
+    ("-h", "[possible values: counts, full]\n"),
     ("--emit c --threads 2 --host 64", "int main("),
     ("--random 1 --lines 1", "wait\nshow a\n"),
 ];
 
 /// Command lines that are refused, and a text that standard error has then.
-const REFUSED: [(&str, &str); 30] = [
+const REFUSED: [(&str, &str); 34] = [
     (
         "--host 15",
         "'15' for '--host <BYTES>': 15 is not in 16..=67108864",
@@ -23,6 +24,7 @@ const REFUSED: [(&str, &str); 30] = [
     ("--device 67108865", "'67108865' for '--device <BYTES>'"),
     ("--device 99999999999", "is not in 16..=67108864"),
     ("--host many", "'many' for '--host <BYTES>'"),
+    ("--host 1K1", "'1K1' for '--host <BYTES>': wanted a number"),
     ("--devices 0", "'0' for '--devices <N>': 0 is not in 1..=4"),
     ("--devices 5", "'5' for '--devices <N>'"),
     ("--threads 0", "'0' for '--threads <N>': 0 is not in 1..=64"),
@@ -45,6 +47,12 @@ const REFUSED: [(&str, &str); 30] = [
     ),
     ("--svg wall.svg --emit c", "'--svg <PICTURE>'"),
     ("--emit c --drill 1", "'--drill <ROUNDS>'"),
+    (
+        "--drill 1 --log",
+        "'--drill <ROUNDS>' cannot be used with '--log'",
+    ),
+    ("life.acc --drill 1", "'--drill <ROUNDS>'"),
+    ("--expect -", "[FILE]"),
     ("--svg", "'--svg <PICTURE>'"),
     ("life.acc life.acc", "'life.acc'"),
     ("--host", "'--host <BYTES>'"),

@@ -1,8 +1,7 @@
 //! What pictures have, and which are made. Those of `docs/pictures` are compared whole; here stands what they lack.
 
 use super::{same, words};
-use acc_base::Fault;
-use acc_command::{FileStore, tool};
+use acc_command::{FileStore, Unread, tool};
 use acc_script::{MemorySink, MemorySource};
 use std::alloc::AllocError;
 use std::cell::Cell;
@@ -21,8 +20,8 @@ struct PictureStore {
 }
 
 impl FileStore for PictureStore {
-    fn read(&self, _name: &str) -> Result<Vec<u8>, Fault> {
-        Err(Fault::Read)
+    fn read(&self, _name: &str) -> Result<Vec<u8>, Unread> {
+        Err(Unread::Because("there is none"))
     }
 
     fn write(&self, name: &str, bytes: &[u8]) -> bool {

@@ -309,7 +309,6 @@ pub fn options_of<'a>(matches: &'a ArgMatches<'_>) -> Options<'a> {
             explain: matches.get_flag("explain"),
             picture: matches.get_str("svg").is_some(),
             pictures: matches.get_str("svg-every").is_some(),
-            lines: false,
             page: matches.get_str("html").is_some(),
         },
         emit: matches.contains_id("emit"),

@@ -138,8 +138,6 @@ pub struct Told {
     reason: Page,
     /// The column of what is wrong in it, from 1 on; 0 where none is known.
     column: u64,
-    /// For each line of the output the number of the line that printed it, where that is asked for.
-    pub lines: Vec<u64>,
 }
 
 impl Told {
@@ -148,7 +146,6 @@ impl Told {
         Told {
             reason: Page::new(alloc),
             column: 0,
-            lines: Vec::new(alloc),
         }
     }
 }
@@ -323,7 +320,6 @@ fn use_script<
         },
         reason: &mut told.reason,
         column: &mut told.column,
-        lines: &mut told.lines,
     };
     match follow(rt, setting, reader, out, beside) {
         Ok(status) => Ok(status),

@@ -80,7 +80,13 @@ fn tell_fault<E: Sink>(alloc: Global, err: &mut E, file: Option<&str>, column: u
             let mut page = Page::new(alloc);
             put_place(&mut page, name, line, column);
             put_texts(&mut page, &[": error: ", kind.name(), "\n"]);
-            let _ = write_all(err, page.as_slice());
+            match page.whole() {
+                Ok(text) => {
+                    let _ = write_all(err, text);
+                }
+                // There is no memory for the file's name.
+                Err(_) => tell(err, fault),
+            }
         }
         _ => tell(err, fault),
     }

@@ -200,14 +200,26 @@ fn parsed_by<'a>(
     words: &'a [String],
 ) -> Result<ArgMatches<'a>, Error> {
     let matches = command.try_get_matches_from_mut(words)?;
-    match bad_size(alloc, &matches)? {
+    match bad_value(alloc, &matches)? {
         None => Ok(matches),
         Some(text) => Err(command.error(ErrorKind::ValueValidation, text.as_str())?),
     }
 }
 
-/// What is wrong with the sizes, if anything is.
-fn bad_size(alloc: Global, matches: &ArgMatches<'_>) -> Result<Option<String>, AllocError> {
+/// Whether a file is standard input.
+fn is_input(matches: &ArgMatches<'_>, name: &str) -> bool {
+    match matches.get_str(name) {
+        Some(text) => text == "-",
+        None => false,
+    }
+}
+
+/// What is wrong with the files or the sizes, if anything is.
+fn bad_value(alloc: Global, matches: &ArgMatches<'_>) -> Result<Option<String>, AllocError> {
+    if is_input(matches, "FILE") && is_input(matches, "expect") {
+        let told = String::from_str(alloc, "standard input cannot be both FILE and OUTPUT")?;
+        return Ok(Some(told));
+    }
     match size_told(alloc, "host", matches.get_str("host").unwrap_or(""))? {
         Some(text) => Ok(Some(text)),
         None => size_told(alloc, "device", matches.get_str("device").unwrap_or("")),

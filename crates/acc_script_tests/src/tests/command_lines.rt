@@ -16,7 +16,11 @@ const ACCEPTED: [(&str, &str); 4] = [
 ];
 
 /// Command lines that are refused, and a text that standard error has then.
-const REFUSED: [(&str, &str); 34] = [
+const REFUSED: [(&str, &str); 35] = [
+    (
+        "--expect - -",
+        "standard input cannot be both FILE and OUTPUT",
+    ),
     (
         "--host 15",
         "'15' for '--host <BYTES>': 15 is not in 16..=67108864",

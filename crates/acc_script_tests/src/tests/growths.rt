@@ -87,7 +87,7 @@ fn a_refused_growth_leaves_refusals_as_they_are(rt: HostRuntime) {
 }
 
 #[test]
-fn a_refused_growth_leaves_what_a_page_shows(rt: HostRuntime) {
+fn a_refused_growth_leaves_what_a_script_with_a_page_prints(rt: HostRuntime) {
     check_scarce(&rt, &[PAGE]);
 }
 

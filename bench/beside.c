@@ -88,7 +88,7 @@ static void present_there(uint64_t round)
     acc_delete(p, LEN);
 }
 
-/* Behind all others, where each second array is mapped. */
+/* Behind all others. */
 static void birth_here(uint64_t round)
 {
     (void)round;

@@ -1,7 +1,8 @@
 /*
  * What an order of calls costs as more and more are alive: regions, mapped arrays and leases that come and go, by
- * doubling from 4,000 to 64,000. For each it prints nanoseconds a call, the longest single call in microseconds, and how
- * many bytes the library holds for each that is alive, with its copy in the base of the trace.
+ * doubling from 4,000 to 64,000. For each it prints nanoseconds a call and the longest single call in microseconds,
+ * both with one look at the clock. And it prints how many bytes the library holds for each that came at first, with its
+ * copy in the base of the trace.
  *
  * Usage: growth [KIND..], of the kinds `regions`, `arrays` and `leases`; all of them if none is named.
  */
@@ -47,7 +48,7 @@ typedef struct kind {
 typedef struct order {
     const char *name;
     size_t (*next)(uint64_t step, size_t count);
-    bool is_halved; /* whether half of them go at first, so that as many places are gone as are taken */
+    bool is_halved; /* whether the first half of them goes before, so that as many places are gone as are taken */
 } order;
 
 static void must(uint32_t status, const char *call)
@@ -195,42 +196,64 @@ static void make(world *world, size_t most)
     fold(world);
 }
 
-/* One goes and the next one comes. The answer is how long the longer of both calls took. */
-static uint64_t step(world *world, const kind *kind, size_t place)
+/* How long calls took: all of them, and the longest. */
+typedef struct times {
+    uint64_t all;
+    uint64_t longest;
+} times;
+
+static uint64_t add(times *times, uint64_t from)
 {
-    uint64_t from = now(), between, to;
+    uint64_t to = now();
+
+    times->all += to - from;
+    times->longest = to - from > times->longest ? to - from : times->longest;
+    return to;
+}
+
+/* One goes and the next one comes. */
+static void step(world *world, const kind *kind, size_t place, times *times)
+{
+    uint64_t from = now();
 
     kind->go(world, place);
-    between = now();
+    from = add(times, from);
     kind->come(world, place);
-    to = now();
+    add(times, from);
     world->events += 2;
-    return between - from > to - between ? between - from : to - between;
 }
 
 static void halve(world *world, const kind *kind, size_t count)
 {
-    for (size_t n = count / 2; n < count; n++) {
+    for (size_t n = 0; n < count / 2; n++) {
         kind->go(world, n);
     }
     fold(world);
 }
 
+/* How many bytes the library holds. */
+static size_t held(void)
+{
+    struct mallinfo2 info = mallinfo2();
+
+    return info.uordblks + info.hblkhd;
+}
+
 static void run(const kind *kind, const order *order, size_t count)
 {
     world world;
-    uint64_t took = 0, longest = 0, from, last;
-    size_t held, steps = STEPS * count, alive = order->is_halved ? count / 2 : count;
+    times times = {0, 0};
+    size_t before, more, steps = STEPS * count, first = order->is_halved ? count / 2 : 0;
 
     make(&world, MOST + 1);
     kind->begin(&world, count);
     fold(&world);
-    held = mallinfo2().uordblks;
+    before = held();
     for (size_t n = 0; n < count; n++) {
         kind->come(&world, n);
     }
     fold(&world);
-    held = mallinfo2().uordblks - held;
+    more = held() - before;
     if (order->is_halved) {
         halve(&world, kind, count);
     }
@@ -238,13 +261,10 @@ static void run(const kind *kind, const order *order, size_t count)
         if (world.events + 2 > TRACE) {
             fold(&world);
         }
-        from = now();
-        last = step(&world, kind, order->next(n, alive));
-        took += now() - from;
-        longest = last > longest ? last : longest;
+        step(&world, kind, first + order->next(n, count - first), &times);
     }
     printf("%-8s %-10s %6zu %8.0f ns %8.1f us %6zu bytes\n", kind->name, order->name, count,
-           (double)took / (double)(2 * steps), (double)longest / 1000, held / count);
+           (double)times.all / (double)(2 * steps), (double)times.longest / 1000, more / count);
     lw_table_end(&world.table);
     free(world.alive);
 }

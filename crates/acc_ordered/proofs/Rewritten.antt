@@ -9,10 +9,9 @@ use Rattle.std.proofs.lemmas.Option.{slice_get-get_or}
 use Rattle.acc_base.proofs.Elements.{AllByRecursion-append, AllByRecursion-weaker, all_behind, all_in_front}
 use Rattle.acc_base.proofs.Keyed as keyed
 use Rattle.acc_base.specs.Splits.{IsSplitBy}
-use Rattle.acc_ordered.specs.declared.entries.KeyValue.{KeyValue}
-use Rattle.acc_ordered.specs.Listing.{KeysRise, last_before, value_written, with_value}
+use Rattle.acc_ordered.specs.Listing.{KeyValue, KeysRise, last_before, value_written, with_value}
 use Rattle.acc_ordered.specs.Row.{HasEnds}
-use Rattle.acc_ordered.specs.Paired.{paired}
+use Rattle.acc_ordered.specs.Pairs.{paired}
 use Rattle.acc_ordered.specs.Rewritten.{IsValueTold, IsWalked}
 use Rattle.acc_ordered.proofs.Beside.{Beside, value_beside, left_beside, right_beside, row_beside, to_left, to_right}
 use Rattle.acc_ordered.proofs.Kept.{key-written, rise-with_value}
@@ -77,6 +76,12 @@ module _ {T : Type 0} where
       (AllByRecursion-append (λ e. e.key ≤ last) p.ends.front (p.ends.foot ∷ [])
       (AllByRecursion-weaker (λ e. e.key < p.ends.foot.key) (λ e. e.key ≤ last) p.ends.front (λ e u. omega (arith, p.ends.last_is)) (all_behind (λ e. e.key < p.ends.foot.key) l p.ends.front p.foot.under))
       (omega (arith, p.ends.last_is), tt))
+
+  -- the ends of a row stand in their order
+  pub ends_order : (first last : ℕ) (l w r : List (KeyValue T)) → Parts first last l w r → first ≤ last
+  ends_order first last l w r p =
+      let all = subst (λ (es : List (KeyValue T)). AllByRecursion (λ e. first ≤ e.key) es) p.ends.ends (not_before first last l w r p) in
+      omega (arith, (all_behind (λ e. first ≤ e.key) p.ends.front (p.ends.foot ∷ []) all).0, p.ends.last_is)
 
   here_of : (key first last : ℕ) (l w r : List (KeyValue T)) (e : KeyValue T) → Parts first last l w r → last_before key w ≡ Some e → Beside e.key l r
   here_of key first last l w r e p is =
@@ -146,13 +151,6 @@ module _ {T : Type 0} where
       let some = some_before key es n ends.head ends.tail ends.begins (omega (arith, ends.first_is, behind)) split in
       (some, omega (arith, some, split.bound))
 
-  -- the value that was read at a place
-  pub value_read : (es : List (KeyValue T)) (ks : List ℕ) (vs : List T) (n : ℕ) (d : KeyValue T) (v : T) → paired ks vs ≡ es → length vs ≡ length ks → n < length es → v ≡ get_or vs n v → v ≡ (get_or es n d).value
-  value_read es ks vs n d v is each lt read =
-      let within : n < length ks = omega (arith, lt, ap length is, paired_length ks vs each) in
-      let there : Some (get_or es n d) ≡ Some (record { key = get_or ks n 0; value = get_or vs n v }) = sym (slice_get-get_or es n d lt) ∙ ap (λ (xs : List (KeyValue T)). slice_get xs n) (sym is) ∙ paired_get ks vs n 0 v each within in
-      read ∙ sym (ap (λ (o : Option (KeyValue T)). (entry_or d o).value) there)
-
   -- the value at a place is written, if the change says one
   abbrev pub IsSet : List (KeyValue T) → ℕ → KeyValue T → Option T → Bool → List (KeyValue T) → Type 0
   IsSet es n d None done new = (done ≡ false) × (new ≡ es)
@@ -196,3 +194,15 @@ module _ {T : Type 0} where
       go : (o : Option T) → IsValueTold e o b old new → KeysRise new
       go None h = subst (λ (es : List (KeyValue T)). KeysRise es) (sym h.1) rise
       go (Some value) h = subst (λ (es : List (KeyValue T)). KeysRise es) (sym h.1) (rise-with_value e.key value old rise)
+
+module _ {K T : Type 0} (number : K → ℕ) where
+  abbrev value_or : T → Option (KeyValue T) → T
+  value_or d None = d
+  value_or d (Some e) = e.value
+
+  -- the value that was read at a place
+  pub value_read : (es : List (KeyValue T)) (ks : List K) (vs : List T) (n : ℕ) (d : KeyValue T) (c : K) (v : T) → paired number ks vs ≡ es → length vs ≡ length ks → n < length es → v ≡ get_or vs n v → v ≡ (get_or es n d).value
+  value_read es ks vs n d c v is each lt read =
+      let within : n < length ks = omega (arith, lt, ap length is, paired_length number ks vs each) in
+      let there : Some (get_or es n d) ≡ Some (record { key = number (get_or ks n c); value = get_or vs n v }) = sym (slice_get-get_or es n d lt) ∙ ap (λ (xs : List (KeyValue T)). slice_get xs n) (sym is) ∙ paired_get number ks vs n c v each within in
+      read ∙ sym (ap (λ (o : Option (KeyValue T)). value_or v o) there)

@@ -1,5 +1,8 @@
 pub mod Row
+pub mod Pairs
 pub mod Paired
+pub mod Runs
+pub mod Cursors
 pub mod Shape
 pub mod Nodes
 pub mod NodeFalls

@@ -1,7 +1,6 @@
 -- What a change makes of one entry, and of the entries among which it stands.
 use Rattle.std.specs.Prelude.{◌≡◌, Bool, true, false, List, Option, Some, None}
-use Rattle.acc_ordered.specs.declared.entries.KeyValue.{KeyValue}
-use Rattle.acc_ordered.specs.Listing.{with_value}
+use Rattle.acc_ordered.specs.Listing.{KeyValue, with_value}
 
 module _ {T : Type 0} where
   -- the entries with another value at a key, if the value doesn't stay

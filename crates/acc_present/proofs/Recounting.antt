@@ -8,8 +8,7 @@ use Rattle.acc_base.specs.declared.mappings.Range.{Range}
 use Rattle.acc_base.specs.Ranges.{range_of, changed_at}
 use Rattle.acc_base.specs.Register.{Region}
 use Rattle.acc_base.proofs.Results.{equal}
-use Rattle.acc_ordered.specs.declared.entries.KeyValue.{KeyValue}
-use Rattle.acc_ordered.specs.Listing.{last_before, with_value}
+use Rattle.acc_ordered.specs.Listing.{KeyValue, last_before, with_value}
 use Rattle.acc_ordered.specs.Rewritten.{IsValueTold, IsRewritten}
 use Rattle.acc_ordered.proofs.Rewritten.{before_among}
 use Rattle.acc_present.specs.declared.ranges.CounterChange.{CounterChange}

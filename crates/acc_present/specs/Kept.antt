@@ -10,7 +10,7 @@ use Rattle.acc_base.specs.declared.mappings.Found.TheVariants.{Absent}
 use Rattle.acc_base.specs.Ranges.{range_of, range_from, where_is_apart, counter_in, risen, fallen, cleared}
 use Rattle.acc_base.specs.Register.{Region}
 use Rattle.acc_index.specs.Indexed.{IndexState, value_at}
-use Rattle.acc_ordered.specs.declared.entries.KeyValue.{KeyValue}
+use Rattle.acc_ordered.specs.Listing.{KeyValue}
 use Rattle.acc_present.specs.declared.ranges.CounterChange.{CounterChange}
 use Rattle.acc_present.specs.declared.ranges.CounterChange.TheVariants.{Raise, Lower, Clear}
 use Rattle.acc_present.specs.Present.{AreMapped}

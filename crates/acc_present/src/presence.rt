@@ -11,11 +11,11 @@ ghost use Rattle.acc_ordered.specs.Listing.{seen};
 ghost use Rattle.acc_present.specs.Present.{IsWithinLimit, new_table, with_ranges, with_regions, HasRange, HasRegion, IsToldBy, IsRoomKept, IsRangeRoomTaken, IsRegionRoomTaken, IsRoomMissing, IsMemoryNeeded, IsLawful, region_of};
 ghost use Rattle.acc_present.specs.Kept.{IsNext, IsChangeable, changed_by};
 
-use crate::ranges::{CounterChange, Recount, changed, told_by, value_of};
+use crate::ranges::{CounterChange, RangeAlone, Recount, changed, told_by, value_of};
 use crate::register::{OpenRegion, Register};
 use acc_base::{Counter, Counters, Fault, Found, Holding, Range, Section, Steps};
 use acc_index::Index;
-use acc_ordered::{KeyValue, KeyValueRef, OrderedTree};
+use acc_ordered::{Given, KeyValueRef, OrderedTree};
 use std::alloc::Global;
 use std::marker::Model;
 
@@ -31,7 +31,7 @@ use std::marker::Model;
 pub struct Present {
     counter_max: u64,
     // By start.
-    ranges: OrderedTree<Range>,
+    ranges: OrderedTree<u64, Range>,
     // The host address at which the range of each block begins.
     starts: Index<u64>,
     register: Register,
@@ -57,8 +57,8 @@ impl Model for Present {
 
 /// The range that was found, if one was.
 #[inline]
-fn range_if(found: Option<KeyValueRef<'_, Range>>) -> Option<Range>
-    ensures { result ≡ option_map (λ e. e.value) (seen found.entry) }
+fn range_if(found: Option<KeyValueRef<'_, u64, Range>>) -> Option<Range>
+    ensures { result ≡ option_map (λ e. e.value) (seen (λ (key : ℕ). key) found.entry) }
 {
     Some(*found?.value)
 }
@@ -95,7 +95,7 @@ impl Present {
         };
         Present {
             counter_max,
-            ranges: OrderedTree::new(alloc, blank),
+            ranges: OrderedTree::new(alloc, 0, blank),
             starts: Index::new(alloc),
             register: Register::new(alloc),
         }
@@ -321,10 +321,7 @@ impl Present {
         ensures room_holdings { self.old.room.holdings ≤ self.new.room.holdings }
     {
         let start = range.section.start;
-        self.ranges.insert(KeyValue {
-            key: start,
-            value: range,
-        });
+        self.ranges.change(start, &Given(Some(range)));
         self.starts.insert(range.block, start);
     }
 
@@ -348,7 +345,7 @@ impl Present {
     {
         // Nothing told its place. A look at the first one costs no search.
         let start = self.starts.take_out_near(block, 0);
-        self.ranges.remove(start);
+        self.ranges.change(start, &Given(None));
     }
 
     // ---- reference counters
@@ -467,7 +464,8 @@ impl Present {
         ensures table { self.new.table ≡ with_ranges self.old.table (changed_at range.block (changed_by change) self.old.table.ranges) }
         ensures room { IsRoomKept self.old.room self.new.room }
     {
-        self.ranges.set(range.section.start, changed(change, range));
+        let given = Given(Some(changed(change, range)));
+        self.ranges.change(range.section.start, &given);
     }
 
     /// Lowers the structured counter of the range that is mapped to a block. One is. Zero stays zero.
@@ -603,7 +601,7 @@ impl Present {
         ensures ok { IfOk result (λ ranges. ranges.items ≡ self.now.table.ranges) }
         ensures only { IfErr result (λ fault. fault ≡ Fault.Memory) }
     {
-        self.ranges.copy_values(alloc)
+        self.ranges.copy_entries(alloc, &RangeAlone)
     }
 
     /// The open regions in a vector of their own, by rising number. Each has its number, and what each item of its

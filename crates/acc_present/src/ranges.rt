@@ -9,7 +9,7 @@ ghost use Rattle.acc_present.specs.Present.{AreMapped, IsToldBy};
 ghost use Rattle.acc_present.specs.Kept.{changed_by, allows, IsChangeable};
 
 use acc_base::{Counter, Found, Range, Section};
-use acc_ordered::Rewriting;
+use acc_ordered::{Rewriting, Telling};
 
 /// Each address of the first section is one of the second's, where the first is not empty.
 #[inline]
@@ -142,5 +142,18 @@ impl Rewriting<Range> for Recount {
         } else {
             None
         }
+    }
+}
+
+/// A copy of a range without its key.
+#[derive(Clone, Copy)]
+pub struct RangeAlone;
+
+impl Telling<u64, Range, Range> for RangeAlone {
+    ghost told = { λ alone key range. range };
+
+    #[inline]
+    fn tell(&self, _key: u64, range: Range) -> Range {
+        range
     }
 }

@@ -8,7 +8,7 @@ use Rattle.acc_ordered.proofs.tree.OrderedTree.rewrite_before.Goals as goal
 pub invariant_of-self : goal.invariant_of-self
 invariant_of-self g c =
     record {
-      rising = rise_walked (g.C.Rewriting.becomes c.args.change.now) (last_before c.args.key (entries_in c.self.inside.root)) c.rewrite_before.result (entries_in c.self.inside.root) (entries_in c.rewrite_before.new.tree) c.rewrite_before.ensures.walked c.self.invariant.rising;
+      rising = rise_walked (g.C.Rewriting.becomes c.args.change.now) (last_before (g.K.Key.number c.args.key) (entries_in c.self.inside.root)) c.rewrite_before.result (entries_in c.self.inside.root) (entries_in c.rewrite_before.new.tree) c.rewrite_before.ensures.walked c.self.invariant.rising;
       alone = alone_same _ c.self.inside.root c.rewrite_before.ensures.behind c.self.invariant.alone;
       chain = c.self.invariant.chain;
       waiting = c.self.invariant.waiting;

@@ -1,21 +1,32 @@
-use Rattle.std.proofs.Common.{◌≡◌, List, Some, sym, ap, subst, ◌∙◌}
+use Rattle.std.proofs.Common.{◌≡◌, List, Some, IsSome, refl, sym, ap, subst, ◌∙◌, arith}
 use Rattle.std.specs.List.{AllByRecursion}
 use Rattle.acc_base.specs.declared.mappings.Range.{Range}
 use Rattle.acc_base.specs.Ranges.{range_of, changed_at}
+use Rattle.acc_ordered.specs.Listing.{at_key, value_at, with_value}
+use Rattle.acc_ordered.proofs.Kept.{changed_value, coming_there}
 use Rattle.acc_present.specs.Present.{PresentState, IsWithinLimit, with_ranges}
 use Rattle.acc_present.specs.Kept.{start_in, ranges_in, changed_by, IsChangeable}
 use Rattle.acc_present.proofs.Limits.{changed_within, changed_keeps}
 use Rattle.acc_present.proofs.Mapping.{IsChangedNow, key_there, written_now}
 use Rattle.acc_present.proofs.presence.Present.change.Goals as goal
 
-pub set-requires : goal.set-requires
-set-requires c = record { there = key_there c.args.range.block c.self.inside.ranges.entries c.args.range c.self.invariant.2.mapped (subst (λ (rs : List Range). range_of c.args.range.block rs ≡ Some c.args.range) (sym (ap (λ (p : PresentState). p.table.ranges) c.self.view_is)) c.requires.there) }
+pub change-requires : goal.change-requires
+change-requires c =
+    let es = c.self.inside.ranges.entries in
+    let there = key_there c.args.range.block es c.args.range c.self.invariant.2.mapped (subst (λ (rs : List Range). range_of c.args.range.block rs ≡ Some c.args.range) (sym (ap (λ (p : PresentState). p.table.ranges) c.self.view_is)) c.requires.there) in
+    record { room = omega (arith, coming_there c.args.range.section.start (value_at c.args.range.section.start es) (Some c.changed.result) es there refl) }
 
-there : (c : goal.After-set) → range_of c.args.range.block (ranges_in c.self.inside.ranges.entries) ≡ Some c.args.range
+there_key : (c : goal.After-change) → IsSome (at_key c.args.range.section.start c.self.inside.ranges.entries)
+there_key c = key_there c.args.range.block c.self.inside.ranges.entries c.args.range c.self.invariant.2.mapped (subst (λ (rs : List Range). range_of c.args.range.block rs ≡ Some c.args.range) (sym (ap (λ (p : PresentState). p.table.ranges) c.self.view_is)) c.requires.there)
+
+entries : (c : goal.After-change) → c.change.new.self.entries ≡ with_value c.args.range.section.start c.changed.result c.self.inside.ranges.entries
+entries c = c.change.ensures.entries ∙ changed_value c.args.range.section.start c.change.result c.changed.result c.self.inside.ranges.entries (there_key c) c.change.ensures.found
+
+there : (c : goal.After-change) → range_of c.args.range.block (ranges_in c.self.inside.ranges.entries) ≡ Some c.args.range
 there c = subst (λ (rs : List Range). range_of c.args.range.block rs ≡ Some c.args.range) (sym (ap (λ (p : PresentState). p.table.ranges) c.self.view_is)) c.requires.there
 
-now : (c : goal.After-set) → IsChangedNow c.args.range.block (changed_by c.args.change) c.self.inside.ranges.entries c.set.new.self.entries (start_in c.self.inside.starts)
-now c = written_now c.args.range.block (changed_by c.args.change) c.self.inside.ranges.entries c.set.new.self.entries (start_in c.self.inside.starts) c.args.range c.changed.result (changed_keeps c.args.change) c.self.invariant.2 (there c) c.changed.ensures c.set.ensures.entries
+now : (c : goal.After-change) → IsChangedNow c.args.range.block (changed_by c.args.change) c.self.inside.ranges.entries c.change.new.self.entries (start_in c.self.inside.starts)
+now c = written_now c.args.range.block (changed_by c.args.change) c.self.inside.ranges.entries c.change.new.self.entries (start_in c.self.inside.starts) c.args.range c.changed.result (changed_keeps c.args.change) c.self.invariant.2 (there c) c.changed.ensures (entries c)
 
 pub invariant_of-self : goal.invariant_of-self
 invariant_of-self c =

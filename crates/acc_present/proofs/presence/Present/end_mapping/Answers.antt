@@ -1,4 +1,4 @@
-use Rattle.std.proofs.Common.{ℕ, List, IsSome, sym, ap, subst, ◌∙◌}
+use Rattle.std.proofs.Common.{ℕ, ◌≡◌, List, IsSome, sym, ap, subst, ◌∙◌, arith}
 use Rattle.std.specs.Prelude.{◌==◌, not}
 use Rattle.std.specs.List.{AllByRecursion}
 use Rattle.acc_base.specs.declared.mappings.Range.{Range}
@@ -6,24 +6,31 @@ use Rattle.acc_base.specs.Ranges.{without_range}
 use Rattle.acc_base.proofs.Elements.{AllByRecursion-filter}
 use Rattle.acc_index.specs.Indexed.{value_at}
 use Rattle.acc_index.proofs.Indexing.{value-without}
-use Rattle.acc_ordered.specs.Listing.{at_key}
+use Rattle.acc_ordered.specs.Listing.{at_key, value_at as at_start, without_key}
+use Rattle.acc_ordered.proofs.Kept.{changed_gone, coming_gone}
 use Rattle.acc_present.specs.Present.{PresentState, IsWithinLimit, with_ranges}
 use Rattle.acc_present.specs.Kept.{start_in, ranges_in}
 use Rattle.acc_present.proofs.Mapping.{IsUnmappedNow, key_there, started, unmapped_now}
 use Rattle.acc_present.proofs.presence.Present.end_mapping.Goals as goal
 
-pub remove-requires : goal.remove-requires
-remove-requires c =
+pub change-requires : goal.change-requires
+change-requires c = record { room = omega (arith, coming_gone (at_start c.take_out_near-start.result c.self.inside.ranges.entries)) }
+
+there : (c : goal.After-change) → IsSome (at_key c.take_out_near-start.result c.self.inside.ranges.entries)
+there c =
     let es = c.self.inside.ranges.entries in
     let found = started c.args.block c.take_out_near-start.result es (start_in c.self.inside.starts) c.self.invariant.2 c.take_out_near-start.ensures.value in
-    record { there = subst (λ (n : ℕ). IsSome (at_key n es)) found.2 (key_there c.args.block es found.0 c.self.invariant.2.mapped found.1) }
+    subst (λ (n : ℕ). IsSome (at_key n es)) found.2 (key_there c.args.block es found.0 c.self.invariant.2.mapped found.1)
 
-now : (c : goal.After-remove) → IsUnmappedNow c.args.block c.self.inside.ranges.entries c.remove.new.self.entries (start_in c.take_out_near-start.new.self)
+entries : (c : goal.After-change) → c.change.new.self.entries ≡ without_key c.take_out_near-start.result c.self.inside.ranges.entries
+entries c = c.change.ensures.entries ∙ changed_gone c.take_out_near-start.result c.change.result c.self.inside.ranges.entries (there c) c.change.ensures.found
+
+now : (c : goal.After-change) → IsUnmappedNow c.args.block c.self.inside.ranges.entries c.change.new.self.entries (start_in c.take_out_near-start.new.self)
 now c =
     let es = c.self.inside.ranges.entries in
     let starts = start_in c.self.inside.starts in
     let found = started c.args.block c.take_out_near-start.result es starts c.self.invariant.2 c.take_out_near-start.ensures.value in
-    rw (c.remove.ensures.entries, ← found.2) (unmapped_now c.args.block es starts (start_in c.take_out_near-start.new.self) found.0 c.self.invariant.2 found.1 (λ b. ap (value_at b) c.take_out_near-start.ensures.entries ∙ value-without c.args.block b c.self.inside.starts.entries))
+    rw (entries c, ← found.2) (unmapped_now c.args.block es starts (start_in c.take_out_near-start.new.self) found.0 c.self.invariant.2 found.1 (λ b. ap (value_at b) c.take_out_near-start.ensures.entries ∙ value-without c.args.block b c.self.inside.starts.entries))
 
 pub invariant_of-self : goal.invariant_of-self
 invariant_of-self c =

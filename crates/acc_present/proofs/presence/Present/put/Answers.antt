@@ -1,25 +1,35 @@
-use Rattle.std.proofs.Common.{ℕ, ◌≡◌, List, None, refl, sym, ap, subst, ◌∙◌, arith}
+use Rattle.std.proofs.Common.{ℕ, ◌≡◌, List, Some, None, refl, sym, ap, subst, ◌∙◌, arith}
 use Rattle.std.specs.List.{AllByRecursion}
 use Rattle.acc_base.specs.declared.mappings.Range.{Range}
 use Rattle.acc_base.specs.declared.mappings.Found.TheVariants.{Absent}
 use Rattle.acc_base.specs.Ranges.{where_is, range_of, with_range}
 use Rattle.acc_base.proofs.RangeChanges.{all_with}
-use Rattle.acc_index.specs.Indexed.{value_at}
+use Rattle.acc_index.specs.Indexed.{value_at as started_at}
 use Rattle.acc_index.proofs.Indexing.{value-with}
-use Rattle.acc_ordered.specs.declared.entries.KeyValue.{KeyValue}
+use Rattle.acc_ordered.specs.Listing.{KeyValue, keyed, at_key, value_at, with_entry}
+use Rattle.acc_ordered.proofs.Kept.{changed_new, coming_most}
 use Rattle.acc_present.specs.Present.{PresentState, IsWithinLimit, with_ranges}
 use Rattle.acc_present.specs.Kept.{start_in, ranges_in}
 use Rattle.acc_present.proofs.Mapping.{absent_start, start_new, with_entry-ranges, mapped_now}
 use Rattle.acc_present.proofs.presence.Present.put.Goals as goal
 
-pub insert-requires-clause-new : goal.insert-requires-clause-new
-insert-requires-clause-new c = absent_start c.args.range c.self.inside.ranges.entries c.self.invariant.2.mapped (subst (λ (rs : List Range). where_is c.args.range.section rs ≡ Absent) (sym (ap (λ (p : PresentState). p.table.ranges) c.self.view_is)) c.requires.absent)
+pub change-requires : goal.change-requires
+change-requires c =
+    let most = coming_most (value_at c.args.range.section.start c.self.inside.ranges.entries) (Some c.args.range) in
+    record { room = omega (arith, most, c.requires.room, ap (λ (p : PresentState). p.room.ranges) c.self.view_is) }
 
-ranges : (c : goal.After-insert-2) → ranges_in c.insert.new.self.entries ≡ with_range c.args.range (ranges_in c.self.inside.ranges.entries)
-ranges c = ap ranges_in c.insert.ensures.entries ∙ with_entry-ranges (record { key = c.args.range.section.start; value = c.args.range }) c.self.inside.ranges.entries
+-- no range begins there
+absent : (c : goal.After-insert) → at_key c.args.range.section.start c.self.inside.ranges.entries ≡ None
+absent c = absent_start c.args.range c.self.inside.ranges.entries c.self.invariant.2.mapped (subst (λ (rs : List Range). where_is c.args.range.section rs ≡ Absent) (sym (ap (λ (p : PresentState). p.table.ranges) c.self.view_is)) c.requires.absent)
+
+entries : (c : goal.After-insert) → c.change.new.self.entries ≡ with_entry (keyed c.args.range.section.start c.args.range) c.self.inside.ranges.entries
+entries c = c.change.ensures.entries ∙ changed_new c.args.range.section.start c.change.result c.args.range c.self.inside.ranges.entries (absent c) c.change.ensures.found
+
+ranges : (c : goal.After-insert) → ranges_in c.change.new.self.entries ≡ with_range c.args.range (ranges_in c.self.inside.ranges.entries)
+ranges c = ap ranges_in (entries c) ∙ with_entry-ranges (keyed c.args.range.section.start c.args.range) c.self.inside.ranges.entries
 
 -- no range is mapped to the block
-none_kept : (c : goal.After-insert-2) → range_of c.args.range.block (ranges_in c.self.inside.ranges.entries) ≡ None
+none_kept : (c : goal.After-insert) → range_of c.args.range.block (ranges_in c.self.inside.ranges.entries) ≡ None
 none_kept c = subst (λ (rs : List Range). range_of c.args.range.block rs ≡ None) (sym (ap (λ (p : PresentState). p.table.ranges) c.self.view_is)) c.requires.new
 
 pub invariant_of-self : goal.invariant_of-self
@@ -30,9 +40,9 @@ invariant_of-self c =
     let new : KeyValue Range = record { key = c.args.range.section.start; value = c.args.range } in (
       c.self.invariant.0,
       subst (λ (rs : List Range). AllByRecursion (IsWithinLimit most) rs) (sym (ranges c)) (all_with (IsWithinLimit most) c.args.range (ranges_in es) (subst (λ (n : ℕ). IsWithinLimit n c.args.range) (sym (ap (λ (p : PresentState). p.table.counter_max) c.self.view_is)) c.requires.within) c.self.invariant.1),
-      rw c.insert.ensures.entries (mapped_now new es (start_in c.self.inside.starts) (start_in c.insert-2.new.self) c.self.invariant.2 (record { start = refl; bound = omega arith })
+      rw (entries c) (mapped_now new es (start_in c.self.inside.starts) (start_in c.insert.new.self) c.self.invariant.2 (record { start = refl; bound = omega arith })
           (subst (λ (rs : List Range). where_is c.args.range.section rs ≡ Absent) whole c.requires.absent)
-          (none_kept c) (λ b. ap (value_at b) c.insert-2.ensures.entries ∙ value-with c.args.range.block b c.args.range.section.start c.self.inside.starts.entries (start_new c.args.range.block es (start_in c.self.inside.starts) c.self.invariant.2 (none_kept c)))),
+          (none_kept c) (λ b. ap (started_at b) c.insert.ensures.entries ∙ value-with c.args.range.block b c.args.range.section.start c.self.inside.starts.entries (start_new c.args.range.block es (start_in c.self.inside.starts) c.self.invariant.2 (none_kept c)))),
     )
 
 pub returns-clause-table : goal.returns-clause-table

@@ -2,7 +2,7 @@ use Rattle.std.proofs.Common.{◌≡◌, Option, Some, ap, ◌∙◌}
 use Rattle.std.specs.Prelude.{option_map}
 use Rattle.acc_base.specs.declared.mappings.Range.{Range}
 use Rattle.acc_base.specs.Ranges.{range_of}
-use Rattle.acc_ordered.specs.declared.entries.KeyValue.{KeyValue}
+use Rattle.acc_ordered.specs.Listing.{KeyValue}
 use Rattle.acc_present.specs.Present.{PresentState}
 use Rattle.acc_present.specs.Kept.{start_in}
 use Rattle.acc_present.proofs.Mapping.{range_at}

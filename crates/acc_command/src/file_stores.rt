@@ -4,7 +4,7 @@ use acc_base::Fault;
 use acc_script::{FromRead, read_all};
 use std::alloc::Global;
 use std::fs::{self, OpenFile};
-use std::io::{ErrorKind, Read, Write};
+use std::io::{self, ErrorKind, Read, Write};
 use std::rt::Files;
 
 /// Why a file cannot be read.
@@ -25,6 +25,15 @@ pub trait FileStore {
     /// Those of [`Unread`]; a file may have 16,777,216 bytes.
     fn read(&self, name: &str) -> Result<Vec<u8>, Unread>;
 
+    /// Returns the paths of all that is in a folder, in any order.
+    ///
+    /// # Errors
+    ///
+    /// Those of [`Unread`]; also where it is no folder.
+    fn list(&self, _folder: &str) -> Result<Vec<String>, Unread> {
+        Err(Unread::Because("Not a directory"))
+    }
+
     /// Makes a file of these bytes, in place of one that has that name; false where that failed. It removes a half that
     /// it wrote, if that is a regular file.
     fn write(&self, name: &str, bytes: &[u8]) -> bool;
@@ -37,10 +46,18 @@ pub struct Disk<'a, R> {
     pub rt: &'a R,
 }
 
-impl<R: Files + AllocGlobal> FileStore for Disk<'_, R> {
+impl<R: Files + AllocGlobal + Clone + Drop> FileStore for Disk<'_, R> {
     fn read(&self, name: &str) -> Result<Vec<u8>, Unread> {
         match fs::open(self.rt, name) {
             Ok(file) => read_open(self.rt.alloc(), file),
+            Err(error) => Err(Unread::Because(reason_of(error.kind()))),
+        }
+    }
+
+    fn list(&self, folder: &str) -> Result<Vec<String>, Unread> {
+        match paths_in(self.rt, folder) {
+            Ok(paths) => Ok(paths),
+            Err(error) if error.kind() == ErrorKind::OutOfMemory => Err(Unread::Memory),
             Err(error) => Err(Unread::Because(reason_of(error.kind()))),
         }
     }
@@ -55,6 +72,18 @@ impl<R: Files + AllocGlobal> FileStore for Disk<'_, R> {
         remove_half(self.rt, name, &file);
         false
     }
+}
+
+fn paths_in<R: Files + AllocGlobal + Clone + Drop>(
+    rt: &R,
+    folder: &str,
+) -> io::Result<Vec<String>> {
+    let mut paths = Vec::new(rt.alloc());
+    for entry in fs::read_dir(rt, folder)? {
+        let entry = entry?;
+        paths.push(String::from_str(rt.alloc(), entry.path().as_str())?)?;
+    }
+    Ok(paths)
 }
 
 fn read_open<F: Read + OpenFile + Drop>(alloc: Global, file: F) -> Result<Vec<u8>, Unread> {

@@ -5,10 +5,13 @@
 mod drills;
 mod endings;
 mod file_stores;
+mod heads;
 mod options;
 mod picture_files;
 mod programs;
+mod suites;
 mod tools;
+mod trials;
 mod words;
 
 pub use endings::tell;

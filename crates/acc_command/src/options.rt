@@ -39,6 +39,12 @@ pub struct Options<'a> {
     pub until_refusal: bool,
     /// The scripts whose rows of the clause tables are counted, in place of a run; none where that is not asked for.
     pub rows: &'a [&'a str],
+    /// The files and folders whose scripts are run as tests, in place of a run.
+    pub tests: &'a [&'a str],
+    /// Whether what these print is written as what they have to print.
+    pub bless: bool,
+    /// The file for what came of them, as JUnit.
+    pub junit: Option<&'a str>,
     /// The seed of a script by chance, where one is written in place of a run.
     pub random: Option<u64>,
     /// How many statements that script has.
@@ -131,6 +137,26 @@ fn rows_option<'a>(alloc: Global) -> Result<Arg<'a>, AllocError> {
     without_runs(option)?
         .conflicts_with("emit")?
         .conflicts_with("FILE")
+}
+
+fn test_option<'a>(alloc: Global) -> Result<Arg<'a>, AllocError> {
+    valued(alloc, "test", "PATH", "Run scripts as tests instead")
+        .num_args(1..)
+        .conflicts_with("FILE")?
+        .conflicts_with("expect")?
+        .conflicts_with("rows")?
+        .conflicts_with("random")?
+        .conflicts_with("drill")?
+        .conflicts_with("svg")?
+        .conflicts_with("svg-every")
+}
+
+fn test_options<'a>(alloc: Global) -> Result<Vec<Arg<'a>>, Error> {
+    let test = test_option(alloc)?;
+    let bless = flag(alloc, "bless", "Take what they print as right").requires_arg("test")?;
+    let junit = valued(alloc, "junit", "FILE", "Write what came of them as JUnit");
+    let junit = junit.requires_arg("test")?;
+    Ok(vec![in alloc; test, bless, junit]?)
 }
 
 fn random_option<'a>(alloc: Global) -> Result<Arg<'a>, AllocError> {
@@ -241,6 +267,7 @@ fn bare<'a>(alloc: Global) -> Command<'a> {
         .about("Runs a script of OpenACC data directives on simulated devices")
         .version(VERSION)
         .override_usage(USAGE)
+        .args_override_self(true)
         .after_long_help(AFTER_HELP)
 }
 
@@ -291,7 +318,8 @@ fn script_options<'a>(alloc: Global) -> Result<Vec<Arg<'a>>, Error> {
 }
 
 fn with_scripts<'a>(alloc: Global, command: Command<'a>) -> Result<Command<'a>, Error> {
-    Ok(command.args(script_options(alloc)?)?)
+    let command = command.args(script_options(alloc)?)?;
+    Ok(command.args(test_options(alloc)?)?)
 }
 
 /// What a command line asks for.
@@ -311,6 +339,9 @@ pub fn options_of<'a>(matches: &'a ArgMatches<'_>) -> Options<'a> {
         emit: matches.contains_id("emit"),
         until_refusal: matches.get_flag("until-refusal"),
         rows: matches.get_strs("rows").unwrap_or(&[]),
+        tests: matches.get_strs("test").unwrap_or(&[]),
+        bless: matches.get_flag("bless"),
+        junit: matches.get_str("junit"),
         random: matches.get_one::<u64>("random"),
         lines: matches.get_one::<u64>("lines").unwrap_or(DEFAULT_LINES),
         svg: matches.get_str("svg"),
@@ -333,35 +364,20 @@ const USAGE: &str = "accrun [OPTIONS] [FILE]";
 
 /// What the long help has after the options: the statements, an example, the status.
 const AFTER_HELP: &str = "\
-A size is from 16 to 67108864 bytes, a multiple of 16; 64K is 65536, and 1M is
-1048576. There are 1 to 4 devices, numbered from 0. A kernel works in 1 to 64
-threads, and the output of a script does not depend on that. Of each event the
-trace keeps what it did to counters and, where it is full, its bytes; the output
-does not depend on it. ROUNDS is from 1 to 1000: how often each thread enters
-and exits a region over one array on device 0. Then no script is read, and one
-line tells what is left: the allowance of regions, the number of events, and
-both counters of the array.
+A size is from 16 to 67108864 bytes, a multiple of 16, as 4096, 64K or 1M. There
+are 1 to 4 devices, numbered from 0, and 1 to 64 threads. The output of a script
+depends neither on threads nor on the trace. A drill prints what it leaves: the
+allowance of regions, the number of events, and both counters of its array.
 
-The script is FILE, or comes on standard input; for FILE and OUTPUT '-' is
-standard input too. It is read whole before its first line runs. With --echo
-each statement stands behind '> ' before what it prints. With --json the report
-is one object on one line. With --expect the output is not written: it is
-compared with OUTPUT, and the first line that differs is told on standard error.
-Then the status is 1, and 0 where none differs, whatever was refused. --svg
-draws the memories at the end of the script, as a file that a browser opens;
---svg-every draws them behind each directive and each kernel, with the number of
-the line in the file's name: life.7.svg for life.svg.
+The script is FILE, or comes on standard input, which is named '-' too. It is
+read whole before its first line runs. If the first line of FILE is '# options:'
+with options behind it, these stand in front of the others. With --expect the
+status is 1 where the output differs, and 0 else, whatever was refused. The
+pictures of --svg-every have the number of the line in their names.
 
-With --emit c the script is written as a C program with OpenACC directives,
-which does what the script does, and has the expected output in it. A statement
-that is refused, or that C cannot say, is a fault. With --until-refusal the
-program ends with the first statement that is refused, and has to fail there.
-
-With --rows the scripts of all FILEs are run, and what they print is dropped.
-Each row of the clause tables is printed with how often they reached it, and the
-status is 1 where one is reached by none. With --random a script for these sizes
-and devices is written, which is the same for a SEED on each machine: 40
-statements, or 1 to 10000, of which none is at fault or refused.
+A script of --test has to print what stands in its lines '#> ..', or else in
+NAME.out beside NAME.acc; a fault is the last line. With '# xfail: REASON' it
+has to fail; with '# requires: devices 2' it is skipped where there are fewer.
 
 Statements, one to a line, with comments after '#':
   array NAME BYTES         an array in host memory

@@ -3,11 +3,14 @@
 ghost use Rattle.std.specs.Prelude.{◌≤◌};
 
 use crate::drills::run_drill;
-use crate::endings::{Mishap, tell, tell_difference, tell_mishap, tell_sizes};
+use crate::endings::{Mishap, put_texts, tell, tell_difference, tell_mishap, tell_sizes};
 use crate::file_stores::{FileStore, Unread};
+use crate::heads::{joined_words, options_in};
 use crate::options::{Options, options_of, parsed_words};
 use crate::picture_files::PictureFiles;
 use crate::programs::{emit_script, write_random, write_rows};
+use crate::suites::run_tests;
+use crate::trials::Tester;
 use crate::words::WordsFault;
 use acc_base::{Config, Fault};
 use acc_follow::{Beside, Frame, Page, Setting, Stop, first_difference, follow};
@@ -63,8 +66,8 @@ pub fn tell_words<E: Sink>(err: &mut E, fault: WordsFault) -> u8 {
 /// Parses the command line, runs the script or the drill, flushes the output, and returns the status: [`CLEAN`],
 /// [`REFUSED`] or [`FAULTED`].
 ///
-/// `words` begins with the program's name. The script comes from `reader`, or from one of the files. Its output goes to
-/// `out`, or is compared with one of the files. A drill reads nothing.
+/// `words` begins with the program's name. The script comes from `reader`, or from one of the files, with the options of
+/// its first line. Its output goes to `out`, or is compared with one of the files. A drill reads nothing.
 ///
 /// For a fault of the command line, it writes the parser's words on `err`, and reads nothing. For each other fault it
 /// writes one line there, after it flushed `out`, and with `--explain` the reason follows. It writes the first of
@@ -79,19 +82,103 @@ pub fn tool<R: Threads + Wait + Sync + AllocGlobal, S: Source, O: Sink, E: Sink,
     files: &D,
 ) -> u8 {
     match parsed_words(rt.alloc(), &words) {
-        Ok(matches) => do_asked(rt, options_of(&matches), reader, out, err, files),
-        Err(error) => tell_usage(rt, out, err, &error),
+        Ok(matches) => {
+            let outside = Outside {
+                reader,
+                out,
+                err,
+                files,
+            };
+            do_asked(rt, &words, options_of(&matches), outside)
+        }
+        Err(error) => tell_usage(rt, "", out, err, &error),
     }
+}
+
+/// What the program works on.
+#[derive(Drop)]
+struct Outside<'a, S, O, E, D> {
+    reader: &'a mut S,
+    out: &'a mut O,
+    err: &'a mut E,
+    files: &'a D,
 }
 
 fn do_asked<R: Threads + Wait + Sync + AllocGlobal, S: Source, O: Sink, E: Sink, D: FileStore>(
     rt: &R,
+    words: &[String],
     options: Options<'_>,
-    reader: &mut S,
-    out: &mut O,
-    err: &mut E,
-    files: &D,
+    outside: Outside<'_, S, O, E, D>,
 ) -> u8 {
+    let Some(name) = options.file else {
+        return finish(rt, words, options, None, outside);
+    };
+    match script_of(options, name, outside.files) {
+        Ok(script) => do_script(rt, words, name, &script, outside),
+        Err(mishap) => {
+            tell_end(rt, outside.err, options, 0, mishap);
+            FAULTED
+        }
+    }
+}
+
+/// Reads the script of a file, once the limits of the command line are right.
+fn script_of<'a, D: FileStore>(
+    options: Options<'_>,
+    name: &'a str,
+    files: &D,
+) -> Result<Vec<u8>, Mishap<'a>> {
+    limits(options)?;
+    read_file(files, name)
+}
+
+/// Does with the script of a file what its first line and the command line ask for.
+fn do_script<R: Threads + Wait + Sync + AllocGlobal, S: Source, O: Sink, E: Sink, D: FileStore>(
+    rt: &R,
+    words: &[String],
+    name: &str,
+    script: &[u8],
+    outside: Outside<'_, S, O, E, D>,
+) -> u8 {
+    let options = options_in(script).unwrap_or("");
+    match joined_words(rt.alloc(), options, words) {
+        Ok(words) => do_words(rt, &words, name, script, outside),
+        Err(_) => {
+            tell(outside.err, Fault::Memory);
+            FAULTED
+        }
+    }
+}
+
+fn do_words<R: Threads + Wait + Sync + AllocGlobal, S: Source, O: Sink, E: Sink, D: FileStore>(
+    rt: &R,
+    words: &[String],
+    name: &str,
+    script: &[u8],
+    outside: Outside<'_, S, O, E, D>,
+) -> u8 {
+    match parsed_words(rt.alloc(), words) {
+        Ok(matches) => finish(rt, words, options_of(&matches), Some(script), outside),
+        Err(error) => {
+            let Outside { out, err, .. } = outside;
+            tell_usage(rt, name, out, err, &error)
+        }
+    }
+}
+
+fn finish<R: Threads + Wait + Sync + AllocGlobal, S: Source, O: Sink, E: Sink, D: FileStore>(
+    rt: &R,
+    words: &[String],
+    options: Options<'_>,
+    script: Option<&[u8]>,
+    outside: Outside<'_, S, O, E, D>,
+) -> u8 {
+    let Outside {
+        reader,
+        out,
+        err,
+        files,
+    } = outside;
     let mut told = Told::new(rt.alloc());
     let ends = Ends {
         out: &mut *out,
@@ -100,8 +187,9 @@ fn do_asked<R: Threads + Wait + Sync + AllocGlobal, S: Source, O: Sink, E: Sink,
         told: &mut told,
     };
     let ending = match options.expect {
-        Some(name) => compared(rt, options, name, reader, ends),
-        None => carried_out(rt, options, reader, ends),
+        Some(name) => compared(rt, options, name, script, reader, ends),
+        None if options.tests.is_empty() => carried_out(rt, options, script, reader, ends),
+        None => run_tests(&Tester { rt, words, files }, options, ends.out),
     };
     match flushed(out, ending) {
         Ok(Status::Clean) => CLEAN,
@@ -176,7 +264,8 @@ fn flushed<'a, O: Sink>(
     ending
 }
 
-fn carried_out<
+/// Runs a script, or does what is asked for in place of that. Where no script is given, it comes from the source.
+pub fn carried_out<
     'a,
     R: Threads + Wait + Sync + AllocGlobal,
     S: Source,
@@ -186,6 +275,7 @@ fn carried_out<
 >(
     rt: &R,
     options: Options<'a>,
+    script: Option<&[u8]>,
     reader: &mut S,
     ends: Ends<'_, O, E, D>,
 ) -> Result<Status, Mishap<'a>> {
@@ -199,21 +289,10 @@ fn carried_out<
     if !options.rows.is_empty() {
         return write_rows(rt, config, options.rows, ends.files, ends.out);
     }
-    match options.file {
-        Some(name) => run_file(rt, options, config, name, ends),
+    match script {
+        Some(bytes) => use_script(rt, options, config, &mut MemorySource::new(bytes), ends),
         None => use_script(rt, options, config, reader, ends),
     }
-}
-
-fn run_file<'a, R: Threads + Wait + Sync + AllocGlobal, O: Sink, E: Sink, D: FileStore>(
-    rt: &R,
-    options: Options<'a>,
-    config: Config,
-    name: &'a str,
-    ends: Ends<'_, O, E, D>,
-) -> Result<Status, Mishap<'a>> {
-    let script = read_file(ends.files, name)?;
-    use_script(rt, options, config, &mut MemorySource::new(&script), ends)
 }
 
 /// Reads a file, which has to be there.
@@ -243,6 +322,7 @@ fn compared<'a, R: Threads + Wait + Sync + AllocGlobal, S: Source, O: Sink, E: S
     rt: &R,
     options: Options<'a>,
     name: &'a str,
+    script: Option<&[u8]>,
     reader: &mut S,
     ends: Ends<'_, O, E, D>,
 ) -> Result<Status, Mishap<'a>> {
@@ -260,7 +340,7 @@ fn compared<'a, R: Threads + Wait + Sync + AllocGlobal, S: Source, O: Sink, E: S
         files,
         told,
     };
-    match carried_out(rt, options, reader, within) {
+    match carried_out(rt, options, script, reader, within) {
         Ok(_) => Ok(agreement(rt, options.file, &expected, found.as_slice(), err)),
         // This sink fails for lack of memory alone.
         Err(Mishap::Fault(Fault::Write)) => Err(Mishap::Fault(Fault::Memory)),
@@ -376,9 +456,11 @@ fn threads(options: Options<'_>) -> usize
     options.threads.clamp(1, 64) as usize
 }
 
-/// Writes what the parser returned. A fault of the command line goes to `err`; help and the version go to `out`.
+/// Writes what the parser returned. A fault of the command line, or of the options in a file, goes to `err`; help and the
+/// version go to `out`.
 fn tell_usage<R: AllocGlobal, O: Sink, E: Sink>(
     rt: &R,
+    file: &str,
     out: &mut O,
     err: &mut E,
     error: &Error,
@@ -392,10 +474,20 @@ fn tell_usage<R: AllocGlobal, O: Sink, E: Sink>(
         return FAULTED;
     };
     if error.use_stderr() {
-        let _ = write_all(err, text.as_bytes());
+        tell_words_of(rt.alloc(), err, file, text.as_str());
         return FAULTED;
     }
     tell_answer(out, err, &text)
+}
+
+/// Writes what is wrong with the command line, or with the options of the first line of a file.
+fn tell_words_of<E: Sink>(alloc: Global, err: &mut E, file: &str, text: &str) {
+    let mut page = Page::new(alloc);
+    if !file.is_empty() {
+        put_texts(&mut page, &[file, ":1: "]);
+    }
+    page.text(text);
+    let _ = write_all(err, page.as_slice());
 }
 
 fn tell_answer<O: Sink, E: Sink>(out: &mut O, err: &mut E, text: &str) -> u8 {

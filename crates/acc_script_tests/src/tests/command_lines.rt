@@ -16,7 +16,7 @@ const ACCEPTED: [(&str, &str); 4] = [
 ];
 
 /// Command lines that are refused, and a text that standard error has then.
-const REFUSED: [(&str, &str); 34] = [
+const REFUSED: [(&str, &str); 37] = [
     (
         "--host 15",
         "'15' for '--host <BYTES>': 15 is not in 16..=67108864",
@@ -68,6 +68,9 @@ const REFUSED: [(&str, &str); 34] = [
         "'--random <SEED>' cannot be used with '--rows <FILE>...'",
     ),
     ("--lines 3", "--random <SEED>"),
+    ("--test wall", "accrun: cannot read wall: it has no script"),
+    ("--bless", "--test <PATH>..."),
+    ("life.acc --test wall", "cannot be used with"),
     ("--random 1 --lines 0", "'0' for '--lines <N>'"),
 ];
 
@@ -109,7 +112,7 @@ fn command_lines_are_read(rt: HostRuntime) -> Result<(), Fail> {
 
 /// What the help has to name, with bars between the words.
 const HELP_WORDS: &str =
-    "[FILE]|--expect <OUTPUT>|--echo|--json|--log|--explain|--svg <PICTURE>|--svg-every <PICTURE>|\
+    "[FILE]|--test <PATH>|--bless|--junit <FILE>|--expect <OUTPUT>|--echo|--json|--log|--explain|--svg <PICTURE>|--svg-every <PICTURE>|\
     --version|--emit <LANGUAGE>|--until-refusal|--rows <FILE>|--random <SEED>|--lines <N>|--devices <N>|--threads <N>|--drill <ROUNDS>|\
     --trace <WHAT>|read whole|array NAME|write PLACE|point PLACE to PLACE|data CLAUSES|copy(REFS)|\
     copyin(REFS)|copyout(REFS)|create(REFS)|no_create(REFS)|present(REFS)|attach(PLACES)|end data|\

@@ -1,4 +1,4 @@
--- What a draft notes of its tasks, after one more of them.
+-- The births and ends that a draft notes, after one more task.
 use Rattle.std.proofs.lemmas.Bool.Decides.{nat_tests}
 use Rattle.std.proofs.Common.{ℕ, ◌≡◌, ◌+◌, ◌<◌, ◌≤◌, refl, sym, ap, subst, ◌∙◌, List, [], ◌∷◌, ◌++◌, length, arith, Option, None, Some}
 use Rattle.std.specs.Prelude.{IsSome, option_to_list}

@@ -22,15 +22,15 @@ use acc_dev::Device;
 use acc_host::HostMem;
 use acc_present::Present;
 
-/// Raises a counter of the range that is mapped to a block, which is below its limit.
+/// Raises a counter of the range that is mapped to a block. An address says where it is looked for first.
 #[inline(always)]
-fn raise(present: &mut Present, counter: Counter, block: u64)
+fn raise(present: &mut Present, counter: Counter, block: u64, at: u64)
     requires there { HasRange present.old.table block }
     requires below { counter_of counter block present.old.table.ranges < present.old.table.counter_max }
     ensures table { present.new.table ≡ with_ranges present.old.table (changed_at block (risen counter) present.old.table.ranges) }
     ensures room { IsRoomKept present.old.room present.new.room }
 {
-    let Ok(()) = present.count(counter, block) else {
+    let Ok(()) = present.count_near(counter, block, at) else {
         unreachable!()
     };
 }
@@ -42,14 +42,15 @@ fn recount(present: &mut Present, task: &Task, block: u64)
     ensures table { present.new.table ≡ with_ranges present.old.table (changed_at block (recounted task.now) present.old.table.ranges) }
     ensures room { IsRoomKept present.old.room present.new.room }
 {
+    let at = section_of(*task).start;
     match *task {
-        Task::Enter { counter, .. } => raise(present, counter, block),
-        Task::ExitRegion { .. } => present.drop_structured(block),
-        Task::ExitData { finalize: true, .. } => present.clear_dynamic(block),
+        Task::Enter { counter, .. } => raise(present, counter, block, at),
+        Task::ExitRegion { .. } => present.drop_near(Counter::Structured, block, at),
+        Task::ExitData { finalize: true, .. } => present.clear_near(block, at),
         Task::ExitData {
             finalize: false,
             ..
-        } => present.drop_dynamic(block),
+        } => present.drop_near(Counter::Dynamic, block, at),
         Task::Move { .. } => {}
     }
 }

@@ -198,7 +198,7 @@ fn leave(view: &View<'_>, draft: &Draft, holding: Holding) -> Result<Step, Fault
 {
     match holding.block {
         Some(block) => {
-            let known = view.range(block);
+            let known = view.range_near(block, holding.item.section.start);
             let counters = counters_after(view, draft, block, known);
             Ok(dropped(Task::ExitRegion { holding }, block, counters))
         }

@@ -5,16 +5,16 @@ use Rattle.std.specs.List.{AllByRecursion}
 use Rattle.std.specs.declared.alloc.Global.{Global}
 use Rattle.std.proofs.lemmas.Bool.{cases_lt}
 use Rattle.std.proofs.lemmas.Bool.Decides.{nat_tests}
-use Rattle.std.proofs.lemmas.List.{append-nil}
+use Rattle.std.proofs.lemmas.List.{append-nil, map-append}
 use Rattle.std.proofs.lemmas.List.Elements.{filter-append}
 use Rattle.acc_base.proofs.Elements.{AllByRecursion-append, AllByRecursion-weaker, filter-kept, find_none, find-none, all_behind, all_in_front, find-behind, find-front}
 use Rattle.acc_ordered.specs.declared.entries.KeyValue.{KeyValue}
 use Rattle.acc_ordered.specs.declared.entries.Change.{Change}
-use Rattle.acc_ordered.specs.declared.entries.Change.TheVariants.{Put, Take}
+use Rattle.acc_ordered.specs.declared.entries.Change.TheVariants.{Put, Take, Write}
 use Rattle.acc_ordered.specs.declared.entries.RowOutcome.{RowOutcome}
 use Rattle.acc_ordered.specs.declared.entries.RowOutcome.TheVariants.{Refused, Done, Few}
 use Rattle.acc_ordered.specs.Changes.{IsAllowed, IsChanged}
-use Rattle.acc_ordered.specs.Listing.{KeysRise, at_key, with_entry, without_key}
+use Rattle.acc_ordered.specs.Listing.{KeysRise, at_key, with_entry, without_key, value_written, with_value}
 use Rattle.acc_ordered.specs.Nodes.{entries_in}
 use Rattle.acc_ordered.specs.Row.{HasEnds}
 use Rattle.acc_ordered.specs.Shape.{Shape}
@@ -66,6 +66,17 @@ module _ {T : Type 0} where
       ∙ ap (λ es. es ++ without_key key m ++ without_key key b) (kept key a (other_under key a d.under))
       ∙ ap (λ es. a ++ without_key key m ++ es) (kept key b (other_over key b d.over))
 
+  same_value : (key : ℕ) (value : T) (xs : List (KeyValue T)) → AllByRecursion (λ e. (e.key == key) ≡ false) xs → with_value key value xs ≡ xs
+  same_value key value [] other = refl
+  same_value key value (h ∷ xs) other = rw other.0 (ap (λ es. h ∷ es) (same_value key value xs other.1))
+
+  pub value_beside : (key : ℕ) (value : T) (a m b : List (KeyValue T)) → Beside key a b → with_value key value (a ++ m ++ b) ≡ a ++ with_value key value m ++ b
+  value_beside key value a m b d =
+      map-append (value_written key value) (a ++ m) b
+      ∙ ap (λ es. es ++ with_value key value b) (map-append (value_written key value) a m)
+      ∙ ap (λ es. es ++ with_value key value m ++ with_value key value b) (same_value key value a (other_under key a d.under))
+      ∙ ap (λ es. a ++ with_value key value m ++ es) (same_value key value b (other_over key b d.over))
+
   between : (a m n b : List (KeyValue T)) → n ≡ m → a ++ n ++ b ≡ a ++ m ++ b
   between a m n b is = ap (λ es. a ++ es ++ b) is
 
@@ -79,6 +90,7 @@ module _ {T : Type 0} where
   changed_beside Take Refused asked got a m n b d is = between a m n b is
   changed_beside Take Done asked got a m n b d is = taken_beside asked.key got a m n b d is
   changed_beside Take Few asked got a m n b d is = taken_beside asked.key got a m n b d is
+  changed_beside Write outcome asked got a m n b d is = between a (with_value asked.key asked.value m) n b is ∙ sym (value_beside asked.key asked.value a m b d)
 
   pub allowed_beside : (change : Change) (key : ℕ) (a m b : List (KeyValue T)) → Beside key a b → IsAllowed change (at_key key (a ++ m ++ b)) → IsAllowed change (at_key key m)
   allowed_beside change key a m b d h = subst (λ (o : Option (KeyValue T)). IsAllowed change o) (at_beside key a m b d) h

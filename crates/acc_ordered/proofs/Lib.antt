@@ -10,3 +10,4 @@ pub mod Beside
 pub mod Avl
 pub mod Kept
 pub mod Located
+pub mod Rewritten

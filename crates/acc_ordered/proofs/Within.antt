@@ -1,5 +1,5 @@
 -- Where a search in a row ends whose first entry lies before the key, and whose last does not.
-use Rattle.std.proofs.Common.{ℕ, zero, suc, ◌≡◌, ◌<◌, refl, sym, ap, subst, ◌∙◌, true, false, cond, List, [], ◌∷◌, length, get_or, insert, Some, None, IsSome, arith}
+use Rattle.std.proofs.Common.{ℕ, zero, suc, ◌≡◌, ◌<◌, refl, sym, ap, subst, ◌∙◌, true, false, cond, List, [], ◌∷◌, length, get_or, insert, set, Some, None, IsSome, arith}
 use Rattle.std.specs.Prelude.{◌-◌, ◌==◌, nat_lt, nat_le, slice_get}
 use Rattle.std.specs.List.{AllByRecursion, remove}
 use Rattle.std.specs.Option.{option_or}
@@ -9,7 +9,7 @@ use Rattle.acc_base.specs.Splits.{IsSplitBy}
 use Rattle.acc_base.proofs.Elements.{find_none}
 use Rattle.acc_base.proofs.Keyed as keyed
 use Rattle.acc_ordered.specs.declared.entries.KeyValue.{KeyValue}
-use Rattle.acc_ordered.specs.Listing.{KeysRise, at_key, first_from, last_before, with_entry, without_key}
+use Rattle.acc_ordered.specs.Listing.{KeysRise, at_key, first_from, last_before, with_entry, without_key, with_value}
 use Rattle.acc_ordered.specs.Row.{HasEnds}
 
 module _ {T : Type 0} where
@@ -82,3 +82,8 @@ module _ {T : Type 0} where
 
   pub left_in : (key : ℕ) (es : List (KeyValue T)) (n : ℕ) (e : KeyValue T) → KeysRise es → IsSplitAt key es n → IsSome (at_key key es) → remove es n ≡ without_key key es
   left_in key es n e rise s there = let f = keyed.found_at key_in key es n e rise s there in keyed.remove-filter key_in es n key e (keyed.rise_distinct key_in es rise) f.bound f.key_is
+
+  pub written_in : (key : ℕ) (value : T) (es : List (KeyValue T)) (n : ℕ) (d : KeyValue T) → KeysRise es → IsSplitAt key es n → IsSome (at_key key es) → set es n (record (get_or es n d) { value = value }) ≡ with_value key value es
+  written_in key value es n d rise s there =
+      let f = keyed.found_at key_in key es n d rise s there in
+      keyed.set-map key_in es n key d (λ (x : KeyValue T). record x { value = value }) (keyed.rise_distinct key_in es rise) f.bound f.key_is

@@ -5,5 +5,6 @@ pub mod Nodes
 pub mod NodeFalls
 pub mod Seen
 pub mod Changes
+pub mod Rewritten
 pub mod Trees
 pub mod Listing

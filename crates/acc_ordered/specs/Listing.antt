@@ -54,3 +54,11 @@ module _ {T : Type 0} where
   -- the entries without that of a key
   abbrev pub without_key : ℕ → List (KeyValue T) → List (KeyValue T)
   without_key key entries = filter (λ e. not (e.key == key)) entries
+
+  -- the entry with another value, if it has the key
+  abbrev pub value_written : ℕ → T → KeyValue T → KeyValue T
+  value_written key value e = if e.key == key then record e { value = value } else e
+
+  -- the entries with another value at a key
+  abbrev pub with_value : ℕ → T → List (KeyValue T) → List (KeyValue T)
+  with_value key value entries = map (value_written key value) entries

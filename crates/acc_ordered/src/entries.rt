@@ -1,4 +1,5 @@
 //! What a tree keeps, what a search answers, and how one entry may change.
+ghost use Rattle.std.specs.Prelude.{◌≡◌};
 
 /// A value with its key.
 #[derive(Clone, Copy)]
@@ -34,6 +35,8 @@ pub enum Change {
     Put,
     /// It goes.
     Take,
+    /// It gets another value.
+    Write,
 }
 
 /// What became of a change in one row.
@@ -45,4 +48,15 @@ pub enum RowOutcome {
     Done,
     /// It changed, and has so few entries left that it may fit together with a row beside it.
     Few,
+}
+
+/// A change of values, which may let one stay as it is.
+pub trait Rewriting<T> {
+    ghost use Rattle.std.specs.Prelude.{Option};
+
+    ghost becomes: { Self → T → Option T };
+
+    /// What a value becomes, or `None` where it stays.
+    fn rewrite(&self, value: T) -> Option<T>
+        ensures { result ≡ becomes self.now value };
 }

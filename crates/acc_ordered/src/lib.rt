@@ -10,5 +10,5 @@ mod search;
 mod sides;
 mod tree;
 
-pub use entries::{KeyValue, KeyValueRef, Neighbors};
+pub use entries::{KeyValue, KeyValueRef, Neighbors, Rewriting};
 pub use tree::OrderedTree;

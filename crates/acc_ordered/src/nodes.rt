@@ -4,8 +4,9 @@ ghost use Rattle.acc_ordered.specs.Listing.{KeysRise, at_key, first_from, last_b
 ghost use Rattle.acc_ordered.specs.Changes.{IsSide, IsAllowed, IsChanged};
 ghost use Rattle.acc_ordered.specs.Nodes.{entries_in, height_of, length_of, nodes_in, IsTall, IsWide, IsLeaf, IsChain, IsFreed, IsBalanced};
 ghost use Rattle.acc_ordered.specs.Seen.{first_in, last_in};
+ghost use Rattle.acc_ordered.specs.Rewritten.{IsWalked};
 
-use crate::entries::{Change, KeyValue, KeyValueRef, Neighbors, RowOutcome};
+use crate::entries::{Change, KeyValue, KeyValueRef, Neighbors, Rewriting, RowOutcome};
 use crate::rows::{Row, WIDTH};
 use crate::sides::Side;
 use acc_base::{Fault, Steps};
@@ -269,6 +270,38 @@ pub fn change_in_place<T: Copy>(
                     node.last = last;
                     outcome
                 }
+            }
+        }
+    }
+}
+
+/// Rewrites the last entry before a key, and answers whether its value changed. `None` where there is no such entry.
+pub fn rewrite_before<T: Copy, C: Rewriting<T>>(
+    tree: &mut Link<T>,
+    key: u64,
+    change: &C,
+) -> Option<bool>
+    requires rising { KeysRise (entries_in tree.old) }
+    ensures walked { IsWalked (C.becomes change.now) (last_before key (entries_in tree.old)) result (entries_in tree.old) (entries_in tree.new) }
+    ensures height { height_of tree.new ≡ height_of tree.old }
+    ensures behind { length_of tree.new ≡ length_of tree.old }
+    ensures nodes { nodes_in tree.new ≡ nodes_in tree.old }
+    ensures wide { IsWide tree.new }
+{
+    match tree {
+        None => None,
+        Some(node) => {
+            let node: &mut Node<T> = node;
+            let (first, last) = (node.first, node.last);
+            if key <= first {
+                rewrite_before(&mut node.left, key, change)
+            } else if last < key {
+                match rewrite_before(&mut node.right, key, change) {
+                    Some(done) => Some(done),
+                    None => Some(node.row.rewrite_before(key, change, first, last)),
+                }
+            } else {
+                Some(node.row.rewrite_before(key, change, first, last))
             }
         }
     }

@@ -1,11 +1,12 @@
 //! Rows of entries by rising key, whose keys stand apart from the values.
 ghost use Rattle.std.specs.Prelude.{◌≡◌, ◌+◌, ◌<◌, ◌≤◌, [], ◌∷◌, ◌++◌, Some, None, IsSome, IfSome, IfErr, OnOk, length, nat_lt, slice_get};
 ghost use Rattle.acc_base.specs.Splits.{IsSplitBy};
-ghost use Rattle.acc_ordered.specs.Listing.{KeysRise, at_key, first_from, last_before, with_entry, without_key, values_in, entry_in};
+ghost use Rattle.acc_ordered.specs.Listing.{KeysRise, at_key, first_from, last_before, with_entry, without_key, with_value, values_in, entry_in};
 ghost use Rattle.acc_ordered.specs.Changes.{IsAllowed, IsChanged};
 ghost use Rattle.acc_ordered.specs.Row.{HasEnds, AreHalves};
+ghost use Rattle.acc_ordered.specs.Rewritten.{IsWalked};
 
-use crate::entries::{Change, KeyValue, KeyValueRef, RowOutcome};
+use crate::entries::{Change, KeyValue, KeyValueRef, Rewriting, RowOutcome};
 use crate::search::count_below;
 use acc_base::{Fault, Steps};
 use std::alloc::Global;
@@ -150,6 +151,41 @@ impl<T: Copy> Row<T> {
         KeyValue { key, value }
     }
 
+    /// Writes the value of a key that is there.
+    pub fn write(&mut self, key: u64, value: T)
+        requires rising { KeysRise self.old }
+        requires there { IsSome (at_key key self.old) }
+        ensures { self.new ≡ with_value key value self.old }
+    {
+        let place = self.place(key);
+        self.values[place] = value;
+    }
+
+    /// Rewrites the last entry before a key, which lies behind the first one. It answers whether its value changed.
+    #[inline]
+    pub fn rewrite_before<C: Rewriting<T>>(
+        &mut self,
+        key: u64,
+        change: &C,
+        first: u64,
+        last: u64,
+    ) -> bool
+        requires ends { HasEnds first last self.old }
+        requires rising { KeysRise self.old }
+        requires behind { first < key }
+        ensures walked { IsWalked (C.becomes change.now) (last_before key self.old) (Some result) self.old self.new }
+        ensures ends { HasEnds first last self.new }
+    {
+        let place = self.place(key) - 1;
+        match change.rewrite(self.values[place]) {
+            Some(value) => {
+                self.values[place] = value;
+                true
+            }
+            None => false,
+        }
+    }
+
     /// Changes the entry of a key, where that is allowed to one row alone. An entry that goes is left in place of the one
     /// that was asked for.
     #[inline]
@@ -179,6 +215,10 @@ impl<T: Copy> Row<T> {
                 } else {
                     RowOutcome::Done
                 }
+            }
+            Change::Write => {
+                self.write(entry.key, entry.value);
+                RowOutcome::Done
             }
         }
     }

@@ -1,13 +1,14 @@
 //! A balanced tree of entries, each found by its key in a walk from the top.
 ghost use Rattle.std.specs.Prelude.{◌≡◌, ℕ, ◌+◌, ◌*◌, ◌^◌, ◌<◌, ◌≤◌, [], length, Some, None, IsSome, IfOk, IfErr, OnOk, OnErr, MatchBool};
-ghost use Rattle.acc_ordered.specs.Listing.{KeysRise, at_key, first_from, last_before, with_entry, without_key, values_in, seen};
+ghost use Rattle.acc_ordered.specs.Rewritten.{IsRewritten};
+ghost use Rattle.acc_ordered.specs.Listing.{KeysRise, at_key, first_from, last_before, with_entry, without_key, with_value, values_in, seen};
 ghost use Rattle.acc_ordered.specs.Nodes.{entries_in, height_of, length_of, nodes_in, IsAlone, IsChain, IsFreed};
 
 use crate::changes;
-use crate::entries::{Change, KeyValue, KeyValueRef, Neighbors, RowOutcome};
+use crate::entries::{Change, KeyValue, KeyValueRef, Neighbors, Rewriting, RowOutcome};
 use crate::nodes::{
     Link, change_in_place, copy_into, count_entries, find_around, fitting_at, height_law, new_node,
-    pop, push,
+    pop, push, rewrite_before,
 };
 use acc_base::{Fault, Steps};
 use std::alloc::Global;
@@ -112,6 +113,16 @@ impl<T: Copy> OrderedTree<T> {
         }
     }
 
+    /// The entry of a key, if it is there.
+    #[inline]
+    pub fn get(&self, key: u64) -> Option<KeyValueRef<'_, T>>
+        ensures { seen result ≡ at_key key self.now.entries }
+    {
+        self.laws();
+        let found = self.around(key).from?;
+        if found.key == key { Some(found) } else { None }
+    }
+
     /// The entries on both sides of a key.
     #[inline]
     pub fn around(&self, key: u64) -> Neighbors<'_, T>
@@ -170,6 +181,24 @@ impl<T: Copy> OrderedTree<T> {
         let freed = take_out(&mut self.root, &mut entry);
         keep(&mut self.spare, &mut self.waiting, freed);
         entry
+    }
+
+    /// Writes the value of a key that is there.
+    pub fn set(&mut self, key: u64, value: T)
+        requires there { IsSome (at_key key self.old.entries) }
+        ensures entries { self.new.entries ≡ with_value key value self.old.entries }
+        ensures room { self.new.room ≡ self.old.room }
+    {
+        change_in_place(&mut self.root, Change::Write, &mut KeyValue { key, value });
+    }
+
+    /// Rewrites the last entry before a key, if there is one and the change says what its value becomes. It answers
+    /// whether that is so. It is one walk, which needs no memory.
+    pub fn rewrite_before<C: Rewriting<T>>(&mut self, key: u64, change: &C) -> bool
+        ensures rewritten { IsRewritten (C.becomes change.now) (last_before key self.old.entries) result self.old.entries self.new.entries }
+        ensures room { self.new.room ≡ self.old.room }
+    {
+        rewrite_before(&mut self.root, key, change).unwrap_or(false)
     }
 
     /// The values of all entries by rising key, in a vector of their own.

@@ -2,4 +2,6 @@ pub mod Finding
 pub mod Mapping
 pub mod Registering
 pub mod Limits
+pub mod Fresh
 pub mod Crossing
+pub mod Recounting

@@ -1,6 +1,6 @@
--- The entries of the mapped ranges, and what is kept for their blocks, as mappings begin, change and end.
+-- The entries of the mapped ranges and of their starts, as mappings begin and end.
 use Rattle.std.proofs.Common.{ℕ, ◌≡◌, ◌^◌, ◌<◌, ◌≤◌, refl, sym, ap, subst, ◌∙◌, Bool, true, false, cond, List, [], ◌∷◌, length, Option, Some, None, IsSome, arith, rules}
-use Rattle.std.specs.Prelude.{◌==◌, not, find, map, option_map, nat_lt, nat_le, IfSome, Contains}
+use Rattle.std.specs.Prelude.{◌==◌, not, find, option_map, nat_lt, nat_le, IfSome, Contains}
 use Rattle.std.specs.Option.{option_or}
 use Rattle.std.specs.List.{AllByRecursion}
 use Rattle.std.proofs.lemmas.Bool.Decides.{nat_tests}
@@ -12,19 +12,19 @@ use Rattle.acc_base.specs.declared.mappings.Found.TheVariants.{Absent}
 use Rattle.acc_base.specs.Section.{is_apart}
 use Rattle.acc_base.specs.Ranges.{where_is, range_of, range_from, with_range, without_range, changed_at}
 use Rattle.acc_base.specs.Accounts.{EachPair, IsBelow}
-use Rattle.acc_base.proofs.RangeChanges.{block_of, all_with, apart_with, rising_with, KeepsPlace, section-change, block-change}
+use Rattle.acc_base.proofs.RangeChanges.{all_with, apart_with, rising_with, KeepsPlace, section-change, block-change}
 use Rattle.acc_base.proofs.Where.{absent_says}
-use Rattle.acc_base.proofs.Results.{equal, equal_self, equal_swap, differ}
+use Rattle.acc_base.proofs.Results.{equal, equal_self, differ}
 use Rattle.acc_base.proofs.InPlace.{IsPut, all-put, find-put_other, find-put_new}
-use Rattle.acc_base.proofs.Lookups.{at, at-own, change_at, at-changed}
-use Rattle.acc_base.proofs.Options.{from_none}
-use Rattle.acc_base.proofs.Elements.{AllByRecursion-weaker, AllByRecursion-both, AllByRecursion-passed, AllByRecursion-filter, AllByRecursion-map, EachPair-filter, EachPair-map, find-map, find-none, find_none, find_passes, found_has, list_all-from}
+use Rattle.acc_base.proofs.Lookups.{at, at-own}
+use Rattle.acc_base.proofs.Options.{some_mapped, none_mapped, from_none}
+use Rattle.acc_base.proofs.Elements.{AllByRecursion-weaker, AllByRecursion-both, AllByRecursion-filter, AllByRecursion-map, EachPair-filter, EachPair-map, find-map, find-none, find_none, find_passes, found_has, list_all-from}
 use Rattle.acc_base.proofs.Keyed as keyed
-use Rattle.acc_index.specs.Indexed.{IsIndexRising, value_at, with_other}
+use Rattle.acc_index.specs.Indexed.{IsIndexRising, value_at}
 use Rattle.acc_ordered.specs.declared.entries.KeyValue.{KeyValue}
-use Rattle.acc_ordered.specs.Listing.{at_key, first_from, last_before, with_entry, without_key, values_in}
+use Rattle.acc_ordered.specs.Listing.{at_key, first_from, last_before, with_entry, without_key, value_written, with_value, values_in}
 use Rattle.acc_present.specs.Present.{AreMapped}
-use Rattle.acc_present.specs.Kept.{or_blank, range_with, range_in, ranges_in, range_told, IsIndexed}
+use Rattle.acc_present.specs.Kept.{range_in, ranges_in, IsKeyed, start_at, IsIndexed}
 use Rattle.acc_present.proofs.Finding.{last_below, starts_rise}
 
 -- a range's start and its block
@@ -35,97 +35,100 @@ abbrev pub block_key : Range → ℕ
 block_key r = r.block
 
 -- the same of an entry
-abbrev pub key_of : KeyValue ℕ → ℕ
+abbrev pub key_of : KeyValue Range → ℕ
 key_of e = e.key
 
-abbrev pub mapped_block : KeyValue ℕ → ℕ
-mapped_block e = e.value
+abbrev pub mapped_block : KeyValue Range → ℕ
+mapped_block e = e.value.block
 
 -- ---- what a search among the entries finds
 
-first-ranges : (k : ℕ) (es : List (KeyValue ℕ)) (kept : ℕ → Option Range) → option_map (range_in kept) (first_from k es) ≡ range_from k (ranges_in kept es)
-first-ranges k es kept = sym (find-map (range_in kept) (λ e. nat_le k e.key) (λ r. nat_le k r.section.start) es (λ e. refl))
+pub first-ranges : (k : ℕ) (es : List (KeyValue Range)) → option_map range_in (first_from k es) ≡ range_from k (ranges_in es)
+first-ranges k es = sym (find-map range_in (λ e. nat_le k e.key) (λ r. nat_le k r.section.start) es (λ e. refl))
 
-last-ranges : (k : ℕ) (es : List (KeyValue ℕ)) (kept : ℕ → Option Range) → option_map (range_in kept) (last_before k es) ≡ last_below k (ranges_in kept es)
-last-ranges k [] kept = refl
-last-ranges k (e ∷ es) kept = go (last-ranges k es kept) (last_before k es) refl (nat_lt e.key k)
+pub last-ranges : (k : ℕ) (es : List (KeyValue Range)) → option_map range_in (last_before k es) ≡ last_below k (ranges_in es)
+last-ranges k [] = refl
+last-ranges k (e ∷ es) = go (last-ranges k es) (last_before k es) refl (nat_lt e.key k)
   where
-    go : option_map (range_in kept) (last_before k es) ≡ last_below k (ranges_in kept es) → (o : Option (KeyValue ℕ)) → last_before k es ≡ o → (b : Bool)
-        → option_map (range_in kept) (option_or o (cond b (Some e) None)) ≡ option_or (last_below k (ranges_in kept es)) (cond b (Some (range_in kept e)) None)
+    go : option_map range_in (last_before k es) ≡ last_below k (ranges_in es) → (o : Option (KeyValue Range)) → last_before k es ≡ o → (b : Bool)
+        → option_map range_in (option_or o (cond b (Some e) None)) ≡ option_or (last_below k (ranges_in es)) (cond b (Some (range_in e)) None)
     go rest None is true = rw (← rest, is) refl
     go rest None is false = rw (← rest, is) refl
     go rest (Some x) is b = rw (← rest, is) refl
 
-block-ranges : (block : ℕ) (es : List (KeyValue ℕ)) (kept : ℕ → Option Range) → range_of block (ranges_in kept es) ≡ option_map (range_in kept) (at mapped_block block es)
-block-ranges block es kept = find-map (range_in kept) (λ e. e.value == block) (λ r. r.block == block) es (λ e. refl)
+pub block-ranges : (block : ℕ) (es : List (KeyValue Range)) → range_of block (ranges_in es) ≡ option_map range_in (at mapped_block block es)
+block-ranges block es = find-map range_in (λ e. e.value.block == block) (λ r. r.block == block) es (λ e. refl)
 
-start-ranges : (start : ℕ) (es : List (KeyValue ℕ)) (kept : ℕ → Option Range) → at start_key start (ranges_in kept es) ≡ option_map (range_in kept) (at_key start es)
-start-ranges start es kept = find-map (range_in kept) (λ e. e.key == start) (λ r. r.section.start == start) es (λ e. refl)
+pub start-ranges : (start : ℕ) (es : List (KeyValue Range)) → at start_key start (ranges_in es) ≡ option_map range_in (at_key start es)
+start-ranges start es = find-map range_in (λ e. e.key == start) (λ r. r.section.start == start) es (λ e. refl)
 
--- ---- each entry has its own start and its own block
+-- a value is the range of its entry
+value_is : (e : KeyValue Range) → IsKeyed e → e.value ≡ range_in e
+value_is e keyed = ap (λ (k : ℕ). record { section = record { start = k; len = e.value.section.len }; block = e.value.block; structured = e.value.structured; dynamic = e.value.dynamic }) keyed.start
 
-all_unmapped : (P : Range → Type 0) (es : List (KeyValue ℕ)) (kept : ℕ → Option Range) → AllByRecursion P (ranges_in kept es) → AllByRecursion (λ e. P (range_in kept e)) es
-all_unmapped P [] kept h = tt
-all_unmapped P (e ∷ es) kept h = (h.0, all_unmapped P es kept h.1)
+value_if : (o : Option (KeyValue Range)) → IfSome o IsKeyed → option_map (λ (e : KeyValue Range). e.value) o ≡ option_map range_in o
+value_if None keyed = refl
+value_if (Some e) keyed = ap (λ (r : Range). Some r) (value_is e keyed)
 
-pairs_unmapped : (R : Range → Range → Type 0) (es : List (KeyValue ℕ)) (kept : ℕ → Option Range) → EachPair R (ranges_in kept es) → EachPair (λ (e f : KeyValue ℕ). R (range_in kept e) (range_in kept f)) es
-pairs_unmapped R [] kept h = tt
-pairs_unmapped R (e ∷ es) kept h = (all_unmapped (R (range_in kept e)) es kept h.0, pairs_unmapped R es kept h.1)
-
-own_key : (es : List (KeyValue ℕ)) (kept : ℕ → Option Range) → AreMapped (ranges_in kept es) → AllByRecursion (λ e. at_key e.key es ≡ Some e) es
-own_key es kept m = at-own key_of es (keyed.rise_distinct key_of es (pairs_unmapped (λ (r : Range) (t : Range). r.section.start < t.section.start) es kept (starts_rise (ranges_in kept es) m)))
-
-own_block : (es : List (KeyValue ℕ)) (kept : ℕ → Option Range) → AreMapped (ranges_in kept es) → AllByRecursion (λ e. at mapped_block e.value es ≡ Some e) es
-own_block es kept m = at-own mapped_block es (pairs_unmapped (λ (r : Range) (t : Range). r.block ≡ t.block → ⊥) es kept m.own_block)
-
--- so what is kept for the block of an entry is its range
-abbrev pub IsKept : (ℕ → Option Range) → KeyValue ℕ → Type 0
-IsKept kept e = kept e.value ≡ Some (range_in kept e)
-
-pub all_kept : (es : List (KeyValue ℕ)) (kept : ℕ → Option Range) → IsIndexed es kept → AllByRecursion (IsKept kept) es
-all_kept es kept h = AllByRecursion-weaker (λ e. at mapped_block e.value es ≡ Some e) (IsKept kept) es (λ e own. h.agrees e.value ∙ block-ranges e.value es kept ∙ ap (option_map (range_in kept)) own) (own_block es kept h.mapped)
-
--- and what is told of an entry that was found
-told_if : (o : Option (KeyValue ℕ)) (kept : ℕ → Option Range) → IfSome o (IsKept kept) → range_told kept o ≡ option_map (range_in kept) o
-told_if None kept h = refl
-told_if (Some e) kept h = h
-
-found_kept : (p : KeyValue ℕ → Bool) (es : List (KeyValue ℕ)) (kept : ℕ → Option Range) → AllByRecursion (IsKept kept) es → IfSome (find p es) (IsKept kept)
-found_kept p es kept all = go (find p es) refl
+keyed_found : (p : KeyValue Range → Bool) (es : List (KeyValue Range)) → AllByRecursion IsKeyed es → IfSome (find p es) IsKeyed
+keyed_found p es keyed = go (find p es) refl
   where
-    go : (o : Option (KeyValue ℕ)) → find p es ≡ o → IfSome o (IsKept kept)
+    go : (o : Option (KeyValue Range)) → find p es ≡ o → IfSome o IsKeyed
     go None e = tt
-    go (Some x) e = (found_has (IsKept kept) p es x all e).0
+    go (Some x) e = (found_has IsKeyed p es x keyed e).0
 
-last_kept : (k : ℕ) (es : List (KeyValue ℕ)) (kept : ℕ → Option Range) → AllByRecursion (IsKept kept) es → IfSome (last_before k es) (IsKept kept)
-last_kept k [] kept all = tt
-last_kept k (e ∷ es) kept all = go (last_before k es) (nat_lt e.key k) (last_kept k es kept all.1)
+keyed_last : (k : ℕ) (es : List (KeyValue Range)) → AllByRecursion IsKeyed es → IfSome (last_before k es) IsKeyed
+keyed_last k [] keyed = tt
+keyed_last k (e ∷ es) keyed = go (last_before k es) (nat_lt e.key k) (keyed_last k es keyed.1)
   where
-    go : (o : Option (KeyValue ℕ)) (b : Bool) → IfSome o (IsKept kept) → IfSome (option_or o (cond b (Some e) None)) (IsKept kept)
-    go None true h = all.0
+    go : (o : Option (KeyValue Range)) (b : Bool) → IfSome o IsKeyed → IfSome (option_or o (cond b (Some e) None)) IsKeyed
+    go None true h = keyed.0
     go None false h = tt
     go (Some x) b h = h
 
-pub first_told : (k : ℕ) (es : List (KeyValue ℕ)) (kept : ℕ → Option Range) → IsIndexed es kept → range_told kept (first_from k es) ≡ range_from k (ranges_in kept es)
-first_told k es kept h = told_if (first_from k es) kept (found_kept (λ e. nat_le k e.key) es kept (all_kept es kept h)) ∙ first-ranges k es kept
+pub first_value : (k : ℕ) (es : List (KeyValue Range)) → AllByRecursion IsKeyed es → option_map (λ (e : KeyValue Range). e.value) (first_from k es) ≡ range_from k (ranges_in es)
+first_value k es keyed = value_if (first_from k es) (keyed_found (λ e. nat_le k e.key) es keyed) ∙ first-ranges k es
+
+last_value : (k : ℕ) (es : List (KeyValue Range)) → AllByRecursion IsKeyed es → option_map (λ (e : KeyValue Range). e.value) (last_before k es) ≡ last_below k (ranges_in es)
+last_value k es keyed = value_if (last_before k es) (keyed_last k es keyed) ∙ last-ranges k es
 
 -- the last entry below an address has the last range below it
-pub last_told : (k : ℕ) (es : List (KeyValue ℕ)) (kept : ℕ → Option Range) (before : Option (KeyValue ℕ)) (o : Option Range) → IsIndexed es kept → before ≡ last_before k es → o ≡ range_told kept before → last_below k (ranges_in kept es) ≡ o
-last_told k es kept before o h is told = sym (last-ranges k es kept) ∙ sym (told_if (last_before k es) kept (last_kept k es kept (all_kept es kept h))) ∙ ap (range_told kept) (sym is) ∙ sym told
+pub last_found : (k : ℕ) (es : List (KeyValue Range)) (before : Option (KeyValue Range)) (o : Option Range) → AllByRecursion IsKeyed es → before ≡ last_before k es → o ≡ option_map (λ (e : KeyValue Range). e.value) before → last_below k (ranges_in es) ≡ o
+last_found k es before o keyed is image = sym (last_value k es keyed) ∙ ap (option_map (λ (e : KeyValue Range). e.value)) (sym is) ∙ sym image
 
--- what is kept for the blocks of all entries
-pub values-ranges : (es : List (KeyValue ℕ)) (kept : ℕ → Option Range) → AllByRecursion (IsKept kept) es → map (λ b. or_blank (kept b)) (values_in es) ≡ ranges_in kept es
-values-ranges [] kept all = refl
-values-ranges (e ∷ es) kept all = ap (λ (r : Range). r ∷ map (λ b. or_blank (kept b)) (values_in es)) (ap or_blank all.0) ∙ ap (λ (rs : List Range). range_in kept e ∷ rs) (values-ranges es kept all.1)
-
-pub values_kept : (es : List (KeyValue ℕ)) (kept : ℕ → Option Range) → AllByRecursion (IsKept kept) es → AllByRecursion (λ b. IsSome (kept b)) (values_in es)
-values_kept es kept all = AllByRecursion-map (λ (b : ℕ). IsSome (kept b)) (λ (e : KeyValue ℕ). e.value) es (AllByRecursion-weaker (IsKept kept) (λ e. IsSome (kept e.value)) es (λ e is. rw is refl) all)
+pub all_values : (es : List (KeyValue Range)) → AllByRecursion IsKeyed es → values_in es ≡ ranges_in es
+all_values [] keyed = refl
+all_values (e ∷ es) keyed = ap (λ (r : Range). r ∷ values_in es) (value_is e keyed.0) ∙ ap (λ (rs : List Range). range_in e ∷ rs) (all_values es keyed.1)
 
 -- no range begins behind the last address
-pub none_past : (k : ℕ) (es : List (KeyValue ℕ)) (kept : ℕ → Option Range) → 2 ^ 64 ≤ k → AllByRecursion (λ (e : KeyValue ℕ). e.key < 2 ^ 64) es → range_from k (ranges_in kept es) ≡ None
-none_past k es kept past bound = find-none (λ (r : Range). nat_le k r.section.start) (ranges_in kept es) (AllByRecursion-map (λ (r : Range). nat_le k r.section.start ≡ false) (range_in kept) es (AllByRecursion-weaker (λ (e : KeyValue ℕ). e.key < 2 ^ 64) (λ (e : KeyValue ℕ). nat_le k e.key ≡ false) es (λ e below. grind (arith, nat_tests)) bound))
+pub none_past : (k : ℕ) (es : List (KeyValue Range)) → 2 ^ 64 ≤ k → AllByRecursion IsKeyed es → range_from k (ranges_in es) ≡ None
+none_past k es past keyed = find-none (λ (r : Range). nat_le k r.section.start) (ranges_in es) (AllByRecursion-map (λ (r : Range). nat_le k r.section.start ≡ false) range_in es (AllByRecursion-weaker IsKeyed (λ (e : KeyValue Range). nat_le k e.key ≡ false) es (λ e h. let bound = h.bound in grind (arith, nat_tests)) keyed))
 
--- ---- the entry of a block's range
+-- ---- each entry has its own start and its own block
+
+all_unmapped : (P : Range → Type 0) (es : List (KeyValue Range)) → AllByRecursion P (ranges_in es) → AllByRecursion (λ e. P (range_in e)) es
+all_unmapped P [] h = tt
+all_unmapped P (e ∷ es) h = (h.0, all_unmapped P es h.1)
+
+pairs_unmapped : (R : Range → Range → Type 0) (es : List (KeyValue Range)) → EachPair R (ranges_in es) → EachPair (λ (e f : KeyValue Range). R (range_in e) (range_in f)) es
+pairs_unmapped R [] h = tt
+pairs_unmapped R (e ∷ es) h = (all_unmapped (R (range_in e)) es h.0, pairs_unmapped R es h.1)
+
+own_key : (es : List (KeyValue Range)) → AreMapped (ranges_in es) → AllByRecursion (λ e. at_key e.key es ≡ Some e) es
+own_key es m = at-own key_of es (keyed.rise_distinct key_of es (pairs_unmapped (λ (r : Range) (t : Range). r.section.start < t.section.start) es (starts_rise (ranges_in es) m)))
+
+own_mapped_block : (es : List (KeyValue Range)) → AreMapped (ranges_in es) → AllByRecursion (λ e. at mapped_block e.value.block es ≡ Some e) es
+own_mapped_block es m = at-own mapped_block es (pairs_unmapped (λ (r : Range) (t : Range). r.block ≡ t.block → ⊥) es m.own_block)
+
+-- the entry of a key is that of a block, by both
+pub record IsEntryBoth (block : ℕ) (es : List (KeyValue Range)) (e : KeyValue Range) : Type 0 where
+  pub key : at_key e.key es ≡ Some e
+  pub by_block : at mapped_block block es ≡ Some e
+  pub is : e.value.block ≡ block
+
+-- an entry that a key finds is that of its block
+pub by_key : (block : ℕ) (es : List (KeyValue Range)) (e : KeyValue Range) → AreMapped (ranges_in es) → at_key e.key es ≡ Some e → e.value.block ≡ block → IsEntryBoth block es e
+by_key block es e m found is = record { key = found; by_block = subst (λ n. at mapped_block n es ≡ Some e) is (found_has (λ (x : KeyValue Range). at mapped_block x.value.block es ≡ Some x) (λ x. x.key == e.key) es e (own_mapped_block es m) found).0; is = is }
 
 -- a range that is found by a block is mapped to it
 pub block_is : (block : ℕ) (rs : List Range) (r : Range) → range_of block rs ≡ Some r → r.block ≡ block
@@ -133,55 +136,66 @@ block_is block rs r found =
     let passes = subst (λ o. IfSome o (λ x. Contains rs x × ((x.block == block) ≡ true))) found (find_passes (λ x. x.block == block) rs) in
     equal r.block block passes.1
 
--- so it is the range of its block
-pub own_range : (block : ℕ) (rs : List Range) (r : Range) → range_of block rs ≡ Some r → range_of r.block rs ≡ Some r
-own_range block rs r found = ap (λ (n : ℕ). range_of n rs) (block_is block rs r found) ∙ found
+-- the entry is that of the range that is mapped to the block
+pub record IsEntryOf (block : ℕ) (entries : List (KeyValue Range)) (e : KeyValue Range) : Type 0 where
+  pub found : at_key e.key entries ≡ Some e
+  pub range : range_of block (ranges_in entries) ≡ Some (range_in e)
 
--- the entry of a key is that of a block, by both, and has the block's range
-pub record IsEntryOf (block : ℕ) (es : List (KeyValue ℕ)) (kept : ℕ → Option Range) (r : Range) : Type 0 where
-  pub entry : KeyValue ℕ
-  pub by_key : at_key entry.key es ≡ Some entry
-  pub by_block : at mapped_block block es ≡ Some entry
-  pub is : entry.value ≡ block
-  pub range : range_in kept entry ≡ r
+-- and one that is found as the range of a block is found by its key
+pub both_of : (block : ℕ) (es : List (KeyValue Range)) (e : KeyValue Range) → AreMapped (ranges_in es) → IsEntryOf block es e → IsEntryBoth block es e
+both_of block es e m h =
+    by_key block es e m h.found (block_is block (ranges_in es) (range_in e) h.range)
 
 -- a mapped range has an entry
-pub entry_of : (block : ℕ) (es : List (KeyValue ℕ)) (kept : ℕ → Option Range) (r : Range) → AreMapped (ranges_in kept es) → range_of block (ranges_in kept es) ≡ Some r → IsEntryOf block es kept r
-entry_of block es kept r m there = go (at mapped_block block es) refl
+entry_of : (block : ℕ) (es : List (KeyValue Range)) (r : Range) → AreMapped (ranges_in es) → range_of block (ranges_in es) ≡ Some r → (e : KeyValue Range) × IsEntryOf block es e × (range_in e ≡ r)
+entry_of block es r m there = go (at mapped_block block es) refl
   where
-    go : (o : Option (KeyValue ℕ)) → at mapped_block block es ≡ o → IsEntryOf block es kept r
-    go None is = let none : range_of block (ranges_in kept es) ≡ None = block-ranges block es kept ∙ ap (option_map (range_in kept)) is in cc
+    go : (o : Option (KeyValue Range)) → at mapped_block block es ≡ o → (e : KeyValue Range) × IsEntryOf block es e × (range_in e ≡ r)
+    go None is = let none : range_of block (ranges_in es) ≡ None = block-ranges block es ∙ ap (option_map range_in) is in cc
     go (Some e) is =
-        let found = found_has (λ (x : KeyValue ℕ). at_key x.key es ≡ Some x) (λ x. x.value == block) es e (own_key es kept m) is in
-        record {
-          entry = e;
-          by_key = found.0;
-          by_block = is;
-          is = equal e.value block found.1;
-          range = same_Some (range_in kept e) r (sym (block-ranges block es kept ∙ ap (option_map (range_in kept)) is) ∙ there);
-        }
+        let range : range_of block (ranges_in es) ≡ Some (range_in e) = block-ranges block es ∙ ap (option_map range_in) is in
+        (e, record { found = (found_has (λ (x : KeyValue Range). at_key x.key es ≡ Some x) (λ x. x.value.block == block) es e (own_key es m) is).0; range = range }, same_Some (range_in e) r (sym range ∙ there))
 
 -- which stands at its start
-pub key_there : (block : ℕ) (es : List (KeyValue ℕ)) (kept : ℕ → Option Range) (r : Range) → AreMapped (ranges_in kept es) → range_of block (ranges_in kept es) ≡ Some r → IsSome (at_key r.section.start es)
-key_there block es kept r m there =
-    let p = entry_of block es kept r m there in
-    rw (← p.range) (rw p.by_key refl)
+pub key_there : (block : ℕ) (es : List (KeyValue Range)) (r : Range) → AreMapped (ranges_in es) → range_of block (ranges_in es) ≡ Some r → IsSome (at_key r.section.start es)
+key_there block es r m there =
+    let p = entry_of block es r m there in
+    rw (← p.2) (rw p.1.found refl)
+
+-- ---- the start of a block's range
+
+-- the range at the start that is kept for a block
+pub range_at : (block start : ℕ) (es : List (KeyValue Range)) (starts : ℕ → Option ℕ) → IsIndexed es starts → starts block ≡ Some start → option_map (λ (e : KeyValue Range). e.value) (at_key start es) ≡ range_of block (ranges_in es)
+range_at block start es starts kept given = value_if (at_key start es) (keyed_found (λ e. e.key == start) es kept.keyed) ∙ sym (start-ranges start es) ∙ go (range_of block (ranges_in es)) refl
+  where
+    go : (o : Option Range) → range_of block (ranges_in es) ≡ o → at start_key start (ranges_in es) ≡ o
+    go None is = let none : starts block ≡ None = kept.agrees block ∙ ap (option_map start_key) is in cc
+    go (Some r) is =
+        let same : start ≡ start_key r = same_Some start (start_key r) (sym given ∙ kept.agrees block ∙ ap (option_map start_key) is) in
+        ap (λ n. at start_key n (ranges_in es)) same ∙ keyed.at-found start_key (λ t. t.block == block) (ranges_in es) r (starts_rise (ranges_in es) kept.mapped) is
+
+-- the range that begins where it is kept that a block's does
+pub started : (block start : ℕ) (es : List (KeyValue Range)) (starts : ℕ → Option ℕ) → IsIndexed es starts → starts block ≡ Some start → (r : Range) × (range_of block (ranges_in es) ≡ Some r) × (r.section.start ≡ start)
+started block start es starts kept given = go (range_of block (ranges_in es)) refl
+  where
+    go : (o : Option Range) → range_of block (ranges_in es) ≡ o → (r : Range) × (range_of block (ranges_in es) ≡ Some r) × (r.section.start ≡ start)
+    go None is = let none : starts block ≡ None = kept.agrees block ∙ ap (option_map start_key) is in cc
+    go (Some r) is = (r, is, same_Some (start_key r) start (sym (kept.agrees block ∙ ap (option_map start_key) is) ∙ given))
+
+-- and no start is kept for a block that no range has
+pub start_new : (block : ℕ) (es : List (KeyValue Range)) (starts : ℕ → Option ℕ) → IsIndexed es starts → range_of block (ranges_in es) ≡ None → starts block ≡ None
+start_new block es starts kept none = kept.agrees block ∙ ap (option_map start_key) none
 
 -- ---- a range more
 
 -- its entry goes in by its start
-with_entry-ranges : (new : KeyValue ℕ) (es : List (KeyValue ℕ)) (kept : ℕ → Option Range) → ranges_in kept (with_entry new es) ≡ with_range (range_in kept new) (ranges_in kept es)
-with_entry-ranges new [] kept = refl
-with_entry-ranges new (e ∷ es) kept = go (with_entry-ranges new es kept) (nat_lt new.key e.key)
+pub with_entry-ranges : (new : KeyValue Range) (es : List (KeyValue Range)) → ranges_in (with_entry new es) ≡ with_range (range_in new) (ranges_in es)
+with_entry-ranges new [] = refl
+with_entry-ranges new (e ∷ es) = go (with_entry-ranges new es) (nat_lt new.key e.key)
   where
-    go : ranges_in kept (with_entry new es) ≡ with_range (range_in kept new) (ranges_in kept es) → (b : Bool) → ranges_in kept (cond b (new ∷ e ∷ es) (e ∷ with_entry new es)) ≡ cond b (range_in kept new ∷ range_in kept e ∷ ranges_in kept es) (range_in kept e ∷ with_range (range_in kept new) (ranges_in kept es))
+    go : ranges_in (with_entry new es) ≡ with_range (range_in new) (ranges_in es) → (b : Bool) → ranges_in (cond b (new ∷ e ∷ es) (e ∷ with_entry new es)) ≡ cond b (range_in new ∷ range_in e ∷ ranges_in es) (range_in e ∷ with_range (range_in new) (ranges_in es))
     go rest true = refl
-    go rest false = ap (λ rs. range_in kept e ∷ rs) rest
-
--- the ranges stay where what is kept for their blocks does
-same-ranges : (es : List (KeyValue ℕ)) (kept told : ℕ → Option Range) → AllByRecursion (λ (e : KeyValue ℕ). told e.value ≡ kept e.value) es → ranges_in told es ≡ ranges_in kept es
-same-ranges [] kept told same = refl
-same-ranges (e ∷ es) kept told same = ap (λ (o : Option Range). range_with e o ∷ ranges_in told es) same.0 ∙ ap (λ (rs : List Range). range_in kept e ∷ rs) (same-ranges es kept told same.1)
+    go rest false = ap (λ rs. range_in e ∷ rs) rest
 
 put_in_entries : {T : Type 0} (new : KeyValue T) → IsPut new (λ e. nat_lt new.key e.key) (with_entry new)
 put_in_entries new = record { alone = refl; among = λ e es. refl }
@@ -198,13 +212,13 @@ of-with_range new rs block none = go (new.block == block) refl
     go false t = find-put_other put (λ r. r.block == block) rs t
 
 -- no range begins where an absent section does
-pub absent_start : (new : Range) (es : List (KeyValue ℕ)) (kept : ℕ → Option Range) → AreMapped (ranges_in kept es) → where_is new.section (ranges_in kept es) ≡ Absent → at_key new.section.start es ≡ None
-absent_start new es kept m absent =
-    let says = absent_says new.section (ranges_in kept es) absent in
+pub absent_start : (new : Range) (es : List (KeyValue Range)) → AreMapped (ranges_in es) → where_is new.section (ranges_in es) ≡ Absent → at_key new.section.start es ≡ None
+absent_start new es m absent =
+    let says = absent_says new.section (ranges_in es) absent in
     let len : 0 < new.section.len = grind (arith, nat_tests, says.1) in
-    let apart = list_all-from (λ r. is_apart new.section r.section) (ranges_in kept es) says.0 in
-    let off : AllByRecursion (λ (r : Range). (r.section.start == new.section.start) ≡ false) (ranges_in kept es) = AllByRecursion-both (λ (r : Range). 0 < r.section.len) (λ r. is_apart new.section r.section ≡ true) (λ (r : Range). (r.section.start == new.section.start) ≡ false) (ranges_in kept es) (λ r l a. let filled : 0 < r.section.len = l in grind (arith, nat_tests)) m.some apart in
-    from_none (range_in kept) (at_key new.section.start es) (sym (start-ranges new.section.start es kept) ∙ find-none (λ r. r.section.start == new.section.start) (ranges_in kept es) off)
+    let apart = list_all-from (λ r. is_apart new.section r.section) (ranges_in es) says.0 in
+    let off : AllByRecursion (λ (r : Range). (r.section.start == new.section.start) ≡ false) (ranges_in es) = AllByRecursion-both (λ (r : Range). 0 < r.section.len) (λ r. is_apart new.section r.section ≡ true) (λ (r : Range). (r.section.start == new.section.start) ≡ false) (ranges_in es) (λ r l a. let filled : 0 < r.section.len = l in grind (arith, nat_tests)) m.some apart in
+    from_none range_in (at_key new.section.start es) (sym (start-ranges new.section.start es) ∙ find-none (λ r. r.section.start == new.section.start) (ranges_in es) off)
 
 -- ranges stay mapped with one more
 mapped-with : (new : Range) (rs : List Range) → AreMapped rs → where_is new.section rs ≡ Absent → range_of new.block rs ≡ None → AreMapped (with_range new rs)
@@ -217,43 +231,18 @@ mapped-with new rs m absent none =
       own_block = apart_with (λ r t. r.block ≡ t.block → ⊥) new rs (AllByRecursion-weaker (λ (r : Range). (r.block == new.block) ≡ false) (λ r. (new.block ≡ r.block → ⊥) × (r.block ≡ new.block → ⊥)) rs (λ r f. (λ same. grind (arith, nat_tests), λ same. grind (arith, nat_tests))) (find_none (λ (r : Range). r.block == new.block) rs none)) m.own_block;
     }
 
--- what the entries are once a range is put to them
-pub record IsMappedNow (new : Range) (es ts : List (KeyValue ℕ)) (kept told : ℕ → Option Range) : Type 0 where
-  pub ranges : ranges_in told ts ≡ with_range new (ranges_in kept es)
-  pub indexed : IsIndexed ts told
-
-pub mapped_now : (new : Range) (es : List (KeyValue ℕ)) (kept told : ℕ → Option Range) → IsIndexed es kept → new.section.start < 2 ^ 64 → where_is new.section (ranges_in kept es) ≡ Absent → range_of new.block (ranges_in kept es) ≡ None
-    → ((block : ℕ) → told block ≡ cond (new.block == block) (Some new) (kept block)) → IsMappedNow new es (with_entry (record { key = new.section.start; value = new.block }) es) kept told
-mapped_now new es kept told h start absent none says = record {
-  ranges = ranges;
-  indexed = record {
-    mapped = rw ranges (mapped-with new (ranges_in kept es) h.mapped absent none);
-    bound = all-put (put_in_entries entry) (λ (e : KeyValue ℕ). e.key < 2 ^ 64) es start h.bound;
-    agrees = λ block.
-        says block
-        ∙ ap (cond (new.block == block) (Some new)) (h.agrees block)
-        ∙ sym (of-with_range new (ranges_in kept es) block none)
-        ∙ ap (range_of block) (sym ranges);
-  };
+pub mapped_now : (new : KeyValue Range) (es : List (KeyValue Range)) (starts told : ℕ → Option ℕ) → IsIndexed es starts → IsKeyed new → where_is (range_in new).section (ranges_in es) ≡ Absent → range_of new.value.block (ranges_in es) ≡ None
+    → ((block : ℕ) → told block ≡ cond (new.value.block == block) (Some new.key) (starts block)) → IsIndexed (with_entry new es) told
+mapped_now new es starts told kept own absent none says = record {
+  mapped = rw (with_entry-ranges new es) (mapped-with (range_in new) (ranges_in es) kept.mapped absent none);
+  keyed = all-put (put_in_entries new) IsKeyed es own kept.keyed;
+  agrees = λ block.
+      says block
+      ∙ ap (cond (new.value.block == block) (Some new.key)) (kept.agrees block)
+      ∙ sym (some_mapped start_key (new.value.block == block) (range_in new) (range_of block (ranges_in es)))
+      ∙ ap (option_map start_key) (sym (of-with_range (range_in new) (ranges_in es) block none))
+      ∙ ap (start_at block) (sym (with_entry-ranges new es));
 }
-  where
-    entry : KeyValue ℕ
-    entry = record { key = new.section.start; value = new.block }
-
-    own : range_in told entry ≡ new
-    own = ap (range_with entry) (says new.block ∙ ap (λ (b : Bool). cond b (Some new) (kept new.block)) (equal_self new.block))
-
-    others : (e : KeyValue ℕ) → (e.value == new.block) ≡ false → told e.value ≡ kept e.value
-    others e differs = says e.value ∙ ap (λ (b : Bool). cond b (Some new) (kept e.value)) (equal_swap new.block e.value ∙ differs)
-
-    unused : at mapped_block new.block es ≡ None
-    unused = from_none (range_in kept) (at mapped_block new.block es) (sym (block-ranges new.block es kept) ∙ none)
-
-    ranges : ranges_in told (with_entry entry es) ≡ with_range new (ranges_in kept es)
-    ranges =
-        with_entry-ranges entry es told
-        ∙ ap (λ (r : Range). with_range r (ranges_in told es)) own
-        ∙ ap (with_range new) (same-ranges es kept told (AllByRecursion-weaker (λ (e : KeyValue ℕ). (e.value == new.block) ≡ false) (λ e. told e.value ≡ kept e.value) es others (find_none (λ (e : KeyValue ℕ). e.value == new.block) es unused)))
 
 -- ---- a range less
 
@@ -265,177 +254,152 @@ mapped-without block rs m = record {
 }
 
 -- of each entry, its key is that of the block's exactly where its block is the block
-abbrev IsOnlyOne : ℕ → ℕ → KeyValue ℕ → Type 0
-IsOnlyOne key block x = (x.key == key) ≡ (x.value == block)
+pub record IsOnlyOne (block : ℕ) (e x : KeyValue Range) : Type 0 where
+  pub tests : (x.key == e.key) ≡ (x.value.block == block)
+  pub same : (x.key == e.key) ≡ true → x ≡ e
 
-only_one : (block : ℕ) (es : List (KeyValue ℕ)) (kept : ℕ → Option Range) (r : Range) (h : IsEntryOf block es kept r) → AreMapped (ranges_in kept es) → AllByRecursion (IsOnlyOne h.entry.key block) es
-only_one block es kept r h m = AllByRecursion-both (λ x. at_key x.key es ≡ Some x) (λ x. at mapped_block x.value es ≡ Some x) (IsOnlyOne h.entry.key block) es (λ x k b. go x k b (x.key == h.entry.key) refl (x.value == block) refl) (own_key es kept m) (own_block es kept m)
+pub only_one : (block : ℕ) (es : List (KeyValue Range)) (e : KeyValue Range) → AreMapped (ranges_in es) → IsEntryBoth block es e → AllByRecursion (IsOnlyOne block e) es
+only_one block es e m h = AllByRecursion-both (λ x. at_key x.key es ≡ Some x) (λ x. at mapped_block x.value.block es ≡ Some x) (IsOnlyOne block e) es (λ x k b. record { tests = tests x k b; same = λ t. by_its_key x k t }) (own_key es m) (own_mapped_block es m)
   where
-    by_its_key : (x : KeyValue ℕ) → at_key x.key es ≡ Some x → (x.key == h.entry.key) ≡ true → x ≡ h.entry
-    by_its_key x k t = same_Some x h.entry (sym k ∙ ap (λ n. at_key n es) (equal x.key h.entry.key t) ∙ h.by_key)
+    by_its_key : (x : KeyValue Range) → at_key x.key es ≡ Some x → (x.key == e.key) ≡ true → x ≡ e
+    by_its_key x k t = same_Some x e (sym k ∙ ap (λ n. at_key n es) (equal x.key e.key t) ∙ h.key)
 
-    by_its_block : (x : KeyValue ℕ) → at mapped_block x.value es ≡ Some x → (x.value == block) ≡ true → x ≡ h.entry
-    by_its_block x b t = same_Some x h.entry (sym b ∙ ap (λ n. at mapped_block n es) (equal x.value block t) ∙ h.by_block)
+    by_its_block : (x : KeyValue Range) → at mapped_block x.value.block es ≡ Some x → (x.value.block == block) ≡ true → x ≡ e
+    by_its_block x b t = same_Some x e (sym b ∙ ap (λ n. at mapped_block n es) (equal x.value.block block t) ∙ h.by_block)
 
-    go : (x : KeyValue ℕ) → at_key x.key es ≡ Some x → at mapped_block x.value es ≡ Some x → (s : Bool) → (x.key == h.entry.key) ≡ s → (t : Bool) → (x.value == block) ≡ t → s ≡ t
-    go x k b true s true t = refl
-    go x k b false s false t = refl
-    go x k b true s false t = absurd (differ x.value block t (ap mapped_block (by_its_key x k s) ∙ h.is))
-    go x k b false s true t = absurd (differ x.key h.entry.key s (ap key_of (by_its_block x b t)))
+    tests : (x : KeyValue Range) → at_key x.key es ≡ Some x → at mapped_block x.value.block es ≡ Some x → (x.key == e.key) ≡ (x.value.block == block)
+    tests x k b = go (x.key == e.key) refl (x.value.block == block) refl
+      where
+        go : (s : Bool) → (x.key == e.key) ≡ s → (t : Bool) → (x.value.block == block) ≡ t → s ≡ t
+        go true s true t = refl
+        go false s false t = refl
+        go true s false t = let same : x ≡ e = by_its_key x k s in let is : x.value.block ≡ block = ap mapped_block same ∙ h.is in absurd (differ x.value.block block t is)
+        go false s true t = let same : x ≡ e = by_its_block x b t in absurd (differ x.key e.key s (ap key_of same))
 
-without_key-ranges : (key block : ℕ) (es : List (KeyValue ℕ)) (kept : ℕ → Option Range) → AllByRecursion (IsOnlyOne key block) es → ranges_in kept (without_key key es) ≡ without_range block (ranges_in kept es)
-without_key-ranges key block [] kept only = refl
-without_key-ranges key block (x ∷ es) kept only = rw only.0 (go (without_key-ranges key block es kept only.1) (x.value == block))
+ranges-without : (block : ℕ) (e : KeyValue Range) (es : List (KeyValue Range)) → AllByRecursion (IsOnlyOne block e) es → ranges_in (without_key e.key es) ≡ without_range block (ranges_in es)
+ranges-without block e [] only = refl
+ranges-without block e (x ∷ es) only = rw only.0.tests (go (ranges-without block e es only.1) (x.value.block == block))
   where
-    go : ranges_in kept (without_key key es) ≡ without_range block (ranges_in kept es) → (b : Bool) → ranges_in kept (cond (not b) (x ∷ without_key key es) (without_key key es)) ≡ cond (not b) (range_in kept x ∷ without_range block (ranges_in kept es)) (without_range block (ranges_in kept es))
+    go : ranges_in (without_key e.key es) ≡ without_range block (ranges_in es) → (b : Bool) → ranges_in (cond (not b) (x ∷ without_key e.key es) (without_key e.key es)) ≡ cond (not b) (range_in x ∷ without_range block (ranges_in es)) (without_range block (ranges_in es))
     go rest true = rest
-    go rest false = ap (λ rs. range_in kept x ∷ rs) rest
+    go rest false = ap (λ rs. range_in x ∷ rs) rest
 
 -- what the entries are once a range is taken out
-pub record IsUnmappedNow (block : ℕ) (es ts : List (KeyValue ℕ)) (kept told : ℕ → Option Range) : Type 0 where
-  pub ranges : ranges_in told ts ≡ without_range block (ranges_in kept es)
-  pub indexed : IsIndexed ts told
+pub record IsUnmappedNow (block : ℕ) (es ts : List (KeyValue Range)) (starts : ℕ → Option ℕ) : Type 0 where
+  pub ranges : ranges_in ts ≡ without_range block (ranges_in es)
+  pub indexed : IsIndexed ts starts
 
-unmapped_at : (block : ℕ) (es : List (KeyValue ℕ)) (kept told : ℕ → Option Range) (r : Range) (p : IsEntryOf block es kept r) → IsIndexed es kept → ((other : ℕ) → told other ≡ cond (block == other) None (kept other)) → IsUnmappedNow block es (without_key p.entry.key es) kept told
-unmapped_at block es kept told r p h says = record {
-  ranges = ranges;
-  indexed = record {
-    mapped = rw ranges (mapped-without block (ranges_in kept es) h.mapped);
-    bound = AllByRecursion-filter (λ (e : KeyValue ℕ). e.key < 2 ^ 64) (λ x. not (x.key == p.entry.key)) es h.bound;
-    agrees = λ other.
-        says other
-        ∙ ap (cond (block == other) None) (h.agrees other)
-        ∙ sym (keyed.at-without block_key (ranges_in kept es) block other)
-        ∙ ap (range_of other) (sym ranges);
-  };
-}
-  where
-    only : AllByRecursion (IsOnlyOne p.entry.key block) es
-    only = only_one block es kept r p h.mapped
+pub unmapped_now : (block : ℕ) (es : List (KeyValue Range)) (starts told : ℕ → Option ℕ) (r : Range) → IsIndexed es starts → range_of block (ranges_in es) ≡ Some r → ((other : ℕ) → told other ≡ cond (block == other) None (starts other)) → IsUnmappedNow block es (without_key r.section.start es) told
+unmapped_now block es starts told r kept there says =
+    let p = entry_of block es r kept.mapped there in
+    let e = p.0 in
+    let ranges = ranges-without block e es (only_one block es e kept.mapped (both_of block es e kept.mapped p.1)) in
+    subst (λ (x : Range). IsUnmappedNow block es (without_key x.section.start es) told) p.2
+    (record {
+      ranges = ranges;
+      indexed = record {
+        mapped = rw ranges (mapped-without block (ranges_in es) kept.mapped);
+        keyed = AllByRecursion-filter IsKeyed (λ x. not (x.key == e.key)) es kept.keyed;
+        agrees = λ other.
+            says other
+            ∙ ap (cond (block == other) None) (kept.agrees other)
+            ∙ sym (none_mapped start_key (block == other) (range_of other (ranges_in es)))
+            ∙ ap (option_map start_key) (sym (keyed.at-without block_key (ranges_in es) block other))
+            ∙ ap (start_at other) (sym ranges);
+      };
+    })
 
-    stays : (x : KeyValue ℕ) → not (x.key == p.entry.key) ≡ true → IsOnlyOne p.entry.key block x → told x.value ≡ kept x.value
-    stays x out one = says x.value ∙ go (block == x.value) refl
-      where
-        go : (b : Bool) → (block == x.value) ≡ b → cond b None (kept x.value) ≡ kept x.value
-        go true t = let here : (x.value == block) ≡ true = equal_swap x.value block ∙ t in let key : (x.key == p.entry.key) ≡ true = one ∙ here in cc
-        go false t = refl
-
-    ranges : ranges_in told (without_key p.entry.key es) ≡ without_range block (ranges_in kept es)
-    ranges =
-        same-ranges (without_key p.entry.key es) kept told (AllByRecursion-passed (IsOnlyOne p.entry.key block) (λ x. told x.value ≡ kept x.value) (λ x. not (x.key == p.entry.key)) es stays only)
-        ∙ without_key-ranges p.entry.key block es kept only
-
-pub unmapped_now : (block : ℕ) (es : List (KeyValue ℕ)) (kept told : ℕ → Option Range) (r : Range) → IsIndexed es kept → range_of block (ranges_in kept es) ≡ Some r → ((other : ℕ) → told other ≡ cond (block == other) None (kept other)) → IsUnmappedNow block es (without_key r.section.start es) kept told
-unmapped_now block es kept told r h there says =
-    let p = entry_of block es kept r h.mapped there in
-    subst (λ (x : Range). IsUnmappedNow block es (without_key x.section.start es) kept told) p.range (unmapped_at block es kept told r p h says)
-
--- ---- how many are kept
+-- ---- how many starts are kept
 
 -- of the values behind one, that of its number is not
-later : (e : ℕ × Range) (es : List (ℕ × Range)) (b : ℕ) → IsIndexRising (e ∷ es) → value_at b es ≡ cond (e.0 == b) None (value_at b (e ∷ es))
+later : (e : ℕ × ℕ) (es : List (ℕ × ℕ)) (b : ℕ) → IsIndexRising (e ∷ es) → value_at b es ≡ cond (e.0 == b) None (value_at b (e ∷ es))
 later e es b rise = go (e.0 == b) refl
   where
-    go : (t : Bool) → (e.0 == b) ≡ t → value_at b es ≡ cond t None (option_map (λ (d : ℕ × Range). d.1) (cond t (Some e) (find (λ (d : ℕ × Range). d.0 == b) es)))
-    go true t = ap (option_map (λ (d : ℕ × Range). d.1)) (find-none (λ (d : ℕ × Range). d.0 == b) es (AllByRecursion-weaker (λ (d : ℕ × Range). e.0 < d.0) (λ (d : ℕ × Range). (d.0 == b) ≡ false) es (λ d less. grind (arith, nat_tests)) rise.0))
+    go : (t : Bool) → (e.0 == b) ≡ t → value_at b es ≡ cond t None (option_map (λ (d : ℕ × ℕ). d.1) (cond t (Some e) (find (λ (d : ℕ × ℕ). d.0 == b) es)))
+    go true t = ap (option_map (λ (d : ℕ × ℕ). d.1)) (find-none (λ (d : ℕ × ℕ). d.0 == b) es (AllByRecursion-weaker (λ (d : ℕ × ℕ). e.0 < d.0) (λ (d : ℕ × ℕ). (d.0 == b) ≡ false) es (λ d less. grind (arith, nat_tests)) rise.0))
     go false t = refl
 
 -- with a range less there are fewer
-fewer : (block : ℕ) (rs : List Range) → IsSome (range_of block rs) → length (without_range block rs) < length rs
+fewer : (block : ℕ) (rs : List Range) → IsSome (start_at block rs) → length (without_range block rs) < length rs
 fewer block [] there = absurd cc
 fewer block (r ∷ rs) there = go (r.block == block) (fewer block rs) there
   where
-    go : (t : Bool) → (IsSome (range_of block rs) → length (without_range block rs) < length rs) → IsSome (cond t (Some r) (range_of block rs)) → length (cond (not t) (r ∷ without_range block rs) (without_range block rs)) < length (r ∷ rs)
+    go : (t : Bool) → (IsSome (start_at block rs) → length (without_range block rs) < length rs) → IsSome (option_map start_key (cond t (Some r) (range_of block rs))) → length (cond (not t) (r ∷ without_range block rs) (without_range block rs)) < length (r ∷ rs)
     go true rest some = let both = length-filter_both (λ (x : Range). x.block == block) (λ (x : Range). not (x.block == block)) (λ x. refl) rs in omega arith
     go false rest some = let less = rest some in omega arith
 
--- no more are kept than there are ranges
-pub kept_few : (values : List (ℕ × Range)) (rs : List Range) → IsIndexRising values → ((block : ℕ) → value_at block values ≡ range_of block rs) → length values ≤ length rs
-kept_few [] rs rise agrees = omega arith
-kept_few (e ∷ es) rs rise agrees =
-    let rest = kept_few es (without_range e.0 rs) rise.1 (λ b. later e es b rise ∙ ap (cond (e.0 == b) None) (agrees b) ∙ sym (keyed.at-without block_key rs e.0 b)) in
+-- no more starts are kept than there are ranges
+pub starts_few : (starts : List (ℕ × ℕ)) (rs : List Range) → IsIndexRising starts → ((block : ℕ) → value_at block starts ≡ start_at block rs) → length starts ≤ length rs
+starts_few [] rs rise agrees = omega arith
+starts_few (e ∷ es) rs rise agrees =
+    let rest = starts_few es (without_range e.0 rs) rise.1 (λ b.
+    later e es b rise
+    ∙ ap (cond (e.0 == b) None) (agrees b)
+    ∙ sym (none_mapped start_key (e.0 == b) (range_of b rs))
+    ∙ ap (option_map start_key) (sym (keyed.at-without block_key rs e.0 b))) in
     let less = fewer e.0 rs (subst IsSome (agrees e.0) (rw (equal_self e.0) (search rules))) in
     omega arith
 
 -- ---- a range changed
 
--- what is kept once another value is written for a number: that for it, and else what was
-other_stays : (n m : ℕ) (v : Range) (es : List (ℕ × Range)) → (n == m) ≡ false → value_at m (with_other n v es) ≡ value_at m es
-other_stays n m v [] differs = refl
-other_stays n m v (e ∷ es) differs = go (e.0 == n) refl (other_stays n m v es differs)
+-- a range at its own start is the range of its entry
+whole : (r : Range) (k : ℕ) → r.section.start ≡ k → range_in (record { key = k; value = r }) ≡ r
+whole r k is = sym (ap (λ (n : ℕ). record r { section = record r.section { start = n } }) is)
+
+ranges-changed : (block : ℕ) (f : Range → Range) (e : KeyValue Range) (es : List (KeyValue Range)) → KeepsPlace f → AllByRecursion (IsOnlyOne block e) es → ranges_in (with_value e.key (f (range_in e)) es) ≡ changed_at block f (ranges_in es)
+ranges-changed block f e [] keeps only = refl
+ranges-changed block f e (x ∷ es) keeps only = ap (λ r. r ∷ ranges_in (with_value e.key (f (range_in e)) es)) (one only.0) ∙ ap (λ rs. cond (x.value.block == block) (f (range_in x)) (range_in x) ∷ rs) (ranges-changed block f e es keeps only.1)
   where
-    go : (b : Bool) → (e.0 == n) ≡ b → value_at m (with_other n v es) ≡ value_at m es → value_at m (cond b (n, v) e ∷ with_other n v es) ≡ value_at m (e ∷ es)
-    go true t rest = let out : (e.0 == m) ≡ false = ap (λ (k : ℕ). k == m) (equal e.0 n t) ∙ differs in rw (out, differs) rest
-    go false t rest = pick (e.0 == m)
+    one : IsOnlyOne block e x → range_in (value_written e.key (f (range_in e)) x) ≡ cond (x.value.block == block) (f (range_in x)) (range_in x)
+    one o = rw (← o.tests) (go (x.key == e.key) refl)
       where
-        pick : (c : Bool) → option_map (λ (d : ℕ × Range). d.1) (cond c (Some e) (find (λ (d : ℕ × Range). d.0 == m) (with_other n v es))) ≡ option_map (λ (d : ℕ × Range). d.1) (cond c (Some e) (find (λ (d : ℕ × Range). d.0 == m) es))
-        pick true = refl
-        pick false = rest
+        go : (b : Bool) → (x.key == e.key) ≡ b → range_in (cond b (record x { value = f (range_in e) }) x) ≡ cond b (f (range_in x)) (range_in x)
+        go true t = let same : x ≡ e = o.same t in rw same (whole (f (range_in e)) e.key (ap (λ (s : Section). s.start) (keeps.section (range_in e))))
+        go false t = refl
 
-other_is : (n : ℕ) (v : Range) (es : List (ℕ × Range)) → IsSome (value_at n es) → value_at n (with_other n v es) ≡ Some v
-other_is n v [] there = absurd cc
-other_is n v (e ∷ es) there = go (e.0 == n) refl there (other_is n v es)
-  where
-    go : (b : Bool) → (e.0 == n) ≡ b → IsSome (option_map (λ (d : ℕ × Range). d.1) (cond b (Some e) (find (λ (d : ℕ × Range). d.0 == n) es))) → (IsSome (value_at n es) → value_at n (with_other n v es) ≡ Some v) → value_at n (cond b (n, v) e ∷ with_other n v es) ≡ Some v
-    go true t some rest = rw (equal_self n) refl
-    go false t some rest = rw t (rest some)
+-- what the entries are once the range of a block is changed
+pub record IsChangedNow (block : ℕ) (f : Range → Range) (es ts : List (KeyValue Range)) (starts : ℕ → Option ℕ) : Type 0 where
+  pub ranges : ranges_in ts ≡ changed_at block f (ranges_in es)
+  pub indexed : IsIndexed ts starts
 
--- what is kept for a block once its range is changed
-pub changed_kept : (block : ℕ) (f : Range → Range) (es : List (KeyValue ℕ)) (values : List (ℕ × Range)) (r new : Range) → IsIndexed es (λ b. value_at b values) → range_of block (ranges_in (λ b. value_at b values) es) ≡ Some r → new ≡ f r
-    → (other : ℕ) → value_at other (with_other block new values) ≡ option_map (change_at block_of block f) (value_at other values)
-changed_kept block f es values r new h there is other = go (block == other) refl
-  where
-    own : value_at block values ≡ Some r
-    own = h.agrees block ∙ there
-
-    go : (b : Bool) → (block == other) ≡ b → value_at other (with_other block new values) ≡ option_map (change_at block_of block f) (value_at other values)
-    go true t =
-        let same : block ≡ other = equal block other t in
-        let mine : (r.block == block) ≡ true = ap (λ (k : ℕ). k == block) (block_is block _ r there) ∙ equal_self block in
-        subst (λ (k : ℕ). value_at k (with_other block new values) ≡ option_map (change_at block_of block f) (value_at k values)) same
-        (other_is block new values (rw own refl) ∙ ap (λ (x : Range). Some x) is ∙ ap (λ (c : Bool). Some (cond c (f r) r)) (sym mine) ∙ ap (option_map (change_at block_of block f)) (sym own))
-    go false t = other_stays block other new values t ∙ unchanged (value_at other values) refl
-      where
-        unchanged : (o : Option Range) → value_at other values ≡ o → o ≡ option_map (change_at block_of block f) o
-        unchanged None e = refl
-        unchanged (Some y) e =
-            let theirs : y.block ≡ other = block_is other _ y (sym (h.agrees other) ∙ e) in
-            let out : (y.block == block) ≡ false = ap (λ (k : ℕ). k == block) theirs ∙ equal_swap other block ∙ t in
-            ap (λ (c : Bool). Some (cond c (f y) y)) (sym out)
-
--- what the entries stand for once the range of a block is changed
-pub record IsChangedNow (block : ℕ) (f : Range → Range) (es : List (KeyValue ℕ)) (kept told : ℕ → Option Range) : Type 0 where
-  pub ranges : ranges_in told es ≡ changed_at block f (ranges_in kept es)
-  pub indexed : IsIndexed es told
-
--- a range that stands at the start and the block of an entry is that of the entry
-whole : (e : KeyValue ℕ) (r : Range) → r.section.start ≡ e.key → r.block ≡ e.value → range_with e (Some r) ≡ r
-whole e r start block = sym (ap (λ (n : ℕ). record r { section = record r.section { start = n } }) start ∙ ap (λ (n : ℕ). record r { section = record r.section { start = e.key }; block = n }) block)
-
-pub changed_now : (block : ℕ) (f : Range → Range) (es : List (KeyValue ℕ)) (kept told : ℕ → Option Range) → KeepsPlace f → IsIndexed es kept → ((other : ℕ) → told other ≡ option_map (change_at block_of block f) (kept other)) → IsChangedNow block f es kept told
-changed_now block f es kept told keeps h says = record {
+changed_now : (block : ℕ) (f : Range → Range) (es : List (KeyValue Range)) (starts : ℕ → Option ℕ) (e : KeyValue Range) → KeepsPlace f → IsIndexed es starts → IsEntryOf block es e → IsChangedNow block f es (with_value e.key (f (range_in e)) es) starts
+changed_now block f es starts e keeps kept h = record {
   ranges = ranges;
   indexed = record {
     mapped = rw ranges changed_mapped;
-    bound = h.bound;
-    agrees = λ other. says other ∙ ap (option_map (change_at block_of block f)) (h.agrees other) ∙ sym (at-changed block_of block other f (ranges_in kept es) keeps.block) ∙ ap (range_of other) (sym ranges);
+    keyed = AllByRecursion-map IsKeyed (value_written e.key (f (range_in e))) es (AllByRecursion-weaker IsKeyed (λ x. IsKeyed (value_written e.key (f (range_in e)) x)) es (λ x k. still_keyed x k (x.key == e.key) refl) kept.keyed);
+    agrees = λ other. kept.agrees other ∙ sym (start_same other (ranges_in es)) ∙ ap (start_at other) (sym ranges);
   };
 }
   where
-    each : (xs : List (KeyValue ℕ)) → AllByRecursion (IsKept kept) xs → ranges_in told xs ≡ changed_at block f (ranges_in kept xs)
-    each [] all = refl
-    each (x ∷ xs) all =
-        let y : Range = range_in kept x in
-        let now : told x.value ≡ Some (change_at block_of block f y) = says x.value ∙ ap (option_map (change_at block_of block f)) all.0 in
-        let one : range_in told x ≡ change_at block_of block f y = ap (range_with x) now ∙ whole x (change_at block_of block f y) (ap (λ (s : Section). s.start) (section-change block f keeps y)) (block-change block f keeps y) in
-        ap (λ (r : Range). r ∷ ranges_in told xs) one ∙ ap (λ (rs : List Range). change_at block_of block f y ∷ rs) (each xs all.1)
+    still_keyed : (x : KeyValue Range) → IsKeyed x → (b : Bool) → (x.key == e.key) ≡ b → IsKeyed (cond b (record x { value = f (range_in e) }) x)
+    still_keyed x k true t = record { start = ap (λ (s : Section). s.start) (keeps.section (range_in e)) ∙ sym (equal x.key e.key t); bound = k.bound }
+    still_keyed x k false t = k
 
-    ranges : ranges_in told es ≡ changed_at block f (ranges_in kept es)
-    ranges = each es (all_kept es kept h)
+    ranges : ranges_in (with_value e.key (f (range_in e)) es) ≡ changed_at block f (ranges_in es)
+    ranges = ranges-changed block f e es keeps (only_one block es e kept.mapped (both_of block es e kept.mapped h))
 
-    changed_mapped : AreMapped (changed_at block f (ranges_in kept es))
+    changed_mapped : AreMapped (changed_at block f (ranges_in es))
     changed_mapped = record {
-      some = AllByRecursion-map (λ (r : Range). 0 < r.section.len) (λ r. cond (r.block == block) (f r) r) (ranges_in kept es) (AllByRecursion-weaker (λ (r : Range). 0 < r.section.len) (λ r. 0 < (cond (r.block == block) (f r) r).section.len) (ranges_in kept es) (λ r l. rw (section-change block f keeps r) l) h.mapped.some);
-      rising = EachPair-map (λ (r : Range) (t : Range). IsBelow r.section t.section) (λ r. cond (r.block == block) (f r) r) (ranges_in kept es) (λ r t b. rw (section-change block f keeps r, section-change block f keeps t) b) h.mapped.rising;
-      own_block = EachPair-map (λ (r : Range) (t : Range). r.block ≡ t.block → ⊥) (λ r. cond (r.block == block) (f r) r) (ranges_in kept es) (λ r t d. rw (block-change block f keeps r, block-change block f keeps t) d) h.mapped.own_block;
+      some = AllByRecursion-map (λ (r : Range). 0 < r.section.len) (λ r. cond (r.block == block) (f r) r) (ranges_in es) (AllByRecursion-weaker (λ (r : Range). 0 < r.section.len) (λ r. 0 < (cond (r.block == block) (f r) r).section.len) (ranges_in es) (λ r l. rw (section-change block f keeps r) l) kept.mapped.some);
+      rising = EachPair-map (λ (r : Range) (t : Range). IsBelow r.section t.section) (λ r. cond (r.block == block) (f r) r) (ranges_in es) (λ r t b. rw (section-change block f keeps r, section-change block f keeps t) b) kept.mapped.rising;
+      own_block = EachPair-map (λ (r : Range) (t : Range). r.block ≡ t.block → ⊥) (λ r. cond (r.block == block) (f r) r) (ranges_in es) (λ r t d. rw (block-change block f keeps r, block-change block f keeps t) d) kept.mapped.own_block;
     }
+
+    start_same : (other : ℕ) (xs : List Range) → start_at other (changed_at block f xs) ≡ start_at other xs
+    start_same other [] = refl
+    start_same other (x ∷ xs) =
+        ap (λ n. option_map start_key (cond (n == other) (Some (cond (x.block == block) (f x) x)) (range_of other (changed_at block f xs)))) (block-change block f keeps x)
+        ∙ pick (start_same other xs) (x.block == other)
+      where
+        pick : start_at other (changed_at block f xs) ≡ start_at other xs → (b : Bool) → option_map start_key (cond b (Some (cond (x.block == block) (f x) x)) (range_of other (changed_at block f xs))) ≡ option_map start_key (cond b (Some x) (range_of other xs))
+        pick rest true = ap (λ s. Some s.start) (section-change block f keeps x)
+        pick rest false = rest
+
+-- the same where the changed range was written over it
+pub written_now : (block : ℕ) (f : Range → Range) (es ts : List (KeyValue Range)) (starts : ℕ → Option ℕ) (r new : Range) → KeepsPlace f → IsIndexed es starts → range_of block (ranges_in es) ≡ Some r
+    → new ≡ f r → ts ≡ with_value r.section.start new es → IsChangedNow block f es ts starts
+written_now block f es ts starts r new keeps kept there is now =
+    let p = entry_of block es r kept.mapped there in
+    let same : ts ≡ with_value p.0.key (f (range_in p.0)) es = now ∙ ap (λ (x : Range). with_value r.section.start x es) is ∙ ap (λ (x : Range). with_value x.section.start (f x) es) (sym p.2) in
+    rw same (changed_now block f es starts p.0 keeps kept p.1)

@@ -1,5 +1,5 @@
 -- How the present table keeps its ranges and regions. No public clause cites this module.
-use Rattle.std.specs.Prelude.{ℕ, ◌≡◌, ◌^◌, ◌<◌, List, filter, map, nat_le, Option, Some, None, ⊤}
+use Rattle.std.specs.Prelude.{ℕ, ◌≡◌, ◌^◌, ◌<◌, ◌==◌, ◌&&◌, if◌then◌else◌, Bool, true, List, filter, map, nat_lt, nat_le, Option, Some, None, option_map, ⊤}
 use Rattle.std.specs.declared.alloc.Global.{Global}
 use Rattle.std.specs.declared.vec.Vec.{Vec}
 use Rattle.std.specs.List.{AllByRecursion}
@@ -17,36 +17,34 @@ use Rattle.acc_present.specs.Present.{AreMapped}
 
 -- ---- the ranges
 
--- the range that is kept for a block
-abbrev pub kept_in : IndexState Range → ℕ → Option Range
-kept_in blocks block = value_at block blocks.entries
-
--- what is kept, or a range of nothing
-abbrev pub or_blank : Option Range → Range
-or_blank None = record { section = record { start = 0; len = 0 }; block = 0; structured = 0; dynamic = 0 }
-or_blank (Some r) = r
-
--- the range of an entry: its key is the start, its value the block, and the rest is what is kept for that
-abbrev pub range_with : KeyValue ℕ → Option Range → Range
-range_with e o = record { section = record { start = e.key; len = (or_blank o).section.len }; block = e.value; structured = (or_blank o).structured; dynamic = (or_blank o).dynamic }
-
-abbrev pub range_in : (ℕ → Option Range) → KeyValue ℕ → Range
-range_in kept e = range_with e (kept e.value)
+-- the range of an entry, whose key is its start
+abbrev pub range_in : KeyValue Range → Range
+range_in e = record { section = record { start = e.key; len = e.value.section.len }; block = e.value.block; structured = e.value.structured; dynamic = e.value.dynamic }
 
 -- the ranges of some entries
-abbrev pub ranges_in : (ℕ → Option Range) → List (KeyValue ℕ) → List Range
-ranges_in kept entries = map (range_in kept) entries
+abbrev pub ranges_in : List (KeyValue Range) → List Range
+ranges_in entries = map range_in entries
 
--- what is kept for the block of an entry that was found
-abbrev pub range_told : (ℕ → Option Range) → Option (KeyValue ℕ) → Option Range
-range_told kept None = None
-range_told kept (Some e) = kept e.value
+-- the entry has the start of its range for a key, which is an address
+pub record IsKeyed (e : KeyValue Range) : Type 0 where
+  pub start : e.value.section.start ≡ e.key
+  pub bound : e.key < 2 ^ 64
 
--- the ranges are mapped, each by its start, which is an address, and each is kept for its block
-pub record IsIndexed (entries : List (KeyValue ℕ)) (kept : ℕ → Option Range) : Type 0 where
-  pub mapped : AreMapped (ranges_in kept entries)
-  pub bound : AllByRecursion (λ (e : KeyValue ℕ). e.key < 2 ^ 64) entries
-  pub agrees : (block : ℕ) → kept block ≡ range_of block (ranges_in kept entries)
+-- ---- the start of each block's range
+
+-- the start that is kept for a block
+abbrev pub start_in : IndexState ℕ → ℕ → Option ℕ
+start_in starts block = value_at block starts.entries
+
+-- the start of the range that is mapped to a block
+abbrev pub start_at : ℕ → List Range → Option ℕ
+start_at block ranges = option_map (λ r. r.section.start) (range_of block ranges)
+
+-- the ranges are mapped, each by its start, and the start of each block's range is kept
+pub record IsIndexed (entries : List (KeyValue Range)) (starts : ℕ → Option ℕ) : Type 0 where
+  pub mapped : AreMapped (ranges_in entries)
+  pub keyed : AllByRecursion IsKeyed entries
+  pub agrees : (block : ℕ) → starts block ≡ start_at block (ranges_in entries)
 
 -- ---- a search
 
@@ -72,6 +70,16 @@ abbrev pub IsChangeable : CounterChange → ℕ → Range → Type 0
 IsChangeable (Raise counter) most r = counter_in counter r < most
 IsChangeable (Lower counter) most r = ⊤
 IsChangeable Clear most r = ⊤
+
+-- the test of that
+abbrev pub allows : CounterChange → ℕ → Range → Bool
+allows (Raise counter) most r = nat_lt (counter_in counter r) most
+allows (Lower counter) most r = true
+allows Clear most r = true
+
+-- what it makes of the range that is mapped to a block, where that is allowed
+abbrev pub recounted : ℕ → CounterChange → ℕ → Range → Option Range
+recounted block change most r = if r.block == block && allows change most r then Some (changed_by change r) else None
 
 -- ---- the open regions
 

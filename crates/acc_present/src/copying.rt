@@ -1,12 +1,11 @@
-//! Copies of the ranges and of the open regions, in vectors of their own.
+//! Copies of the open regions, in vectors of their own.
 
-ghost use Rattle.std.specs.Prelude.{◌≡◌, length, map, IfOk, IfErr, IsSome, vec_capacity};
-ghost use Rattle.std.specs.List.{AllByRecursion};
+ghost use Rattle.std.specs.Prelude.{◌≡◌, length, map, IfOk, IfErr, vec_capacity};
 ghost use Rattle.acc_present.specs.Present.{region_of};
-ghost use Rattle.acc_present.specs.Kept.{kept_in, or_blank, regions_in};
+ghost use Rattle.acc_present.specs.Kept.{regions_in};
 
 use crate::register::OpenRegion;
-use acc_base::{Fault, Holding, Range};
+use acc_base::{Fault, Holding};
 use acc_index::Index;
 use std::alloc::Global;
 
@@ -35,22 +34,6 @@ pub fn copy_regions_of(
         if let Some(holdings) = &place.value {
             copied.push_reserved(copy_region(place.number, holdings, alloc)?);
         }
-    }
-    Ok(copied)
-}
-
-/// The ranges that are kept for some blocks, in their order. One is for each.
-pub fn ranges_of(ranges: &Index<Range>, blocks: &[u64], alloc: Global) -> Result<Vec<Range>, Fault>
-    requires { AllByRecursion (λ b. IsSome (kept_in ranges.now b)) blocks.now }
-    ensures ok { IfOk result (λ copied. copied.items ≡ map (λ b. or_blank (kept_in ranges.now b)) blocks.now) }
-    ensures only { IfErr result (λ fault. fault ≡ Fault.Memory) }
-{
-    let mut copied = Vec::with_capacity(alloc, blocks.len())?;
-    for block in blocks {
-        let Some(range) = ranges.get(*block) else {
-            unreachable!()
-        };
-        copied.push(*range)?;
     }
     Ok(copied)
 }

@@ -3,10 +3,9 @@
 #![tactic(auto)]
 
 mod copying;
-mod hints;
 mod presence;
 mod ranges;
 mod register;
 
 pub use presence::Present;
-pub use register::{Holds, OpenRegion};
+pub use register::OpenRegion;

@@ -2,7 +2,6 @@
 
 ghost use Rattle.std.specs.Prelude.{◌≡◌, false, ℕ, ◌+◌, ◌*◌, ◌^◌, ◌<◌, ◌≤◌, ◌⊎◌, ◌↔◌, length, map, option_map, MatchResult, None, Some, Err, IfOk, IfErr, OnOk, OnErr, IfSome, MatchOption, vec_capacity};
 ghost use Rattle.std.specs.Bool.{OnTrue};
-ghost use Rattle.std.specs.List.{flat_map};
 ghost use Rattle.acc_base.specs.declared.mappings.Range.{Range};
 ghost use Rattle.acc_base.specs.declared.mappings.Counter.TheVariants.{Structured, Dynamic};
 ghost use Rattle.acc_base.specs.declared.mappings.Found.TheVariants.{Absent};
@@ -10,12 +9,10 @@ ghost use Rattle.acc_base.specs.Ranges.{where_is, where_is_apart, range_of, rang
 ghost use Rattle.acc_base.specs.Register.{region_at, newest_region, holdings_at, with_region, without_region};
 ghost use Rattle.acc_ordered.specs.Listing.{seen};
 ghost use Rattle.acc_present.specs.Present.{IsWithinLimit, new_table, with_ranges, with_regions, HasRange, HasRegion, IsToldBy, IsRoomKept, IsRangeRoomTaken, IsRegionRoomTaken, IsRoomMissing, IsMemoryNeeded, IsLawful, region_of};
-ghost use Rattle.acc_present.specs.Kept.{kept_in, range_told, IsNext, IsChangeable, changed_by};
+ghost use Rattle.acc_present.specs.Kept.{IsNext, IsChangeable, changed_by};
 
-use crate::copying::ranges_of;
-use crate::hints::Hints;
-use crate::ranges::{CounterChange, changed, told_by, value_of};
-use crate::register::{Holds, OpenRegion, Register};
+use crate::ranges::{CounterChange, Recount, changed, told_by, value_of};
+use crate::register::{OpenRegion, Register};
 use acc_base::{Counter, Counters, Fault, Found, Holding, Range, Section, Steps};
 use acc_index::Index;
 use acc_ordered::{KeyValue, KeyValueRef, OrderedTree};
@@ -28,17 +25,15 @@ use std::marker::Model;
 /// Contracts see the table, and the room that was made for more beside it. A refused call leaves the table as it was.
 /// Only `new`, `add`, `enter` and `reserve` allocate for it, and `copy_ranges` and `copy_regions` for their results.
 ///
-/// Each range is kept under the number of its block in an [`Index`], where it is found mostly without a search. An
-/// [`OrderedTree`] has the blocks by the rising starts of their ranges. A section that begins where a range does is mostly
-/// found without it, by a hint.
+/// The ranges stand in an [`OrderedTree`] by rising start. The start of each block's range stands in an [`Index`] beside
+/// it, and is found mostly without a search.
 #[derive(Drop)]
 pub struct Present {
     counter_max: u64,
-    // The number of each block, by the start of its range.
-    starts: OrderedTree<u64>,
-    // The range of each block.
-    ranges: Index<Range>,
-    hints: Hints,
+    // By start.
+    ranges: OrderedTree<Range>,
+    // The host address at which the range of each block begins.
+    starts: Index<u64>,
     register: Register,
 }
 
@@ -46,27 +41,26 @@ impl Model for Present {
     ghost use Rattle.std.specs.Prelude.{◌^◌, ◌<◌, min};
     ghost use Rattle.std.specs.List.{AllByRecursion};
     ghost use Rattle.acc_present.specs.Present.{PresentState, IsWithinLimit};
-    ghost use Rattle.acc_present.specs.Kept.{ranges_in, kept_in, IsIndexed};
+    ghost use Rattle.acc_present.specs.Kept.{ranges_in, start_in, IsIndexed};
 
     ghost Value = { PresentState };
 
     ghost view = { λ p. record {
-      table = record { counter_max = p.counter_max; ranges = ranges_in (kept_in p.ranges) p.starts.entries; regions = p.register.regions };
-      room = record { ranges = min p.starts.room p.ranges.room; regions = p.register.room; holdings = p.register.holdings };
-      nodes = p.starts.room;
-      gone = record { ranges = p.ranges.gone; regions = p.register.gone };
+      table = record { counter_max = p.counter_max; ranges = ranges_in p.ranges.entries; regions = p.register.regions };
+      room = record { ranges = min p.ranges.room p.starts.room; regions = p.register.room; holdings = p.register.holdings };
+      nodes = p.ranges.room;
+      gone = record { ranges = p.starts.gone; regions = p.register.gone };
     } };
 
-    ghost invariant = { λ p. (p.counter_max < 2 ^ 32) × AllByRecursion (IsWithinLimit p.counter_max) (ranges_in (kept_in p.ranges) p.starts.entries) × IsIndexed p.starts.entries (kept_in p.ranges) };
+    ghost invariant = { λ p. (p.counter_max < 2 ^ 32) × AllByRecursion (IsWithinLimit p.counter_max) (ranges_in p.ranges.entries) × IsIndexed p.ranges.entries (start_in p.starts) };
 }
 
-/// The range of the block that was found, if one was.
+/// The range that was found, if one was.
 #[inline]
-fn range_if(ranges: &Index<Range>, found: Option<KeyValueRef<'_, u64>>) -> Option<Range>
-    ensures { result ≡ range_told (kept_in ranges.now) (seen found.entry) }
+fn range_if(found: Option<KeyValueRef<'_, Range>>) -> Option<Range>
+    ensures { result ≡ option_map (λ e. e.value) (seen found.entry) }
 {
-    let block = *found?.value;
-    Some(*ranges.get(block)?)
+    Some(*found?.value)
 }
 
 /// A range of a section that is mapped to a block, with one of its counters at 1.
@@ -92,11 +86,17 @@ impl Present {
         requires { counter_max < 2 ^ 32 }
         ensures { result.table ≡ new_table counter_max }
     {
+        let section = Section { start: 0, len: 0 };
+        let blank = Range {
+            section,
+            block: 0,
+            structured: 0,
+            dynamic: 0,
+        };
         Present {
             counter_max,
-            starts: OrderedTree::new(alloc, 0),
-            ranges: Index::new(alloc),
-            hints: Hints::new(alloc),
+            ranges: OrderedTree::new(alloc, blank),
+            starts: Index::new(alloc),
             register: Register::new(alloc),
         }
     }
@@ -169,7 +169,7 @@ impl Present {
 
     /// Where a section lies among the ranges without those of the listed blocks, as far as the last range says that does
     /// not begin behind the section's start, with that range. Else the first range that does.
-    #[inline(always)]
+    #[inline]
     fn locate(
         &self,
         section: Section,
@@ -190,81 +190,68 @@ impl Present {
         if section.len == 0 {
             return Ok((Found::Empty, None));
         }
-        if let Some((found, range)) = self.begun(section, blocks) {
-            steps.tick();
-            return Ok((found, Some(range)));
-        }
         let around = self
-            .starts
+            .ranges
             .around_counted(section.start.saturating_add(1), steps);
-        if let Some(range) = range_if(&self.ranges, around.before) {
+        if let Some(range) = range_if(around.before) {
             if let Some(found) = told_by(range, section, blocks) {
                 return Ok((found, Some(range)));
             }
         }
-        Err(range_if(&self.ranges, around.from))
-    }
-
-    /// Where a section lies, as [`Present::locate`] says, with a range that begins where it does. `None` where no hint
-    /// tells one, or that range says nothing.
-    #[inline]
-    fn begun(&self, section: Section, blocks: &[u64]) -> Option<(Found, Range)>
-        requires some { 0 < section.len }
-        ensures found { IfSome result (λ told. told.0 ≡ where_is_apart section blocks.now self.now.table.ranges) }
-        ensures range { IfSome result (λ told. range_of told.1.block self.now.table.ranges ≡ Some told.1) }
-        ensures block { IfSome result (λ told. IsToldBy told.0 (Some told.1)) }
-    {
-        self.laws();
-        let range = self.range(self.hints.block(section.start))?;
-        if range.section.start != section.start {
-            return None;
-        }
-        let found = told_by(range, section, blocks)?;
-        Some((found, range))
+        Err(range_if(around.from))
     }
 
     /// The mapped range behind another.
     fn behind(&self, range: Range) -> Option<Range>
         ensures { result ≡ range_from (range.section.start + 1) self.now.table.ranges }
     {
-        let starts = &self.starts;
-        range_if(
-            &self.ranges,
-            starts.next(range.section.start.checked_add(1)?),
-        )
+        let ranges = &self.ranges;
+        range_if(ranges.next(range.section.start.checked_add(1)?))
     }
 
-    /// The range that is mapped to a block, if one is. It is found mostly without a search.
+    /// The range that is mapped to a block, if one is.
     pub fn range(&self, block: u64) -> Option<Range>
         ensures { result ≡ range_of block self.now.table.ranges }
     {
-        Some(*self.ranges.get(block)?)
+        let start = self.starts.get(block)?;
+        range_if(self.ranges.get(*start))
     }
 
     /// The host address at which the range begins that is mapped to a block, if one is. It is found mostly without a search.
     pub fn start(&self, block: u64) -> Option<u64>
         ensures { result ≡ option_map (λ r. r.section.start) (range_of block self.now.table.ranges) }
     {
-        Some(self.range(block)?.section.start)
+        Some(*self.starts.get(block)?)
     }
 
-    /// The range that is mapped to a block, which is looked for at a place first. One is.
-    fn mapped_near(&self, block: u64, near: usize) -> Range
+    /// The range that is mapped to a block, if one is, as [`Present::range`] returns it. It is found by one search where
+    /// it is the last one that begins at or before the address `at`, and else by three.
+    pub fn range_near(&self, block: u64, at: u64) -> Option<Range>
+        ensures { result ≡ range_of block self.now.table.ranges }
+    {
+        match range_if(self.ranges.around(at.saturating_add(1)).before) {
+            Some(range) if range.block == block => Some(range),
+            Some(_) | None => self.range(block),
+        }
+    }
+
+    /// The range that is mapped to a block. One is.
+    fn mapped(&self, block: u64) -> Range
         requires { HasRange self.now.table block }
         ensures range { range_of block self.now.table.ranges ≡ Some result }
         ensures block { result.block ≡ block }
     {
-        let Some(range) = self.ranges.get_near(block, near) else {
+        let Some(range) = self.range(block) else {
             unreachable!()
         };
-        *range
+        range
     }
 
     /// The mapped range of least start at or above an address.
     pub fn next_range(&self, from: u64) -> Option<Range>
         ensures { result ≡ range_from from self.now.table.ranges }
     {
-        range_if(&self.ranges, self.starts.next(from))
+        range_if(self.ranges.next(from))
     }
 
     /// Maps a section to a block. The section is absent, and no range is mapped to the block. Both counters of the new
@@ -333,12 +320,12 @@ impl Present {
         ensures room_regions { self.old.room.regions ≤ self.new.room.regions }
         ensures room_holdings { self.old.room.holdings ≤ self.new.room.holdings }
     {
-        self.starts.insert(KeyValue {
-            key: range.section.start,
-            value: range.block,
+        let start = range.section.start;
+        self.ranges.insert(KeyValue {
+            key: start,
+            value: range,
         });
-        self.hints.tell(range.section.start, range.block);
-        self.ranges.insert(range.block, range);
+        self.starts.insert(range.block, start);
     }
 
     /// Ends the mapping to a block. A range is mapped to it, and both counters of the range are 0.
@@ -360,8 +347,8 @@ impl Present {
         ensures room { IsRoomKept self.old.room self.new.room }
     {
         // Nothing told its place. A look at the first one costs no search.
-        let range = self.ranges.take_out_near(block, 0);
-        self.starts.remove(range.section.start);
+        let start = self.starts.take_out_near(block, 0);
+        self.ranges.remove(start);
     }
 
     // ---- reference counters
@@ -372,7 +359,7 @@ impl Present {
         ensures structured { result.structured ≡ structured_of block self.now.table.ranges }
         ensures dynamic { result.dynamic ≡ dynamic_of block self.now.table.ranges }
     {
-        let range = self.mapped_near(block, 0);
+        let range = self.mapped(block);
         Counters {
             structured: range.structured,
             dynamic: range.dynamic,
@@ -393,7 +380,8 @@ impl Present {
         ensures unchanged { OnErr result (self.new.table ≡ self.old.table) }
         ensures room { IsRoomKept self.old.room self.new.room }
     {
-        self.count(Counter::Structured, block)
+        let range = self.mapped(block);
+        self.count(Counter::Structured, range)
     }
 
     /// Raises the dynamic counter of the range that is mapped to a block. One is.
@@ -410,18 +398,19 @@ impl Present {
         ensures unchanged { OnErr result (self.new.table ≡ self.old.table) }
         ensures room { IsRoomKept self.old.room self.new.room }
     {
-        self.count(Counter::Dynamic, block)
+        let range = self.mapped(block);
+        self.count(Counter::Dynamic, range)
     }
 
     /// Raises a counter of the range that is mapped to a block, as [`Present::count_structured`] and
-    /// [`Present::count_dynamic`] do. One is.
+    /// [`Present::count_dynamic`] do. One is. It is looked for near the address `at` first, as by
+    /// [`Present::range_near`].
     ///
     /// # Errors
     ///
     /// [`Fault::CounterFull`] with item 0, exactly where the counter has its greatest value. The table is then as
     /// before.
-    #[inline]
-    pub fn count(&mut self, counter: Counter, block: u64) -> Result<(), Fault>
+    pub fn count_near(&mut self, counter: Counter, block: u64, at: u64) -> Result<(), Fault>
         requires { HasRange self.old.table block }
         ensures ok { OnOk result (self.new.table ≡ with_ranges self.old.table (changed_at block (risen counter) self.old.table.ranges)) }
         ensures below { OnOk result (counter_of counter block self.old.table.ranges < self.old.table.counter_max) }
@@ -430,37 +419,55 @@ impl Present {
         ensures unchanged { OnErr result (self.new.table ≡ self.old.table) }
         ensures room { IsRoomKept self.old.room self.new.room }
     {
-        let place = self.ranges.place(block);
-        let range = self.mapped_near(block, place);
+        if self.change_near(CounterChange::Raise(counter), block, at) {
+            return Ok(());
+        }
+        self.count(counter, self.mapped(block))
+    }
+
+    /// Raises a counter of a mapped range.
+    fn count(&mut self, counter: Counter, range: Range) -> Result<(), Fault>
+        requires { range_of range.block self.old.table.ranges ≡ Some range }
+        ensures ok { OnOk result (self.new.table ≡ with_ranges self.old.table (changed_at range.block (risen counter) self.old.table.ranges)) }
+        ensures below { OnOk result (counter_of counter range.block self.old.table.ranges < self.old.table.counter_max) }
+        ensures full { OnErr result (counter_of counter range.block self.old.table.ranges ≡ self.old.table.counter_max) }
+        ensures only { IfErr result (λ fault. fault ≡ Fault.CounterFull 0) }
+        ensures unchanged { OnErr result (self.new.table ≡ self.old.table) }
+        ensures room { IsRoomKept self.old.room self.new.room }
+    {
         if self.counter_max <= value_of(counter, range) {
             return Err(Fault::CounterFull { item: 0 });
         }
-        self.change(CounterChange::Raise(counter), range, place);
+        self.change(CounterChange::Raise(counter), range);
         Ok(())
     }
 
-    /// Changes a counter of a mapped range, which is looked for at a place first. One that rises is below the limit.
+    /// Changes a counter of the range that is mapped to a block, if that is the last one that begins at or before the
+    /// address `at`. A counter that rises has to be below the limit. It answers whether it changed one, by one search.
     #[inline]
-    fn change(&mut self, change: CounterChange, range: Range, near: usize)
+    fn change_near(&mut self, change: CounterChange, block: u64, at: u64) -> bool
+        ensures changed { OnTrue result (self.new.table ≡ with_ranges self.old.table (changed_at block (changed_by change) self.old.table.ranges)) }
+        ensures below { OnTrue result ((range : Range) × (range_of block self.old.table.ranges ≡ Some range) × IsChangeable change self.old.table.counter_max range) }
+        ensures unchanged { result ≡ false → self.new.table ≡ self.old.table }
+        ensures room { IsRoomKept self.old.room self.new.room }
+    {
+        let most = self.counter_max as u32;
+        let recount = Recount {
+            block,
+            change,
+            most,
+        };
+        self.ranges.rewrite_before(at.saturating_add(1), &recount)
+    }
+
+    /// Changes a counter of a mapped range. One that rises is below the limit.
+    fn change(&mut self, change: CounterChange, range: Range)
         requires there { range_of range.block self.old.table.ranges ≡ Some range }
         requires below { IsChangeable change self.old.table.counter_max range }
         ensures table { self.new.table ≡ with_ranges self.old.table (changed_at range.block (changed_by change) self.old.table.ranges) }
         ensures room { IsRoomKept self.old.room self.new.room }
     {
-        let own = self.ranges.value_mut_near(range.block, near);
-        *own = changed(change, range);
-    }
-
-    /// Changes a counter of the range that is mapped to a block. One is, and the counter does not rise.
-    #[inline]
-    fn lower(&mut self, change: CounterChange, block: u64)
-        requires there { HasRange self.old.table block }
-        requires free { (range : Range) → IsChangeable change self.old.table.counter_max range }
-        ensures table { self.new.table ≡ with_ranges self.old.table (changed_at block (changed_by change) self.old.table.ranges) }
-        ensures room { IsRoomKept self.old.room self.new.room }
-    {
-        let place = self.ranges.place(block);
-        self.change(change, self.mapped_near(block, place), place);
+        self.ranges.set(range.section.start, changed(change, range));
     }
 
     /// Lowers the structured counter of the range that is mapped to a block. One is. Zero stays zero.
@@ -469,7 +476,10 @@ impl Present {
         ensures table { self.new.table ≡ with_ranges self.old.table (changed_at block (fallen Structured) self.old.table.ranges) }
         ensures room { IsRoomKept self.old.room self.new.room }
     {
-        self.lower(CounterChange::Lower(Counter::Structured), block);
+        self.change(
+            CounterChange::Lower(Counter::Structured),
+            self.mapped(block),
+        );
     }
 
     /// Lowers the dynamic counter of the range that is mapped to a block. One is. Zero stays zero.
@@ -478,7 +488,7 @@ impl Present {
         ensures table { self.new.table ≡ with_ranges self.old.table (changed_at block (fallen Dynamic) self.old.table.ranges) }
         ensures room { IsRoomKept self.old.room self.new.room }
     {
-        self.lower(CounterChange::Lower(Counter::Dynamic), block);
+        self.change(CounterChange::Lower(Counter::Dynamic), self.mapped(block));
     }
 
     /// Sets the dynamic counter of the range that is mapped to a block to 0 (OpenACC 3.3, the finalize clause). One is.
@@ -487,7 +497,32 @@ impl Present {
         ensures table { self.new.table ≡ with_ranges self.old.table (changed_at block cleared self.old.table.ranges) }
         ensures room { IsRoomKept self.old.room self.new.room }
     {
-        self.lower(CounterChange::Clear, block);
+        self.change(CounterChange::Clear, self.mapped(block));
+    }
+
+    /// Lowers a counter of the range that is mapped to a block, as [`Present::drop_structured`] and
+    /// [`Present::drop_dynamic`] do. One is. It is looked for near the address `at` first, as by
+    /// [`Present::range_near`]. Zero stays zero.
+    pub fn drop_near(&mut self, counter: Counter, block: u64, at: u64)
+        requires { HasRange self.old.table block }
+        ensures table { self.new.table ≡ with_ranges self.old.table (changed_at block (fallen counter) self.old.table.ranges) }
+        ensures room { IsRoomKept self.old.room self.new.room }
+    {
+        if !self.change_near(CounterChange::Lower(counter), block, at) {
+            self.change(CounterChange::Lower(counter), self.mapped(block));
+        }
+    }
+
+    /// Sets the dynamic counter of the range that is mapped to a block to 0, as [`Present::clear_dynamic`] does. One is.
+    /// It is looked for near the address `at` first, as by [`Present::range_near`].
+    pub fn clear_near(&mut self, block: u64, at: u64)
+        requires { HasRange self.old.table block }
+        ensures table { self.new.table ≡ with_ranges self.old.table (changed_at block cleared self.old.table.ranges) }
+        ensures room { IsRoomKept self.old.room self.new.room }
+    {
+        if !self.change_near(CounterChange::Clear, block, at) {
+            self.change(CounterChange::Clear, self.mapped(block));
+        }
     }
 
     // ---- open data regions
@@ -512,18 +547,17 @@ impl Present {
         self.register.enter(number, holdings)
     }
 
-    /// As [`Present::enter`], with those that tell what the region holds of each. There is room for one more region, and
-    /// for one holding of each: it allocates nothing and is not refused. It takes at most one from the room of regions,
-    /// and leaves no room for holdings of a further region.
-    pub fn enter_reserved<H: Holds>(&mut self, number: u64, entered: &[H])
+    /// As [`Present::enter`], where there is room for one more region and for its holdings: it allocates nothing and is
+    /// not refused. It takes at most one from the room of regions, and leaves no room for holdings of a further region.
+    pub fn enter_reserved(&mut self, number: u64, holdings: &[Holding])
         requires room { 1 ≤ self.old.room.regions }
-        requires room_holdings { length entered.now ≤ self.old.room.holdings }
+        requires room_holdings { length holdings.now ≤ self.old.room.holdings }
         requires new { region_at number self.old.table.regions ≡ None }
-        ensures table { self.new.table ≡ with_regions self.old.table (with_region (record { number = number; holdings = flat_map H.held entered.now }) self.old.table.regions) }
+        ensures table { self.new.table ≡ with_regions self.old.table (with_region (record { number = number; holdings = holdings.now }) self.old.table.regions) }
         ensures room_ranges { self.old.room.ranges ≤ self.new.room.ranges }
         ensures room_regions { self.old.room.regions ≤ self.new.room.regions + 1 }
     {
-        self.register.enter_reserved(number, entered);
+        self.register.enter_reserved(number, holdings);
     }
 
     /// What an open region holds, in the written order of its items, or `None` where no region of that number is open.
@@ -569,8 +603,7 @@ impl Present {
         ensures ok { IfOk result (λ ranges. ranges.items ≡ self.now.table.ranges) }
         ensures only { IfErr result (λ fault. fault ≡ Fault.Memory) }
     {
-        let blocks = self.starts.copy_values(alloc)?;
-        ranges_of(&self.ranges, &blocks, alloc)
+        self.ranges.copy_values(alloc)
     }
 
     /// The open regions in a vector of their own, by rising number. Each has its number, and what each item of its
@@ -609,10 +642,9 @@ impl Present {
         ensures cleared { OnErr result (IsMemoryNeeded ranges regions holdings self.old) }
         ensures room { IsRoomKept self.old.room self.new.room }
     {
-        self.ranges.laws();
-        self.starts.reserve(ranges)?;
-        self.ranges.reserve(ranges as usize)?;
-        self.hints.reserve(&self.ranges, ranges as usize);
+        self.starts.laws();
+        self.ranges.reserve(ranges)?;
+        self.starts.reserve(ranges as usize)?;
         self.register.reserve(regions as usize, holdings as usize)?;
         Ok(())
     }

@@ -6,9 +6,10 @@ ghost use Rattle.std.specs.List.{list_any};
 ghost use Rattle.acc_base.specs.Section.{is_within, end_of};
 ghost use Rattle.acc_base.specs.Ranges.{where_is_apart, counter_in};
 ghost use Rattle.acc_present.specs.Present.{AreMapped, IsToldBy};
-ghost use Rattle.acc_present.specs.Kept.{changed_by, IsChangeable};
+ghost use Rattle.acc_present.specs.Kept.{changed_by, allows, IsChangeable};
 
 use acc_base::{Counter, Found, Range, Section};
+use acc_ordered::Rewriting;
 
 /// Each address of the first section is one of the second's, where the first is not empty.
 #[inline]
@@ -103,4 +104,43 @@ pub fn changed(change: CounterChange, mut range: Range) -> Range
         CounterChange::Clear => range.dynamic = 0,
     }
     range
+}
+
+/// Whether a range allows a change: a counter that rises is below its limit.
+#[inline]
+fn is_allowed(change: CounterChange, most: u32, range: Range) -> bool
+    ensures test { result ≡ allows change most range }
+    ensures changeable { OnTrue result (IsChangeable change most range) }
+{
+    match change {
+        CounterChange::Raise(counter) => value_of(counter, range) < u64::from(most),
+        CounterChange::Lower(_) => true,
+        CounterChange::Clear => true,
+    }
+}
+
+/// A change of a counter of the range that is mapped to a block. A counter rises below a limit alone.
+#[derive(Clone, Copy)]
+pub struct Recount {
+    /// The block.
+    pub block: u64,
+    /// What becomes of the counter.
+    pub change: CounterChange,
+    /// The greatest value of a counter.
+    pub most: u32,
+}
+
+impl Rewriting<Range> for Recount {
+    ghost use Rattle.acc_present.specs.Kept.{recounted};
+
+    ghost becomes = { λ c. recounted c.block c.change c.most };
+
+    #[inline]
+    fn rewrite(&self, range: Range) -> Option<Range> {
+        if range.block == self.block && is_allowed(self.change, self.most, range) {
+            Some(changed(self.change, range))
+        } else {
+            None
+        }
+    }
 }

@@ -38,71 +38,63 @@ fn number_told(store: &Store, directive: &Directive) -> u64
     }
 }
 
-/// Stores the event of a directive on a device, with this number and what its items did, in written order. Each kind is
-/// stored where it is known, so that no event is first made of what all kinds may have.
+/// The event of a directive on a device, with this number and what its items did, in written order.
 #[inline(always)]
-fn store_event(
-    trace: &mut Vec<Event>,
-    device: u64,
-    directive: Directive,
-    number: u64,
-    did: List<Did>,
-)
-    requires { vec_len trace.old < vec_capacity trace.old }
-    ensures { trace.new.items ≡ trace.old.items ++ event_told device directive number did ∷ [] }
+fn event_told(device: u64, directive: Directive, number: u64, did: List<Did>) -> Event
+    ensures { result ≡ event_told device directive number did }
 {
     match directive {
-        Directive::Enter { items, .. } => trace.push_reserved(Event::Entered {
+        Directive::Enter { items, .. } => Event::Entered {
             device,
             number,
             items,
             did,
-        }),
-        Directive::Exit { number } => trace.push_reserved(Event::Left {
+        },
+        Directive::Exit { number } => Event::Left {
             device,
             number,
             did,
-        }),
-        Directive::EnterData { items, queue, .. } => trace.push_reserved(Event::EnteredData {
+        },
+        Directive::EnterData { items, queue, .. } => Event::EnteredData {
             device,
             items,
             queue,
             did,
-        }),
+        },
         Directive::ExitData {
             items,
             finalize,
             queue,
             ..
-        } => trace.push_reserved(Event::ExitedData {
+        } => Event::ExitedData {
             device,
             items,
             finalize,
             queue,
             did,
-        }),
+        },
         Directive::Update {
             items,
             if_present,
             queue,
             ..
-        } => trace.push_reserved(Event::Updated {
+        } => Event::Updated {
             device,
             items,
             if_present,
             queue,
             did,
-        }),
-        Directive::Wait { queue, .. } => trace.push_reserved(Event::Waited {
+        },
+        Directive::Wait { queue, .. } => Event::Waited {
             device,
             queue,
             count: number,
-        }),
-        Directive::Step { queue, .. } => trace.push_reserved(Event::Stepped {
+        },
+        Directive::Step { queue, .. } => Event::Stepped {
             device,
             queue,
             block: number,
-        }),
+        },
     }
 }
 
@@ -119,8 +111,7 @@ fn reply_told(directive: &Directive, number: u64) -> Reply
 
 /// Of what the items do, what stands in memory of its own: all of it, but nothing where that is of one item.
 fn copy_apart(alloc: Global, did: &[Did]) -> Result<Vec<Did>, AllocError>
-    ensures apart { IfOk result (λ apart. apart.items ≡ apart_of did.now) }
-    ensures one { length did.now ≡ 1 → IsOk result }
+    ensures { IfOk result (λ apart. apart.items ≡ apart_of did.now) }
 {
     match did {
         [_] => Ok(Vec::new(alloc)),
@@ -255,7 +246,7 @@ pub fn carry_out(
         Ok(Some((number, apart))) => {
             let reply = reply_told(&directive, number);
             let did = list_of(plan.did(), apart);
-            store_event(trace, store.number(), directive, number, did);
+            trace.push_reserved(event_told(store.number(), directive, number, did));
             Ok(reply)
         }
         Ok(None) => Ok(Reply::Idle),

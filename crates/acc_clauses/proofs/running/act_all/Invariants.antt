@@ -4,7 +4,7 @@ use Rattle.acc_clauses.specs.Contents.{Numbers, bare_numbers}
 use Rattle.acc_clauses.specs.Devices.{state_beside, contents_beside}
 use Rattle.acc_clauses.specs.Overlays.{tasks_in, dids_in}
 use Rattle.acc_clauses.proofs.Remaining.{CanRun}
-use Rattle.acc_clauses.proofs.finishing.act_all.Given as goal
+use Rattle.acc_clauses.proofs.running.act_all.Given as goal
 
 -- the tasks that are left can be done, and lead to what all of them lead to
 abbrev pub invariant-loop-n : goal.invariant-loop-n

@@ -4,7 +4,7 @@ use Rattle.acc_base.specs.Limits.{Limits}
 use Rattle.acc_clauses.specs.Contents.{Contents, bare_numbers}
 use Rattle.acc_clauses.specs.Devices.{state_beside, contents_beside}
 use Rattle.acc_clauses.proofs.Remaining.{first_judged, first_room, first_pointers, first_puts, rest_can, births_next, rest_state, rest_done, turn_can}
-use Rattle.acc_clauses.proofs.finishing.act_all.Goals as goal
+use Rattle.acc_clauses.proofs.running.act_all.Goals as goal
 
 pub loop-n-init : goal.loop-n-init
 loop-n-init c = record {

@@ -2,3 +2,4 @@ pub mod Placed
 pub mod Keyed
 pub mod Keeping
 pub mod Crossing
+pub mod Following

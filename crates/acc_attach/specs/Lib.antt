@@ -1,2 +1,3 @@
 pub mod Attached
 pub mod Kept
+pub mod Counts

@@ -1,8 +1,8 @@
 -- What a directive asks, and the verdict on it.
-use Rattle.std.proofs.Common.{ℕ, zero, suc, ◌≡◌, ◌-◌, ◌<◌, ◌≤◌, refl, ap, subst, ◌∙◌, true, false, List, [], ◌∷◌, length, get_or, arith, Option, None, Result, Ok, Err, inl, inr}
+use Rattle.std.proofs.Common.{ℕ, zero, suc, ◌≡◌, ◌<◌, ◌≤◌, refl, ap, subst, ◌∙◌, true, false, List, [], ◌∷◌, length, get_or, arith, Option, None, Result, Ok, Err, inl, inr}
 use Rattle.std.specs.Prelude.{nat_lt, map, reverse, ⊤, MatchResult}
 use Rattle.std.proofs.lemmas.Bool.Decides.{nat_tests}
-use Rattle.std.proofs.lemmas.List.{length-map, length-reverse, get_or-map, get_or-reverse}
+use Rattle.std.proofs.lemmas.List.{length-map, length-reverse}
 use Rattle.std.specs.List.{list_all, list_any, AllByRecursion}
 use Rattle.acc_clauses.specs.Words.{Directive, Holding, Task, Did, Fault}
 use Rattle.acc_base.specs.declared.directives.Directive.TheVariants.{Enter, Exit, EnterData, ExitData, Update}
@@ -40,10 +40,6 @@ queue_map f queue (x ∷ xs) each = (each x, queue_map f queue xs each)
 -- the exit from a region asks as much as it holds
 length-leave : (holdings : List Holding) → length (leave_tasks holdings) ≡ length holdings
 length-leave holdings = length-map (reverse holdings) ExitRegion ∙ length-reverse holdings
-
--- it undoes the last of its holdings first
-pub leave_at : (holdings : List Holding) (n : ℕ) (e : Holding) (d : Task) → n < length (leave_tasks holdings) → ExitRegion (get_or holdings (length holdings - 1 - n) e) ≡ get_or (leave_tasks holdings) n d
-leave_at holdings n e d there = grind (arith, nat_tests, length-map, length-leave, get_or-map, get_or-reverse)
 
 -- ---- what holds of the tasks of a directive
 

@@ -8,7 +8,7 @@ use Rattle.acc_base.specs.declared.tasks.Task.TheVariants.{Enter}
 use Rattle.acc_base.specs.declared.events.Step.TheVariants.{Born}
 use Rattle.acc_base.specs.Section.{covers, is_within, host_memory}
 use Rattle.acc_base.specs.Records.{Memory, State}
-use Rattle.acc_base.specs.Ranges.{changed_at, with_range, bare_range, risen}
+use Rattle.acc_base.specs.Ranges.{with_range, bare_range, risen}
 use Rattle.acc_base.specs.Blocks.{block_at}
 use Rattle.acc_base.specs.Queues.{pins_of}
 use Rattle.acc_base.specs.Clauses.{copies_in, is_zeroed}

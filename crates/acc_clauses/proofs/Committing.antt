@@ -1,7 +1,7 @@
 -- Before the tasks of a plan each that leaves a region finds what it held, and the register is ready for its directive.
 -- After them the store is sound.
-use Rattle.std.proofs.Common.{ℕ, ◌≡◌, ◌<◌, ◌≤◌, ◌^◌, refl, sym, ◌∙◌, ap, subst, false, cond, List, [], ◌∷◌, map, length, Option, Some, Ok, arith}
-use Rattle.std.specs.Prelude.{◌==◌, reverse, option_map, IsSome, not}
+use Rattle.std.proofs.Common.{ℕ, ◌≡◌, ◌<◌, ◌≤◌, ◌^◌, refl, sym, ◌∙◌, ap, subst, false, cond, List, [], ◌∷◌, map, length, Some, Ok, arith}
+use Rattle.std.specs.Prelude.{◌==◌, reverse, not}
 use Rattle.std.specs.List.{AllByRecursion}
 use Rattle.std.proofs.lemmas.Bool.Decides.{nat_tests}
 use Rattle.std.proofs.lemmas.Grind.{reverse_onto}
@@ -29,7 +29,7 @@ use Rattle.acc_base.proofs.Loaned.{loans-act_all}
 use Rattle.acc_clauses.specs.Planned.{Planned, IsPlanOf, holdings_by, register_by, finished, steps_by}
 use Rattle.acc_clauses.proofs.Emptying.{same_loans}
 use Rattle.acc_clauses.specs.Contents.{Contents}
-use Rattle.acc_clauses.specs.Acts.{IsKnown, AreKnown, HasRegionRoom, regions_entered, CanFinish}
+use Rattle.acc_clauses.specs.Acts.{IsKnown, AreKnown, HasRegionRoom, regions_entered, holdings_entered, CanFinish}
 use Rattle.acc_clauses.specs.Stored.{IsHoldingWithin, AreHoldingsWithin, IsStoreSound}
 use Rattle.acc_clauses.proofs.Holding.{leaves_known, holdings_same}
 use Rattle.acc_clauses.proofs.Entering.{regions_within, entered_within}
@@ -90,8 +90,8 @@ free_then : (d : Directive) (c f : Contents) (p : Planned) → IsPlanOf c.limits
 free_then d c f p planned none acted = subst (λ (x : State). none_lent (transfers_in d x.records.queues) x.records.loans ≡ Ok tt) (sym (acted ∙ still c.limits d c.state p planned none)) planned.free
 
 -- the register is ready for a directive, and so are the transfers that it makes
-pub plan_can : (d : Directive) (c f : Contents) (p : Planned) → IsStoreSound c → IsPlanOf c.limits d c.state p → c.state.register.next < 2 ^ 48 → HasRegionRoom (regions_entered d) (length (holdings_by p.tasks p.dids)) c.room
-    → f.state ≡ act_all_state p.tasks p.dids c.state → f.state.register ≡ c.state.register → c.room.regions ≤ f.room.regions → c.room.holdings ≤ f.room.holdings → CanFinish d (length (holdings_by p.tasks p.dids)) f
+pub plan_can : (d : Directive) (c f : Contents) (p : Planned) → IsStoreSound c → IsPlanOf c.limits d c.state p → c.state.register.next < 2 ^ 48 → HasRegionRoom (regions_entered d) (holdings_entered d p.tasks) c.room
+    → f.state ≡ act_all_state p.tasks p.dids c.state → f.state.register ≡ c.state.register → c.room.regions ≤ f.room.regions → c.room.holdings ≤ f.room.holdings → CanFinish d (length p.tasks) f
 plan_can (directives.Enter device items) c f p h planned next room acted same regions holdings = record {
   next = rw same next;
   new = rw same (find-none (λ (r : Region). r.number == c.state.register.next) c.state.register.regions

@@ -1,4 +1,4 @@
--- The births and ends that a draft notes, after one more task.
+-- What a draft notes of its tasks, after one more of them.
 use Rattle.std.proofs.lemmas.Bool.Decides.{nat_tests}
 use Rattle.std.proofs.Common.{ℕ, ◌≡◌, ◌+◌, ◌<◌, ◌≤◌, refl, sym, ap, subst, ◌∙◌, List, [], ◌∷◌, ◌++◌, length, arith, Option, None, Some}
 use Rattle.std.specs.Prelude.{IsSome, option_to_list}

@@ -1,12 +1,20 @@
 -- What each directive does of the register and the queues.
 use Rattle.std.proofs.lemmas.Bool.Decides.{nat_tests}
-use Rattle.std.proofs.Common.{ℕ, ◌≡◌, refl, ◌∙◌, ap, List, [], ◌∷◌, Option, arith}
+use Rattle.std.proofs.Common.{ℕ, ◌≡◌, refl, ◌∙◌, ap, List, [], ◌∷◌, ◌++◌, Option, arith}
+use Rattle.std.specs.List.{flat_map}
 use Rattle.acc_base.specs.declared.directives.Directive.TheVariants.{Enter, Exit, Wait, Step}
 use Rattle.acc_clauses.specs.Words.{Item, RegionClause, Holding}
 use Rattle.acc_base.specs.Records.{State}
 use Rattle.acc_base.specs.Register.{Register, opened, closed}
 use Rattle.acc_base.specs.Waits.{stepped, drained, steps_of}
-use Rattle.acc_clauses.specs.Planned.{Planned, holdings_by, finished}
+use Rattle.acc_clauses.specs.declared.acted.Acted.{Acted}
+use Rattle.acc_clauses.specs.Overlays.{tasks_in, dids_in}
+use Rattle.acc_clauses.specs.Planned.{Planned, holding_by, held_by, holdings_by, finished}
+
+-- what tasks hold is what each of them holds
+pub held_each : (acts : List Acted) → flat_map held_by acts ≡ holdings_by (tasks_in acts) (dids_in acts)
+held_each [] = refl
+held_each (x ∷ xs) = ap (λ hs. holding_by x.task x.did ++ hs) (held_each xs)
 
 -- queued transfers leave the register
 register-stepped : (q : ℕ) (s : State) → (stepped q s).register ≡ s.register

@@ -1,8 +1,8 @@
 -- What is left to do of a directive's steps, before each of them.
 use Rattle.std.proofs.lemmas.Bool.Decides.{nat_tests}
-use Rattle.std.proofs.Common.{ℕ, suc, ◌≡◌, ◌+◌, ◌≤◌, sym, ◌∙◌, ap, List, [], ◌∷◌, ◌++◌, length, drop, arith, append_assoc, append-nil, length-append, get_or, ◌<◌}
+use Rattle.std.proofs.Common.{ℕ, suc, ◌≡◌, ◌+◌, ◌≤◌, ◌∙◌, ap, List, [], ◌∷◌, length, drop, arith, append_assoc, length-append, get_or, ◌<◌}
 use Rattle.std.proofs.lemmas.List.{drop_all, drop_more}
-use Rattle.acc_clauses.specs.Words.{Task, Did, Holding}
+use Rattle.acc_clauses.specs.Words.{Task, Did}
 use Rattle.acc_base.specs.declared.addresses.TheConstants.{MEMORY_MAX}
 use Rattle.acc_base.specs.Limits.{Limits, IsWithinBounds, IsFromOne}
 use Rattle.std.specs.List.{All, AllByRecursion}
@@ -16,7 +16,6 @@ use Rattle.acc_base.specs.Steps.{act}
 use Rattle.acc_base.specs.Acting.{act_state, act_all_state}
 use Rattle.acc_base.specs.History.{AreJudged}
 use Rattle.acc_clauses.specs.declared.acted.Acted.{Acted}
-use Rattle.acc_clauses.specs.Planned.{holdings_by}
 use Rattle.acc_clauses.specs.Overlays.{tasks_in, dids_in, puts_by, puts_in}
 use Rattle.acc_clauses.specs.Contents.{Contents}
 use Rattle.acc_clauses.specs.Acts.{IsJudged, AreKnown, HasRoomFor, HasPutRoom, IsRoomLeft, birth_of, lens_born, pointers_of, pointers_in}
@@ -67,10 +66,6 @@ rest_state task tasks did dids s t u e h = ap (act_all_state tasks dids) e ∙ h
 pub rest_done : (acts : List Acted) (i : ℕ) (s u : State) → length acts ≤ i → act_all_state (tasks_in (drop i acts)) (dids_in (drop i acts)) s ≡ u → s ≡ u
 unfolding act_all_state
 rest_done acts i s u h e = let none : drop i acts ≡ [] = drop_all i acts h in rw none at e
-
--- all holdings are noted behind the last task
-pub holdings_done : (acts : List Acted) (i : ℕ) (holdings all : List Holding) → length acts ≤ i → holdings ++ holdings_by (tasks_in (drop i acts)) (dids_in (drop i acts)) ≡ all → holdings ≡ all
-holdings_done acts i holdings all h e = let none : drop i acts ≡ [] = drop_all i acts h in let same : holdings ++ [] ≡ all = rw none at e in sym (append-nil holdings) ∙ same
 
 -- ---- the lengths of blocks
 

@@ -1,22 +1,18 @@
 -- All room that a plan needs is made: its tasks name one queue at most, that of its directive.
-use Rattle.std.proofs.Common.{ℕ, ◌≡◌, ◌<◌, ◌≤◌, refl, false, List, [], ◌∷◌, length, Option, Some, None, Result, Ok, Err, OnOk, arith}
+use Rattle.std.proofs.Common.{ℕ, ◌≡◌, ◌≤◌, refl, false, List, [], ◌∷◌, Option, Some, None, Result, Ok, Err, OnOk, arith}
 use Rattle.std.specs.Bool.{⊤}
 use Rattle.std.specs.List.{AllByRecursion}
 use Rattle.std.proofs.lemmas.Bool.Decides.{nat_tests}
 use Rattle.acc_clauses.specs.Words.{Directive, Task, Did}
-use Rattle.acc_base.specs.declared.transfers.TheConstants.{QUEUE_COUNT}
-use Rattle.acc_base.specs.Limits.{Limits}
-use Rattle.acc_base.specs.Records.{State}
 use Rattle.acc_base.specs.Tasks.{queue_of}
 use Rattle.acc_base.specs.Judge.{queue_in}
 use Rattle.acc_queues.specs.Queued.{spare_at}
-use Rattle.acc_clauses.specs.Planned.{Planned, holdings_by, IsPlanOf}
+use Rattle.acc_clauses.specs.Planned.{Planned, IsPlanOf}
 use Rattle.acc_clauses.specs.Overlays.{is_queue, puts_in}
 use Rattle.acc_clauses.specs.Contents.{Contents, Room}
 use Rattle.acc_clauses.specs.Stored.{IsStoreSound}
 use Rattle.acc_clauses.proofs.Asking.{asked_fit}
-use Rattle.acc_clauses.specs.Acts.{lens_born, pointers_in, HasRoomFor, HasPutRoom, HasRegionRoom, HasPlanRoom, regions_entered}
-use Rattle.acc_clauses.proofs.QueuesAfter.{known_queue}
+use Rattle.acc_clauses.specs.Acts.{lens_born, pointers_in, HasRoomFor, HasPutRoom, HasRegionRoom, HasPlanRoom, regions_entered, holdings_entered}
 
 -- ---- the queue of a directive
 
@@ -51,6 +47,6 @@ one_room d c p named room h planned is enough = grind (arith, nat_tests, none_in
 
 -- where room is made, it is for all that a plan of a directive takes in
 pub room_made : {E : Type 0} (made : Result ⊤ E) (d : Directive) (p : Planned) (room : Room) → OnOk made (HasRoomFor (lens_born p.tasks p.dids) room)
-    → OnOk made (HasRegionRoom (regions_entered d) (length (holdings_by p.tasks p.dids)) room) → OnOk made (pointers_in p.dids ≤ room.attachments) → HasPutRoom (λ q. puts_in q p.tasks p.dids) room → OnOk made (HasPlanRoom d p room)
+    → OnOk made (HasRegionRoom (regions_entered d) (holdings_entered d p.tasks) room) → OnOk made (pointers_in p.dids ≤ room.attachments) → HasPutRoom (λ q. puts_in q p.tasks p.dids) room → OnOk made (HasPlanRoom d p room)
 room_made (Ok _) d p room births region pointers puts = record { births = births; region = region; pointers = pointers; puts = puts }
 room_made (Err _) d p room births region pointers puts = tt

@@ -1,7 +1,7 @@
 -- One turn of the loop over the tasks of a directive.
 use Rattle.std.proofs.lemmas.Bool.Decides.{nat_tests}
-use Rattle.std.proofs.Common.{ℕ, ◌≡◌, ◌+◌, ◌<◌, ◌≤◌, refl, sym, ap, ◌∙◌, List, [], ◌∷◌, ◌++◌, length, suc, Result, Ok, Err, arith, drop, get_or, add-one}
-use Rattle.std.proofs.lemmas.List.{append-nil, append_assoc, drop_more, drop_all, length-append}
+use Rattle.std.proofs.Common.{ℕ, ◌≡◌, ◌+◌, ◌-◌, ◌<◌, ◌≤◌, refl, sym, ap, ◌∙◌, List, [], ◌∷◌, ◌++◌, length, suc, Result, Ok, Err, arith, drop, take, get_or, add-one}
+use Rattle.std.proofs.lemmas.List.{append-nil, append_assoc, drop_more, drop_all, take_more, get_or-reverse, length-reverse, length-append}
 use Rattle.acc_clauses.specs.Words.{Task, Did, Fault}
 use Rattle.acc_base.specs.Results.{◌>>=◌}
 use Rattle.acc_base.specs.Limits.{Limits}
@@ -103,6 +103,13 @@ asked_turn i xs ys x tasks d within item more so = grind (arith, nat_tests, drop
 -- one task more is done
 pub few_turn : (i : ℕ) (xs ys : List Acted) (x : Acted) → ys ≡ xs ++ x ∷ [] → length xs ≡ i → length ys ≡ i + 1
 few_turn i xs ys x more few = rw more (omega (arith, length-append xs (x ∷ []), few))
+
+-- and one is turned round more
+pub turned_turn : (i : ℕ) (dids xs ys : List Did) (x d : Did) → i < length dids → x ≡ get_or dids (length dids - 1 - i) d → ys ≡ xs ++ x ∷ [] → length xs ≡ i → xs ≡ take i (reverse dids) → (length ys ≡ i + 1) × (ys ≡ take (i + 1) (reverse dids))
+turned_turn i dids xs ys x d within is more few so = (
+  rw more (omega (arith, length-append xs (x ∷ []), few)),
+  more ∙ ap (λ (ts : List Did). ts ++ x ∷ []) so ∙ ap (λ (y : Did). take i (reverse dids) ++ y ∷ []) (is ∙ sym (get_or-reverse dids i d within)) ∙ sym (take_more (reverse dids) i d (omega (arith, within, length-reverse dids))),
+)
 
 -- what was noted turned round is told
 pub told_turned : (turned dids : List Did) → 0 < length turned → told_of turned dids ≡ turned

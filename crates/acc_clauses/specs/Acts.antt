@@ -2,7 +2,7 @@
 use Rattle.std.specs.Prelude.{ℕ, ◌≡◌, ◌+◌, ◌<◌, ◌≤◌, ◌⊎◌, ◌^◌, Bool, true, false, ◌&&◌, List, [], ◌∷◌, ◌++◌, length, replicate, if◌then◌else◌, Option, Some, None, is_some, is_none, IsSome, Ok, ⊤}
 use Rattle.std.specs.List.{AllByRecursion}
 use Rattle.acc_base.specs.declared.addresses.TheConstants.{MEMORY_MAX}
-use Rattle.acc_clauses.specs.Words.{Directive, Section, Item, RegionClause, Range, Holding, Task, Step, Did, Aim, Transfer}
+use Rattle.acc_clauses.specs.Words.{Directive, Section, Item, RegionClause, Range, Task, Step, Did, Aim, Transfer}
 use Rattle.acc_base.specs.declared.directives.Directive.TheVariants as directives
 use Rattle.acc_base.specs.declared.mappings.Found.TheVariants.{Absent}
 use Rattle.acc_base.specs.declared.tasks.Task.TheVariants.{Enter, ExitRegion, ExitData, Move}
@@ -31,7 +31,7 @@ use Rattle.acc_host.specs.Host.{bytes_in}
 use Rattle.acc_dev.specs.Device.{DeviceState, birth_place}
 use Rattle.acc_dev.specs.Marks.{new_mark}
 use Rattle.acc_queues.specs.Queued.{QueuesState, spare_at}
-use Rattle.acc_clauses.specs.Planned.{Planned, holdings_by}
+use Rattle.acc_clauses.specs.Planned.{Planned}
 use Rattle.acc_clauses.specs.Contents.{Numbers, Room, Contents, state_of, room_of, AreMarked, bare_state, WithHost}
 use Rattle.acc_clauses.specs.Overlays.{is_queue, puts_by, puts_in}
 
@@ -354,10 +354,15 @@ abbrev pub regions_entered : Directive → ℕ
 regions_entered (directives.Enter device items) = 1
 regions_entered _ = 0
 
+-- and for how many holdings of that region there has to be room: one for each of its tasks
+abbrev pub holdings_entered : Directive → List Task → ℕ
+holdings_entered (directives.Enter device items) tasks = length tasks
+holdings_entered _ tasks = 0
+
 -- there is room for all that a plan of a directive takes in
 pub record HasPlanRoom (d : Directive) (p : Planned) (room : Room) : Type 0 where
   pub births : HasRoomFor (lens_born p.tasks p.dids) room
-  pub region : HasRegionRoom (regions_entered d) (length (holdings_by p.tasks p.dids)) room
+  pub region : HasRegionRoom (regions_entered d) (holdings_entered d p.tasks) room
   pub pointers : pointers_in p.dids ≤ room.attachments
   pub puts : HasPutRoom (λ q. puts_in q p.tasks p.dids) room
 
@@ -368,4 +373,4 @@ LacksRoom lens regions holdings pointers room = (0 < length lens) ⊎ (room.regi
 
 -- for a plan of a directive, also for its transfers in some queue
 abbrev pub LacksPlanRoom : Directive → Planned → Room → Type 0
-LacksPlanRoom d p room = LacksRoom (lens_born p.tasks p.dids) (regions_entered d) (length (holdings_by p.tasks p.dids)) (pointers_in p.dids) room ⊎ ((q : ℕ) × (spare_at q room.puts < puts_in q p.tasks p.dids))
+LacksPlanRoom d p room = LacksRoom (lens_born p.tasks p.dids) (regions_entered d) (holdings_entered d p.tasks) (pointers_in p.dids) room ⊎ ((q : ℕ) × (spare_at q room.puts < puts_in q p.tasks p.dids))

@@ -64,6 +64,10 @@ abbrev pub holding_by : Task → Did → List Holding
 holding_by (Enter Structured item queue) did = record { item = item; block = block_counted did.step; aim = pointer_attached did.aim } ∷ []
 holding_by _ did = []
 
+-- what a task holds, by what it was judged to do
+abbrev pub held_by : Acted → List Holding
+held_by x = holding_by x.task x.did
+
 -- what tasks hold, in written order
 abbrev pub holdings_by : List Task → List Did → List Holding
 holdings_by (task ∷ tasks) (did ∷ dids) = holding_by task did ++ holdings_by tasks dids

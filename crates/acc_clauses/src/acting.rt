@@ -1,7 +1,7 @@
 //! What a step changes. Nothing is judged here, nothing is allocated, and nothing is refused.
 
-ghost use Rattle.std.specs.Prelude.{◌≡◌, ◌++◌, ◌∷◌, ◌<◌, ◌≤◌, [], ℕ, IsSome, Some, true, false, length};
-ghost use Rattle.acc_base.specs.Ranges.{range_of, start_of, counter_of, changed_at, risen};
+ghost use Rattle.std.specs.Prelude.{◌≡◌, ◌∷◌, ◌<◌, ◌≤◌, [], ℕ, Some, true, false};
+ghost use Rattle.acc_base.specs.Ranges.{counter_of, changed_at, risen};
 ghost use Rattle.acc_base.specs.Loans.{is_lent};
 ghost use Rattle.acc_base.specs.Tasks.{section_of, recounted};
 ghost use Rattle.acc_base.specs.Clauses.{is_attach, section_named, copies_in};
@@ -10,7 +10,7 @@ ghost use Rattle.acc_base.specs.declared.events.Step.TheVariants.{Born, Dropped,
 ghost use Rattle.acc_present.specs.Present.{HasRange, with_ranges, IsRoomKept};
 ghost use Rattle.acc_clauses.specs.Contents.{AreMarked, beside, room_of, bare_state};
 ghost use Rattle.acc_clauses.specs.Overlays.{puts_by};
-ghost use Rattle.acc_clauses.specs.Acts.{CanAct, CanCount, CanBear, CanMove, CanDrop, HasRoomFor, IsRoomLeft, IsActedBy, CanMake, IsBlockMade, is_copied_now, birth_of, CanDo, IsDoneBy, pointers_of, CanPut, CanQueue, CanNeed, HasPutRoom, IsFilledLater, IsGivenBy};
+ghost use Rattle.acc_clauses.specs.Acts.{CanAct, CanCount, CanBear, CanMove, CanDrop, HasRoomFor, IsActedBy, CanMake, IsBlockMade, is_copied_now, birth_of, CanDo, IsDoneBy, pointers_of, CanPut, CanQueue, CanNeed, HasPutRoom, IsFilledLater, IsGivenBy};
 
 use crate::acted::Acted;
 use crate::environments::Environment;
@@ -22,15 +22,15 @@ use acc_dev::Device;
 use acc_host::HostMem;
 use acc_present::Present;
 
-/// Raises a counter of the range that is mapped to a block. An address says where it is looked for first.
+/// Raises a counter of the range that is mapped to a block, which is below its limit.
 #[inline(always)]
-fn raise(present: &mut Present, counter: Counter, block: u64, at: u64)
+fn raise(present: &mut Present, counter: Counter, block: u64)
     requires there { HasRange present.old.table block }
     requires below { counter_of counter block present.old.table.ranges < present.old.table.counter_max }
     ensures table { present.new.table ≡ with_ranges present.old.table (changed_at block (risen counter) present.old.table.ranges) }
     ensures room { IsRoomKept present.old.room present.new.room }
 {
-    let Ok(()) = present.count_near(counter, block, at) else {
+    let Ok(()) = present.count(counter, block) else {
         unreachable!()
     };
 }
@@ -42,15 +42,14 @@ fn recount(present: &mut Present, task: &Task, block: u64)
     ensures table { present.new.table ≡ with_ranges present.old.table (changed_at block (recounted task.now) present.old.table.ranges) }
     ensures room { IsRoomKept present.old.room present.new.room }
 {
-    let at = section_of(*task).start;
     match *task {
-        Task::Enter { counter, .. } => raise(present, counter, block, at),
-        Task::ExitRegion { .. } => present.drop_near(Counter::Structured, block, at),
-        Task::ExitData { finalize: true, .. } => present.clear_near(block, at),
+        Task::Enter { counter, .. } => raise(present, counter, block),
+        Task::ExitRegion { .. } => present.drop_structured(block),
+        Task::ExitData { finalize: true, .. } => present.clear_dynamic(block),
         Task::ExitData {
             finalize: false,
             ..
-        } => present.drop_near(Counter::Dynamic, block, at),
+        } => present.drop_dynamic(block),
         Task::Move { .. } => {}
     }
 }

@@ -1,6 +1,7 @@
 //! What one device has, as one value, and how it changes.
 
 ghost use Rattle.std.specs.Prelude.{ℕ, ◌≡◌, ◌+◌, ◌^◌, ◌<◌, ◌≤◌, List, [], All, IfOk, IfErr, OnOk, OnErr, IsSome, None, Ok, length, take, true, false};
+ghost use Rattle.std.specs.List.{flat_map};
 ghost use Rattle.acc_base.specs.declared.faults.Fault.TheVariants.{Memory};
 ghost use Rattle.acc_base.specs.Limits.{IsFromOne, IsWithinBounds, limits_on};
 ghost use Rattle.acc_base.specs.Section.{device_memory};
@@ -21,6 +22,7 @@ ghost use Rattle.acc_base.specs.Accounts.{AreRecordsSound, IsLoanSound};
 ghost use Rattle.acc_clauses.specs.Contents.{Numbers};
 ghost use Rattle.acc_clauses.specs.Devices.{state_beside};
 ghost use Rattle.acc_clauses.specs.Overlays.{puts_by};
+ghost use Rattle.acc_clauses.specs.Planned.{held_by};
 ghost use Rattle.acc_clauses.specs.Lending.{lent_state, gathered_state};
 ghost use Rattle.acc_clauses.specs.Acts.{IsJudged, IsKnown, HasRoomFor, HasPutRoom, HasRegionRoom, LacksRoom, IsRoomLeft, birth_of, pointers_of};
 
@@ -29,7 +31,7 @@ use crate::acting::act_on;
 use crate::environments::Environment;
 use crate::transfers::step;
 use crate::views::View;
-use acc_base::{Config, Fault, Holding, Loan};
+use acc_base::{Config, Fault, Loan};
 use acc_host::HostMem;
 use acc_lend::Lease;
 use std::alloc::Global;
@@ -221,14 +223,14 @@ impl DeviceData {
         self.environment.queues.reserve(q, puts)
     }
 
-    /// Opens a region of a number with these holdings, where there is room for them. It allocates nothing.
-    pub(crate) fn enter(&mut self, number: u64, holdings: &[Holding])
+    /// Opens a region of a number that these tasks enter, where there is room for one holding of each. It allocates nothing.
+    pub(crate) fn enter(&mut self, number: u64, acts: &[Acted])
         requires new { region_at number self.old.device.regions ≡ None }
-        requires room { HasRegionRoom 1 (length holdings.now) self.old.room }
+        requires room { HasRegionRoom 1 (length acts.now) self.old.room }
         ensures limits { self.new.limits ≡ self.old.limits }
-        ensures device { self.new.device ≡ record self.old.device { regions = with_region (record { number = number; holdings = holdings.now }) self.old.device.regions } }
+        ensures device { self.new.device ≡ record self.old.device { regions = with_region (record { number = number; holdings = flat_map held_by acts.now }) self.old.device.regions } }
     {
-        self.environment.present.enter_reserved(number, holdings);
+        self.environment.present.enter_reserved(number, acts);
     }
 
     /// Closes an open region.

@@ -43,7 +43,7 @@ impl Model for Draft {
     ghost invariant = { λ d. IsDraft d.acts d.dids d.lens d.spans d.ended × IsOutlined d.acts d.outline };
 }
 
-// Notes the birth or the end that the task makes, after these tasks.
+// Notes what the task does, and the birth or the end that it makes, after these tasks.
 #[tactic(auto, using(crate::proofs::Drafted::tally_laws))]
 #[inline(always)]
 fn tally(

@@ -1,13 +1,13 @@
 //! The clause tables: what a task does after those that were judged before it, or why it is refused.
 
-ghost use Rattle.std.specs.Prelude.{ℕ, ◌≡◌, ◌+◌, ◌++◌, ◌∷◌, [], ◌<◌, ◌≤◌, ◌^◌, ◌&&◌, not, Option, Ok, Some, IfSome, true};
+ghost use Rattle.std.specs.Prelude.{ℕ, ◌≡◌, ◌+◌, ◌++◌, ◌∷◌, [], ◌<◌, ◌^◌, ◌&&◌, not, Option, Ok, Some, IfSome, true};
 ghost use Rattle.std.specs.List.{list_all};
 ghost use Rattle.acc_base.specs.declared.addresses.TheConstants.{MEMORY_MAX};
 ghost use Rattle.acc_base.specs.Limits.{IsFromOne};
-ghost use Rattle.acc_base.specs.Ranges.{where_is, range_of, ends_by};
+ghost use Rattle.acc_base.specs.Ranges.{where_is, range_of};
 ghost use Rattle.acc_base.specs.Records.{Records};
-ghost use Rattle.acc_base.specs.Clauses.{in_host, pointer_checked, born, enter_absent, counted, enter_row, leave_row, exit_row, move_row};
-ghost use Rattle.acc_base.specs.Tasks.{section_of, queue_of, recounted, checked};
+ghost use Rattle.acc_base.specs.Clauses.{in_host, pointer_checked, born, enter_absent, counted};
+ghost use Rattle.acc_base.specs.Tasks.{section_of, queue_of, checked};
 ghost use Rattle.acc_base.specs.Detaching.{block_aimed};
 ghost use Rattle.acc_clauses.specs.Aims.{step_free};
 ghost use Rattle.acc_base.specs.Steps.{block_needed, judge_row};
@@ -198,7 +198,7 @@ fn leave(view: &View<'_>, draft: &Draft, holding: Holding) -> Result<Step, Fault
 {
     match holding.block {
         Some(block) => {
-            let known = view.range_near(block, holding.item.section.start);
+            let known = view.range(block);
             let counters = counters_after(view, draft, block, known);
             Ok(dropped(Task::ExitRegion { holding }, block, counters))
         }

@@ -9,13 +9,13 @@ ghost use Rattle.acc_base.specs.Queues.{queue_named};
 ghost use Rattle.acc_base.specs.Judge.{few_items, device_named, own_device, tasks_with, holdings_left, queue_in, verdict_of, plan_of};
 ghost use Rattle.acc_clauses.specs.Overlays.{IsPlanned, AreUnmixed, AreQueuesNamed, tasks_in, dids_in};
 ghost use Rattle.acc_clauses.specs.Planned.{HasFewHoldings, IsPlanOf};
-ghost use Rattle.acc_clauses.specs.Acts.{regions_entered};
+ghost use Rattle.acc_clauses.specs.Acts.{regions_entered, holdings_entered};
 
+use crate::acted::Acted;
 use crate::drafts::Draft;
 use crate::items::judge;
 use crate::lending::transfers_free;
-use crate::notes::{note_holdings, note_turned};
-use crate::plans::Plan;
+use crate::plans::{Plan, note_turned};
 use crate::views::View;
 use acc_base::{Counter, Directive, EnterClause, Fault, Holding, Item, QUEUE_COUNT, Task};
 
@@ -23,38 +23,29 @@ use acc_base::{Counter, Directive, EnterClause, Fault, Holding, Item, QUEUE_COUN
 fn enter_data_task(item: Item<EnterClause>, queue: Option<u64>) -> Task
     ensures { result ≡ enter_data_task queue item }
 {
-    let item = Item {
-        clause: item.clause.as_region(),
-        section: item.section,
-        pointer: item.pointer,
-    };
     Task::Enter {
         counter: Counter::Dynamic,
-        item,
+        item: Item {
+            clause: item.clause.as_region(),
+            section: item.section,
+            pointer: item.pointer,
+        },
         queue,
     }
 }
 
-/// How many tasks a directive has, where the region that it leaves holds these.
-fn task_count(directive: &Directive, holdings: &[Holding]) -> usize
-    ensures { result ≡ length (tasks_with directive.now holdings.now) }
-{
-    match directive {
-        Directive::Exit { .. } => holdings.len(),
-        _ => directive.item_count(),
-    }
-}
-
-/// Judges each task of a directive as if those before it had acted, where the region that it leaves holds these. The
-/// task at a place, counted from 0, is told by a closure of the kind of the directive: so its code is that of this kind.
+/// Judges so many tasks of a directive as if those before each had acted, where the region that it leaves holds these.
+/// The one at a place, counted from 0, is told by a closure of the directive's kind: so its code is that of this kind.
 #[inline(always)]
 fn judge_each<F: Fn(usize) -> Task>(
     view: &View<'_>,
     directive: &Directive,
     holdings: &[Holding],
+    count: usize,
     task: F,
     draft: &mut Draft,
 ) -> Result<(), Fault>
+    requires count { count ≡ length (tasks_with directive.now holdings.now) }
     requires asked { (n : ℕ) → n < length (tasks_with directive.now holdings.now) → F.pre task n × ((t d : Task) → F.post task n t → t ≡ get_or (tasks_with directive.now holdings.now) n d) }
     requires few { length (tasks_with directive.now holdings.now) ≤ 64 }
     requires unmixed { AreUnmixed (tasks_with directive.now holdings.now) }
@@ -66,7 +57,7 @@ fn judge_each<F: Fn(usize) -> Task>(
 {
     view.laws();
     draft.clear();
-    for n in 0..task_count(directive, holdings) {
+    for n in 0..count {
         judge(view, draft, n as u64, task(n))?;
     }
     Ok(())
@@ -95,18 +86,18 @@ fn judge_all(
                 item: items[n],
                 queue,
             };
-            judge_each(view, directive, holdings, task, draft)
+            judge_each(view, directive, holdings, items.len(), task, draft)
         }
         Directive::Exit { .. } => {
             let task = |n: usize| Task::ExitRegion {
                 holding: holdings[holdings.len() - 1 - n],
             };
-            judge_each(view, directive, holdings, task, draft)
+            judge_each(view, directive, holdings, holdings.len(), task, draft)
         }
         Directive::EnterData { items, queue, .. } => {
             let (items, queue) = (items.as_slice(), *queue);
             let task = |n: usize| enter_data_task(items[n], queue);
-            judge_each(view, directive, holdings, task, draft)
+            judge_each(view, directive, holdings, items.len(), task, draft)
         }
         Directive::ExitData {
             items,
@@ -120,7 +111,7 @@ fn judge_all(
                 item: items[n],
                 queue,
             };
-            judge_each(view, directive, holdings, task, draft)
+            judge_each(view, directive, holdings, items.len(), task, draft)
         }
         Directive::Update {
             items,
@@ -134,7 +125,7 @@ fn judge_all(
                 item: items[n],
                 queue,
             };
-            judge_each(view, directive, holdings, task, draft)
+            judge_each(view, directive, holdings, items.len(), task, draft)
         }
         Directive::Wait { .. } | Directive::Step { .. } => {
             view.laws();
@@ -219,13 +210,14 @@ pub(crate) fn queue_in(directive: &Directive) -> Option<u64>
     }
 }
 
-/// How many regions a directive enters.
-pub(crate) fn regions_entered(directive: &Directive) -> u64
-    ensures { result ≡ regions_entered directive.now }
+/// How many regions a directive enters with these tasks, and for how many holdings of the next one there has to be room.
+pub(crate) fn region_entered(directive: &Directive, acts: &[Acted]) -> (u64, u64)
+    ensures regions { result.0 ≡ regions_entered directive.now }
+    ensures holdings { result.1 ≡ holdings_entered directive.now (tasks_in acts.now) }
 {
     match directive {
-        Directive::Enter { .. } => 1,
-        _ => 0,
+        Directive::Enter { .. } => (1, acts.len() as u64),
+        _ => (0, 0),
     }
 }
 
@@ -261,10 +253,7 @@ pub(crate) fn plan(view: &View<'_>, directive: &Directive, plan: &mut Plan) -> R
     check_device(view, directive)?;
     let holdings = holdings_left(view, directive)?;
     check_queue(queue_in(directive))?;
-    let judged = judge_all(view, directive, holdings, &mut plan.draft);
-    let acts = plan.draft.acts();
-    note_holdings(&mut plan.holdings, acts);
+    judge_all(view, directive, holdings, &mut plan.draft)?;
     note_turned(&mut plan.turned, directive, plan.draft.dids());
-    judged?;
     transfers_free(view, directive)
 }

@@ -2,38 +2,48 @@
 
 ghost use Rattle.std.specs.Prelude.{◌≡◌, ◌≤◌, [], length};
 ghost use Rattle.acc_clauses.specs.Overlays.{tasks_in, dids_in};
-ghost use Rattle.acc_clauses.specs.Planned.{holdings_by};
+ghost use Rattle.acc_clauses.specs.Planned.{told_of, in_written_order};
 ghost use Rattle.acc_clauses.specs.Acts.{lens_born};
 
 use crate::acted::Acted;
 use crate::drafts::Draft;
 use crate::slates::Slate;
-use acc_base::{Did, Holding};
-use arrayvec::ArrayVec;
+use acc_base::{Did, Directive};
 use std::marker::Model;
 
 /// A directive that was judged whole: what each of its items will do.
 ///
-/// All of it lies in the value, some 20 KiB for 64 items. So a plan that is used again costs nothing to make.
+/// All of it lies in the value, some 18 KiB for 64 items. So a plan that is used again costs nothing to make.
 #[derive(Drop)]
 pub struct Plan {
     pub(crate) draft: Draft,
-    // The holdings of a region that its tasks enter.
-    pub(crate) holdings: Slate<Holding>,
     // What its tasks do in written order, where that is not the order in which they act.
-    pub(crate) turned: ArrayVec<Did, 64>,
+    pub(crate) turned: Slate<Did>,
 }
 
 impl Model for Plan {
     ghost use Rattle.acc_clauses.specs.Overlays.{tasks_in, dids_in};
-    ghost use Rattle.std.specs.Prelude.{◌≡◌};
-    ghost use Rattle.acc_clauses.specs.Planned.{Planned, told_of, holdings_by};
+    ghost use Rattle.acc_clauses.specs.Planned.{Planned, told_of};
 
     ghost Value = { Planned };
 
-    ghost view = { λ p. record { tasks = tasks_in p.draft; dids = dids_in p.draft; written = told_of p.turned.items (dids_in p.draft) } };
+    ghost view = { λ p. record { tasks = tasks_in p.draft; dids = dids_in p.draft; written = told_of p.turned (dids_in p.draft) } };
+}
 
-    ghost invariant = { λ p. p.holdings ≡ holdings_by (tasks_in p.draft) (dids_in p.draft) };
+/// Notes what the tasks of the exit from a region do, where they are several: turned round, since the last item acts
+/// first. Of other directives they stand as they act, and nothing is noted.
+pub(crate) fn note_turned(turned: &mut Slate<Did>, directive: &Directive, dids: &[Did])
+    requires { length dids.now ≤ 64 }
+    ensures { told_of turned.new dids.now ≡ in_written_order directive.now dids.now }
+{
+    turned.clear();
+    if let Directive::Exit { .. } = directive {
+        if dids.len() > 1 {
+            for n in 0..dids.len() {
+                turned.push(dids[dids.len() - 1 - n]);
+            }
+        }
+    }
 }
 
 impl Plan {
@@ -43,8 +53,7 @@ impl Plan {
     {
         Plan {
             draft: Draft::new(),
-            holdings: Slate::new(),
-            turned: ArrayVec::new(),
+            turned: Slate::new(),
         }
     }
 
@@ -62,10 +71,11 @@ impl Plan {
     pub fn did(&self) -> &[Did]
         ensures { result.now ≡ self.now.written }
     {
-        if self.turned.is_empty() {
+        let turned = self.turned.as_slice();
+        if turned.is_empty() {
             self.draft.dids()
         } else {
-            &self.turned
+            turned
         }
     }
 
@@ -76,12 +86,5 @@ impl Plan {
         ensures few { length result.now ≤ 64 }
     {
         self.draft.lens()
-    }
-
-    /// What the region that it enters holds, in written order; nothing where it enters none.
-    pub(crate) fn holdings(&self) -> &[Holding]
-        ensures { result.now ≡ holdings_by self.now.tasks self.now.dids }
-    {
-        self.holdings.as_slice()
     }
 }

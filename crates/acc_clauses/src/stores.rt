@@ -18,13 +18,12 @@ ghost use Rattle.acc_clauses.specs.Acts.{CanWrite, HasPlanRoom, LacksPlanRoom, l
 
 use crate::devices::DeviceData;
 use crate::effects::puts_in;
-use crate::finishing::finish;
+use crate::finishing::{act_all, finish};
 use crate::judging::in_host;
 use crate::lending::{check_lease, plan_loan};
-use crate::planning::{self, queue_in, regions_entered};
+use crate::planning::{self, queue_in, region_entered};
 use crate::plans::Plan;
 use crate::pointers::pointers_in;
-use crate::running::act_all;
 use crate::spares::Spare;
 use crate::views::View;
 use acc_base::{Config, Directive, Fault, Loan, Section};
@@ -147,8 +146,7 @@ impl Store {
             Some(q) => self.device.reserve_puts(q, puts_in(q, acts))?,
             None => {}
         }
-        let regions = regions_entered(directive);
-        let holdings = plan.holdings().len() as u64;
+        let (regions, holdings) = region_entered(directive, acts);
         self.device
             .reserve(plan.lens(), regions, holdings, pointers_in(acts))
     }

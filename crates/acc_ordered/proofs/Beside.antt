@@ -1,6 +1,6 @@
 -- A key among entries of which some lie before it and some behind it: what is found and changed is between them.
 use Rattle.std.proofs.Common.{ℕ, ◌≡◌, ◌<◌, ◌≤◌, refl, sym, ap, subst, ◌∙◌, true, false, List, [], ◌∷◌, ◌++◌, length, Option, Some, None, Box, inl, inr, append_assoc, arith}
-use Rattle.std.specs.Prelude.{◌==◌, not, nat_lt, slice_get}
+use Rattle.std.specs.Prelude.{◌==◌, not, nat_lt, option_map, slice_get}
 use Rattle.std.specs.List.{AllByRecursion}
 use Rattle.std.specs.declared.alloc.Global.{Global}
 use Rattle.std.proofs.lemmas.Bool.{cases_lt}
@@ -8,13 +8,10 @@ use Rattle.std.proofs.lemmas.Bool.Decides.{nat_tests}
 use Rattle.std.proofs.lemmas.List.{append-nil, map-append}
 use Rattle.std.proofs.lemmas.List.Elements.{filter-append}
 use Rattle.acc_base.proofs.Elements.{AllByRecursion-append, AllByRecursion-weaker, filter-kept, find_none, find-none, all_behind, all_in_front, find-behind, find-front}
-use Rattle.acc_ordered.specs.declared.entries.KeyValue.{KeyValue}
-use Rattle.acc_ordered.specs.declared.entries.Change.{Change}
-use Rattle.acc_ordered.specs.declared.entries.Change.TheVariants.{Put, Take, Write}
 use Rattle.acc_ordered.specs.declared.entries.RowOutcome.{RowOutcome}
-use Rattle.acc_ordered.specs.declared.entries.RowOutcome.TheVariants.{Refused, Done, Few}
-use Rattle.acc_ordered.specs.Changes.{IsAllowed, IsChanged}
-use Rattle.acc_ordered.specs.Listing.{KeysRise, at_key, with_entry, without_key, value_written, with_value}
+use Rattle.acc_ordered.specs.declared.entries.RowOutcome.TheVariants.{Done, Few, Full, Alone}
+use Rattle.acc_ordered.specs.Changes.{IsChanged}
+use Rattle.acc_ordered.specs.Listing.{KeyValue, KeysRise, keyed, at_key, value_at, with_entry, without_key, value_written, with_value, changed}
 use Rattle.acc_ordered.specs.Nodes.{entries_in}
 use Rattle.acc_ordered.specs.Row.{HasEnds}
 use Rattle.acc_ordered.specs.Shape.{Shape}
@@ -80,20 +77,17 @@ module _ {T : Type 0} where
   between : (a m n b : List (KeyValue T)) → n ≡ m → a ++ n ++ b ≡ a ++ m ++ b
   between a m n b is = ap (λ es. a ++ es ++ b) is
 
-  taken_beside : (key : ℕ) (got : KeyValue T) (a m n b : List (KeyValue T)) → Beside key a b → (at_key key m ≡ Some got) × (n ≡ without_key key m) → (at_key key (a ++ m ++ b) ≡ Some got) × (a ++ n ++ b ≡ without_key key (a ++ m ++ b))
-  taken_beside key got a m n b d is = (at_beside key a m b d ∙ is.0, between a (without_key key m) n b is.1 ∙ sym (without_beside key a m b d))
+  applied_beside : (key : ℕ) (found becomes : Option T) (a m b : List (KeyValue T)) → Beside key a b → changed key found becomes (a ++ m ++ b) ≡ a ++ changed key found becomes m ++ b
+  applied_beside key None None a m b d = refl
+  applied_beside key None (Some value) a m b d = with_beside (keyed key value) a m b d
+  applied_beside key (Some old) None a m b d = without_beside key a m b d
+  applied_beside key (Some old) (Some value) a m b d = value_beside key value a m b d
 
-  pub changed_beside : (change : Change) (outcome : RowOutcome) (asked got : KeyValue T) (a m n b : List (KeyValue T)) → Beside asked.key a b → IsChanged change outcome asked got m n → IsChanged change outcome asked got (a ++ m ++ b) (a ++ n ++ b)
-  changed_beside Put Refused asked got a m n b d is = between a m n b is
-  changed_beside Put Done asked got a m n b d is = between a (with_entry asked m) n b is ∙ sym (with_beside asked a m b d)
-  changed_beside Put Few asked got a m n b d is = between a (with_entry asked m) n b is ∙ sym (with_beside asked a m b d)
-  changed_beside Take Refused asked got a m n b d is = between a m n b is
-  changed_beside Take Done asked got a m n b d is = taken_beside asked.key got a m n b d is
-  changed_beside Take Few asked got a m n b d is = taken_beside asked.key got a m n b d is
-  changed_beside Write outcome asked got a m n b d is = between a (with_value asked.key asked.value m) n b is ∙ sym (value_beside asked.key asked.value a m b d)
-
-  pub allowed_beside : (change : Change) (key : ℕ) (a m b : List (KeyValue T)) → Beside key a b → IsAllowed change (at_key key (a ++ m ++ b)) → IsAllowed change (at_key key m)
-  allowed_beside change key a m b d h = subst (λ (o : Option (KeyValue T)). IsAllowed change o) (at_beside key a m b d) h
+  pub changed_beside : (key : ℕ) (found becomes : Option T) (outcome : RowOutcome T) (a m n b : List (KeyValue T)) → Beside key a b → IsChanged key found becomes outcome m n → IsChanged key found becomes outcome (a ++ m ++ b) (a ++ n ++ b)
+  changed_beside key found becomes Done a m n b d is = between a (changed key found becomes m) n b is ∙ sym (applied_beside key found becomes a m b d)
+  changed_beside key found becomes Few a m n b d is = between a (changed key found becomes m) n b is ∙ sym (applied_beside key found becomes a m b d)
+  changed_beside key found becomes (Full value) a m n b d is = (is.0, is.1, between a m n b is.2)
+  changed_beside key found becomes Alone a m n b d is = (is.0, is.1, between a m n b is.2)
 
   -- ---- where the key lies, seen from a row among those before and behind it
 
@@ -132,17 +126,11 @@ module _ {T : Type 0} where
   pub to_right : (l w r : List (KeyValue T)) → l ++ w ++ r ≡ (l ++ w) ++ r ++ []
   to_right l w r = sym (append-nil (l ++ w ++ r))
 
-  pub changed_left : (change : Change) (outcome : RowOutcome) (asked got : KeyValue T) (l k w r : List (KeyValue T)) → Beside asked.key [] (w ++ r) → IsChanged change outcome asked got l k → IsChanged change outcome asked got (l ++ w ++ r) (k ++ w ++ r)
-  changed_left change outcome asked got l k w r d is = rw (to_left l w r, to_left k w r) (changed_beside change outcome asked got [] l k (w ++ r) d is)
+  pub changed_left : (key : ℕ) (found becomes : Option T) (outcome : RowOutcome T) (l k w r : List (KeyValue T)) → Beside key [] (w ++ r) → IsChanged key found becomes outcome l k → IsChanged key found becomes outcome (l ++ w ++ r) (k ++ w ++ r)
+  changed_left key found becomes outcome l k w r d is = rw (to_left l w r, to_left k w r) (changed_beside key found becomes outcome [] l k (w ++ r) d is)
 
-  pub changed_right : (change : Change) (outcome : RowOutcome) (asked got : KeyValue T) (l w r k : List (KeyValue T)) → Beside asked.key (l ++ w) [] → IsChanged change outcome asked got r k → IsChanged change outcome asked got (l ++ w ++ r) (l ++ w ++ k)
-  changed_right change outcome asked got l w r k d is = rw (to_right l w r, to_right l w k) (changed_beside change outcome asked got (l ++ w) r k [] d is)
-
-  pub allowed_left : (change : Change) (key : ℕ) (l w r : List (KeyValue T)) → Beside key [] (w ++ r) → IsAllowed change (at_key key (l ++ w ++ r)) → IsAllowed change (at_key key l)
-  allowed_left change key l w r d h = allowed_beside change key [] l (w ++ r) d (rw (to_left l w r) at h)
-
-  pub allowed_right : (change : Change) (key : ℕ) (l w r : List (KeyValue T)) → Beside key (l ++ w) [] → IsAllowed change (at_key key (l ++ w ++ r)) → IsAllowed change (at_key key r)
-  allowed_right change key l w r d h = allowed_beside change key (l ++ w) r [] d (rw (to_right l w r) at h)
+  pub changed_right : (key : ℕ) (found becomes : Option T) (outcome : RowOutcome T) (l w r k : List (KeyValue T)) → Beside key (l ++ w) [] → IsChanged key found becomes outcome r k → IsChanged key found becomes outcome (l ++ w ++ r) (l ++ w ++ k)
+  changed_right key found becomes outcome l w r k d is = rw (to_right l w r, to_right l w k) (changed_beside key found becomes outcome (l ++ w) r k [] d is)
 
   -- ---- one entry that comes or goes, in parts
 
@@ -151,6 +139,17 @@ module _ {T : Type 0} where
 
   pub at_right : (key : ℕ) (l w r : List (KeyValue T)) → Beside key (l ++ w) [] → at_key key (l ++ w ++ r) ≡ at_key key r
   at_right key l w r d = ap (at_key key) (to_right l w r) ∙ at_beside key (l ++ w) r [] d
+
+  -- what stands under a key, in parts
+
+  pub value_among : (key : ℕ) (a m b : List (KeyValue T)) → Beside key a b → value_at key (a ++ m ++ b) ≡ value_at key m
+  value_among key a m b d = ap (λ (o : Option (KeyValue T)). option_map (λ (e : KeyValue T). e.value) o) (at_beside key a m b d)
+
+  pub value_left : (key : ℕ) (l w r : List (KeyValue T)) → Beside key [] (w ++ r) → value_at key (l ++ w ++ r) ≡ value_at key l
+  value_left key l w r d = ap (λ (o : Option (KeyValue T)). option_map (λ (e : KeyValue T). e.value) o) (at_left key l w r d)
+
+  pub value_right : (key : ℕ) (l w r : List (KeyValue T)) → Beside key (l ++ w) [] → value_at key (l ++ w ++ r) ≡ value_at key r
+  value_right key l w r d = ap (λ (o : Option (KeyValue T)). option_map (λ (e : KeyValue T). e.value) o) (at_right key l w r d)
 
   pub with_left_part : (new : KeyValue T) (l w r : List (KeyValue T)) → Beside new.key [] (w ++ r) → with_entry new (l ++ w ++ r) ≡ with_entry new l ++ w ++ r
   with_left_part new l w r d = ap (with_entry new) (to_left l w r) ∙ with_beside new [] l (w ++ r) d ∙ sym (to_left (with_entry new l) w r)

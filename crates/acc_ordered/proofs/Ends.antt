@@ -1,7 +1,7 @@
 -- The two ends of a row, and rows of one.
 use Rattle.std.proofs.Common.{ℕ, zero, suc, ◌≡◌, ◌+◌, ◌<◌, refl, sym, ap, ◌∙◌, List, [], ◌∷◌, ◌++◌, length, get_or, length-append, append_assoc, arith}
 use Rattle.std.specs.Prelude.{◌-◌, slice_get, Some}
-use Rattle.acc_ordered.specs.declared.entries.KeyValue.{KeyValue}
+use Rattle.acc_ordered.specs.Listing.{KeyValue}
 use Rattle.acc_ordered.specs.Row.{HasEnds}
 
 record IsFooted {X : Type 0} (xs : List X) : Type 0 where

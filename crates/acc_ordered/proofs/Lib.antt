@@ -1,3 +1,4 @@
+pub mod Order
 pub mod Halving
 pub mod Counting
 pub mod Tall
@@ -6,8 +7,8 @@ pub mod Ends
 pub mod Whole
 pub mod Paired
 pub mod Within
+pub mod Runs
 pub mod Beside
 pub mod Avl
 pub mod Kept
 pub mod Located
-pub mod Rewritten

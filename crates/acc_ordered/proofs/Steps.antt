@@ -7,8 +7,7 @@ use Rattle.std.proofs.lemmas.Bool.Decides.{nat_tests}
 use Rattle.std.proofs.lemmas.List.Folds.{find-append}
 use Rattle.acc_base.proofs.Elements.{AllByRecursion-weaker, find-none, all_behind, all_in_front, find-behind}
 use Rattle.acc_base.proofs.Options.{or_none, or_or}
-use Rattle.acc_ordered.specs.declared.entries.KeyValue.{KeyValue}
-use Rattle.acc_ordered.specs.Listing.{KeysRise, first_from, last_before, with_entry}
+use Rattle.acc_ordered.specs.Listing.{KeyValue, KeysRise, first_from, last_before, with_entry}
 
 module _ {T : Type 0} where
   -- what is known on the two sides of an entry

@@ -6,8 +6,7 @@ use Rattle.std.proofs.lemmas.Bool.Decides.{nat_tests}
 use Rattle.std.proofs.lemmas.List.Folds.{find-append}
 use Rattle.acc_base.specs.Accounts.{EachPair}
 use Rattle.acc_base.proofs.Elements.{AllByRecursion-weaker, find-none, all_in_front}
-use Rattle.acc_ordered.specs.declared.entries.KeyValue.{KeyValue}
-use Rattle.acc_ordered.specs.Listing.{KeysRise, first_from, last_before}
+use Rattle.acc_ordered.specs.Listing.{KeyValue, KeysRise, first_from, last_before}
 use Rattle.acc_ordered.proofs.Steps.{Sides, sides, before-append, before_none, before_left, before_right, from_left, from_right}
 use Rattle.acc_ordered.specs.Row.{HasEnds}
 

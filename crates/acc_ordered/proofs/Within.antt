@@ -1,16 +1,19 @@
 -- Where a search in a row ends whose first entry lies before the key, and whose last does not.
-use Rattle.std.proofs.Common.{ℕ, zero, suc, ◌≡◌, ◌<◌, refl, sym, ap, subst, ◌∙◌, true, false, cond, List, [], ◌∷◌, length, get_or, insert, set, Some, None, IsSome, arith}
-use Rattle.std.specs.Prelude.{◌-◌, ◌==◌, nat_lt, nat_le, slice_get}
+use Rattle.std.proofs.Common.{ℕ, zero, suc, ◌≡◌, ◌<◌, ◌≤◌, refl, sym, ap, subst, ◌∙◌, Bool, true, false, cond, List, [], ◌∷◌, length, get_or, insert, set, Option, Some, None, IsSome, arith}
+use Rattle.std.specs.Prelude.{◌-◌, ◌==◌, not, nat_lt, nat_le, slice_get, option_map}
 use Rattle.std.specs.List.{AllByRecursion, remove}
 use Rattle.std.specs.Option.{option_or}
 use Rattle.std.proofs.lemmas.Bool.Decides.{nat_tests}
 use Rattle.std.proofs.lemmas.Option.{slice_get-get_or}
 use Rattle.acc_base.specs.Splits.{IsSplitBy}
-use Rattle.acc_base.proofs.Elements.{find_none}
+use Rattle.acc_base.proofs.Elements.{AllByRecursion-weaker, find_none, find-none}
 use Rattle.acc_base.proofs.Keyed as keyed
-use Rattle.acc_ordered.specs.declared.entries.KeyValue.{KeyValue}
-use Rattle.acc_ordered.specs.Listing.{KeysRise, at_key, first_from, last_before, with_entry, without_key, with_value}
+use Rattle.acc_ordered.specs.Listing.{KeyValue, KeysRise, at_key, value_at, first_from, last_before, with_entry, without_key, with_value}
 use Rattle.acc_ordered.specs.Row.{HasEnds}
+
+abbrev key_of_or : Option ℕ → ℕ
+key_of_or None = 0
+key_of_or (Some k) = k
 
 module _ {T : Type 0} where
   abbrev pub IsSplitAt : ℕ → List (KeyValue T) → ℕ → Type 0
@@ -19,7 +22,7 @@ module _ {T : Type 0} where
   pub rest_of : (key : ℕ) (e : KeyValue T) (es : List (KeyValue T)) (n : ℕ) → IsSplitAt key (e ∷ es) (suc n) → IsSplitAt key es n
   rest_of key e es n s = record { bound = omega (arith, s.bound); passed = s.passed.1; failed = s.failed }
 
-  first_of_from : (key : ℕ) (es : List (KeyValue T)) (n : ℕ) → IsSplitAt key es n → first_from key es ≡ slice_get es n
+  pub first_of_from : (key : ℕ) (es : List (KeyValue T)) (n : ℕ) → IsSplitAt key es n → first_from key es ≡ slice_get es n
   first_of_from key [] n s = refl
   first_of_from key (e ∷ es) zero s = let f = s.failed.0 in let t : nat_le key e.key ≡ true = grind (arith, nat_tests) in rw t refl
   first_of_from key (e ∷ es) (suc n) s = let f = s.passed.0 in let t : nat_le key e.key ≡ false = grind (arith, nat_tests) in rw t (first_of_from key es n (rest_of key e es n s))
@@ -77,9 +80,6 @@ module _ {T : Type 0} where
   pub bound_in : (key : ℕ) (es : List (KeyValue T)) (n : ℕ) → IsSplitAt key es n → IsSome (at_key key es) → n < length es
   bound_in key es n s there = keyed.found_within key_in key es n s there
 
-  pub taken_at : (key : ℕ) (es : List (KeyValue T)) (n : ℕ) (e : KeyValue T) → KeysRise es → IsSplitAt key es n → IsSome (at_key key es) → slice_get es n ≡ Some e → at_key key es ≡ Some e
-  taken_at key es n e rise s there is = let f = keyed.found_at key_in key es n e rise s there in f.found ∙ sym (got_some es n e f.bound) ∙ is
-
   pub left_in : (key : ℕ) (es : List (KeyValue T)) (n : ℕ) (e : KeyValue T) → KeysRise es → IsSplitAt key es n → IsSome (at_key key es) → remove es n ≡ without_key key es
   left_in key es n e rise s there = let f = keyed.found_at key_in key es n e rise s there in keyed.remove-filter key_in es n key e (keyed.rise_distinct key_in es rise) f.bound f.key_is
 
@@ -87,3 +87,66 @@ module _ {T : Type 0} where
   written_in key value es n d rise s there =
       let f = keyed.found_at key_in key es n d rise s there in
       keyed.set-map key_in es n key d (λ (x : KeyValue T). record x { value = value }) (keyed.rise_distinct key_in es rise) f.bound f.key_is
+
+  -- ---- what stands under a key, by what stands at its place
+
+  pub value_there : (key : ℕ) (es : List (KeyValue T)) (n : ℕ) (e : KeyValue T) → IsSplitAt key es n → slice_get es n ≡ Some e → e.key ≤ key → value_at key es ≡ Some e.value
+  value_there key [] n e s is le = cc
+  value_there key (x ∷ es) zero e s is le =
+      let same : x ≡ e = cc in
+      let f = s.failed.0 in
+      let own : x.key ≤ key = omega (arith, le, ap key_in same) in
+      let t : (x.key == key) ≡ true = grind (arith, nat_tests) in
+      rw t (ap (λ (y : KeyValue T). Some y.value) same)
+  value_there key (x ∷ es) (suc n) e s is le =
+      let less = s.passed.0 in
+      let t : (x.key == key) ≡ false = grind (arith, nat_tests) in
+      rw t (value_there key es n e (rest_of key x es n s) is le)
+
+  pub value_missing : (key : ℕ) (es : List (KeyValue T)) (n : ℕ) → KeysRise es → IsSplitAt key es n → ((e : KeyValue T) → slice_get es n ≡ Some e → key < e.key) → value_at key es ≡ None
+  value_missing key [] n rise s over = refl
+  value_missing key (x ∷ es) zero rise s over =
+      let less : key < x.key = over x refl in
+      let t : (x.key == key) ≡ false = grind (arith, nat_tests) in
+      ap (option_map (λ (e : KeyValue T). e.value)) (find-none (λ e. e.key == key) (x ∷ es) (t, AllByRecursion-weaker (λ y. x.key < y.key) (λ y. (y.key == key) ≡ false) es (λ y more. grind (arith, nat_tests)) rise.0))
+  value_missing key (x ∷ es) (suc n) rise s over =
+      let less = s.passed.0 in
+      let t : (x.key == key) ≡ false = grind (arith, nat_tests) in
+      rw t (value_missing key es n rise.1 (rest_of key x es n s) over)
+
+  none_at : (es : List (KeyValue T)) (n : ℕ) → length es ≤ n → slice_get es n ≡ None
+  none_at [] n le = refl
+  none_at (x ∷ es) zero le = absurd (omega arith)
+  none_at (x ∷ es) (suc n) le = none_at es n (omega arith)
+
+  pub value_past : (key : ℕ) (es : List (KeyValue T)) (n : ℕ) → KeysRise es → IsSplitAt key es n → length es ≤ n → value_at key es ≡ None
+  value_past key es n rise s le = value_missing key es n rise s (λ e is. let none = none_at es n le in cc)
+
+  pub value_above : (key : ℕ) (es : List (KeyValue T)) (n k : ℕ) → KeysRise es → IsSplitAt key es n → option_map (λ (e : KeyValue T). e.key) (slice_get es n) ≡ Some k → key < k → value_at key es ≡ None
+  value_above key es n k rise s is less = value_missing key es n rise s (λ f is_f. let same : f.key ≡ k = ap key_of_or (sym (ap (option_map (λ (e : KeyValue T). e.key)) is_f) ∙ is) in omega (arith, less, same))
+
+  -- ---- the entry of a key that has a value, or none
+
+  pub at_some : (key : ℕ) (es : List (KeyValue T)) (v : T) → value_at key es ≡ Some v → IsSome (at_key key es)
+  at_some key es v is = go (at_key key es) is
+    where
+      go : (o : Option (KeyValue T)) → option_map (λ (e : KeyValue T). e.value) o ≡ Some v → IsSome o
+      go None h = cc
+      go (Some e) h = refl
+
+  pub at_none : (key : ℕ) (es : List (KeyValue T)) → value_at key es ≡ None → at_key key es ≡ None
+  at_none key es is = go (at_key key es) is
+    where
+      go : (o : Option (KeyValue T)) → option_map (λ (e : KeyValue T). e.value) o ≡ None → o ≡ None
+      go None h = refl
+      go (Some e) h = cc
+
+  -- a row of one entry has none without it
+  pub lone_gone : (key : ℕ) (es : List (KeyValue T)) → length es ≤ 1 → IsSome (at_key key es) → without_key key es ≡ []
+  lone_gone key [] le there = refl
+  lone_gone key (e ∷ []) le there = go (e.key == key) there
+    where
+      go : (b : Bool) → IsSome (cond b (Some e) None) → cond (not b) (e ∷ []) [] ≡ []
+      go true some = refl
+      go false some = cc
+  lone_gone key (e ∷ f ∷ es) le there = absurd (omega (arith, le))

@@ -1,10 +1,12 @@
 pub mod Row
+pub mod Pairs
 pub mod Paired
+pub mod Runs
+pub mod Cursors
 pub mod Shape
 pub mod Nodes
 pub mod NodeFalls
 pub mod Seen
 pub mod Changes
-pub mod Rewritten
 pub mod Trees
 pub mod Listing

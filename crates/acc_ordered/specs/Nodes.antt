@@ -1,7 +1,7 @@
 -- The fields of a node.
 use Rattle.std.specs.Prelude.{ℕ, ◌≡◌, ◌+◌, ◌*◌, ◌^◌, ◌≤◌, max, List, [], ◌++◌, length, Option, Some, None, Box}
 use Rattle.std.specs.declared.alloc.Global.{Global}
-use Rattle.acc_ordered.specs.declared.entries.KeyValue.{KeyValue}
+use Rattle.acc_ordered.specs.Listing.{KeyValue}
 use Rattle.acc_ordered.specs.Row.{HasEnds}
 use Rattle.acc_ordered.specs.Shape.{Shape}
 use Rattle.acc_ordered.specs.declared.nodes.Node.TheInside.{Inside}
@@ -47,27 +47,6 @@ module _ {T : Type 0} where
   IsChain None = Unit {0}
   IsChain (Some b) = (b.value.entries ≡ b.value.row) × (b.value.height ≡ 1) × (b.value.nodes ≡ 1)
 
-  abbrev pub tree_of : Inside T → List (KeyValue T)
-  tree_of n = entries_in n.left ++ n.row ++ entries_in n.right
-
-  abbrev pub count_of : Inside T → ℕ
-  count_of n = nodes_in n.left + (nodes_in n.right + 1)
-
-  abbrev pub shape_of : Inside T → Shape T
-  shape_of n = record { entries = tree_of n; row = n.row; height = n.height; nodes = count_of n; behind = length_of n.next }
-
-  pub record IsAvl (n : Inside T) : Type 0 where
-    pub left : IsAlone n.left
-    pub right : IsAlone n.right
-    pub chain : IsChain n.next
-    pub height : n.height ≡ max (height_of n.left) (height_of n.right) + 1
-    pub not_left : height_of n.left ≤ height_of n.right + 1
-    pub not_right : height_of n.right ≤ height_of n.left + 1
-    pub row : HasEnds n.first n.last n.row
-    pub tall : IsTall n.height (count_of n)
-    pub wide_left : IsWide n.left
-    pub wide_right : IsWide n.right
-
   -- a node alone, without subtrees
   pub record IsLeaf (s : Shape T) : Type 0 where
     pub entries : s.entries ≡ s.row
@@ -86,3 +65,25 @@ module _ {T : Type 0} where
   abbrev pub IsFreed : Option (Box (Shape T) Global) → Type 0
   IsFreed None = Unit {0}
   IsFreed (Some b) = IsLeaf b.value
+
+module _ {K T : Type 0} where
+  abbrev pub tree_of : Inside K T → List (KeyValue T)
+  tree_of n = entries_in n.left ++ n.row ++ entries_in n.right
+
+  abbrev pub count_of : Inside K T → ℕ
+  count_of n = nodes_in n.left + (nodes_in n.right + 1)
+
+  abbrev pub shape_of : Inside K T → Shape T
+  shape_of n = record { entries = tree_of n; row = n.row; height = n.height; nodes = count_of n; behind = length_of n.next }
+
+  pub record IsAvl (number : K → ℕ) (n : Inside K T) : Type 0 where
+    pub left : IsAlone n.left
+    pub right : IsAlone n.right
+    pub chain : IsChain n.next
+    pub height : n.height ≡ max (height_of n.left) (height_of n.right) + 1
+    pub not_left : height_of n.left ≤ height_of n.right + 1
+    pub not_right : height_of n.right ≤ height_of n.left + 1
+    pub row : HasEnds (number n.first) (number n.last) n.row
+    pub tall : IsTall n.height (count_of n)
+    pub wide_left : IsWide n.left
+    pub wide_right : IsWide n.right

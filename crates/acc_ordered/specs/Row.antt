@@ -1,6 +1,6 @@
 -- The keys at the two ends of a row of entries, and a row in two.
 use Rattle.std.specs.Prelude.{ℕ, ◌≡◌, ◌<◌, List, [], ◌∷◌, ◌++◌, length}
-use Rattle.acc_ordered.specs.declared.entries.KeyValue.{KeyValue}
+use Rattle.acc_ordered.specs.Listing.{KeyValue}
 
 module _ {T : Type 0} where
   -- a row is not empty, and its first and its last entry have these keys

@@ -1,7 +1,7 @@
 -- The ends of a row that a reference is to.
 use Rattle.std.specs.Prelude.{◌-◌, length, List, Option, None, Some, slice_get}
 use Rattle.std.specs.Borrow.{Bor}
-use Rattle.acc_ordered.specs.declared.entries.KeyValue.{KeyValue}
+use Rattle.acc_ordered.specs.Listing.{KeyValue}
 
 module _ {T : Type 0} where
   abbrev pub last_in : Option (Bor (List (KeyValue T))) → Option (KeyValue T)

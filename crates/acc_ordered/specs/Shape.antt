@@ -1,6 +1,6 @@
 -- What a node is seen as.
 use Rattle.std.specs.Prelude.{ℕ, List}
-use Rattle.acc_ordered.specs.declared.entries.KeyValue.{KeyValue}
+use Rattle.acc_ordered.specs.Listing.{KeyValue}
 
 pub record Shape (T : Type 0) : Type 0 where
   -- the entries of the tree that begins here, by rising key

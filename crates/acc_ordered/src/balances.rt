@@ -2,10 +2,15 @@
 ghost use Rattle.std.specs.Prelude.{◌≡◌, ◌+◌, ◌^◌, ◌<◌, ◌≤◌, ◌++◌, max};
 ghost use Rattle.acc_ordered.specs.Nodes.{entries_in, height_of, nodes_in, IsAlone, IsLeaf, IsBalanced, IsLowered};
 
+use crate::keys::Key;
 use crate::nodes::{Link, Node, height, join, split};
 
 /// Joins trees whose heights differ by at most two.
-pub fn balance<T: Copy>(left: Link<T>, node: Box<Node<T>>, right: Link<T>) -> Box<Node<T>>
+pub fn balance<K: Key, T: Copy>(
+    left: Link<K, T>,
+    node: Box<Node<K, T>>,
+    right: Link<K, T>,
+) -> Box<Node<K, T>>
     requires leaf { IsLeaf node.value }
     requires alone { IsAlone left × IsAlone right }
     requires not_left { height_of left ≤ height_of right + 2 }
@@ -31,7 +36,11 @@ pub fn balance<T: Copy>(left: Link<T>, node: Box<Node<T>>, right: Link<T>) -> Bo
 }
 
 /// Joins trees of which the left one is higher by two.
-fn lean_left<T: Copy>(left: Box<Node<T>>, node: Box<Node<T>>, right: Link<T>) -> Box<Node<T>>
+fn lean_left<K: Key, T: Copy>(
+    left: Box<Node<K, T>>,
+    node: Box<Node<K, T>>,
+    right: Link<K, T>,
+) -> Box<Node<K, T>>
     requires leaf { IsLeaf node.value }
     requires alone { (left.value.behind ≡ 0) × IsAlone right }
     requires two_higher { left.value.height ≡ height_of right + 2 }
@@ -55,7 +64,11 @@ fn lean_left<T: Copy>(left: Box<Node<T>>, node: Box<Node<T>>, right: Link<T>) ->
 }
 
 /// Joins trees of which the right one is higher by two.
-fn lean_right<T: Copy>(left: Link<T>, node: Box<Node<T>>, right: Box<Node<T>>) -> Box<Node<T>>
+fn lean_right<K: Key, T: Copy>(
+    left: Link<K, T>,
+    node: Box<Node<K, T>>,
+    right: Box<Node<K, T>>,
+) -> Box<Node<K, T>>
     requires leaf { IsLeaf node.value }
     requires alone { IsAlone left × (right.value.behind ≡ 0) }
     requires two_higher { right.value.height ≡ height_of left + 2 }
@@ -79,7 +92,7 @@ fn lean_right<T: Copy>(left: Link<T>, node: Box<Node<T>>, right: Box<Node<T>>) -
 }
 
 /// Takes the first node off a tree.
-fn take_first<T: Copy>(tree: Box<Node<T>>) -> (Box<Node<T>>, Link<T>)
+fn take_first<K: Key, T: Copy>(tree: Box<Node<K, T>>) -> (Box<Node<K, T>>, Link<K, T>)
     requires alone { tree.value.behind ≡ 0 }
     requires limit { tree.value.height < 2 ^ 62 }
     ensures leaf { IsLeaf result.0.value }
@@ -99,7 +112,7 @@ fn take_first<T: Copy>(tree: Box<Node<T>>) -> (Box<Node<T>>, Link<T>)
 }
 
 /// Joins two trees without a node between them.
-pub fn merge<T: Copy>(left: Link<T>, right: Link<T>) -> Link<T>
+pub fn merge<K: Key, T: Copy>(left: Link<K, T>, right: Link<K, T>) -> Link<K, T>
     requires balanced { IsBalanced left right }
     requires limit { max (height_of left) (height_of right) < 2 ^ 62 }
     ensures entries { entries_in result ≡ entries_in left ++ entries_in right }

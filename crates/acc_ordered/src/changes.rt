@@ -1,70 +1,78 @@
 //! Entries put into a tree and taken out of it, where nodes come or go.
-ghost use Rattle.std.specs.Prelude.{◌≡◌, ◌+◌, ◌^◌, ◌<◌, ◌≤◌, ◌++◌, [], ◌∷◌, max, length, true, Some, None, IsSome, IfSome, IfNone};
-ghost use Rattle.acc_ordered.specs.Listing.{KeysRise, at_key, with_entry, without_key};
-ghost use Rattle.acc_ordered.specs.Row.{HasEnds};
+ghost use Rattle.std.specs.Prelude.{◌≡◌, ◌+◌, ◌^◌, ◌<◌, ◌≤◌, ◌++◌, [], ◌∷◌, max, length, None, IsSome};
+ghost use Rattle.acc_ordered.specs.Listing.{KeysRise, keyed, at_key, with_entry, without_key};
+ghost use Rattle.acc_ordered.specs.Changes.{LiesAt};
 ghost use Rattle.acc_ordered.specs.Nodes.{entries_in, height_of, nodes_in, IsAlone, IsLeaf, IsFreed, IsBalanced, IsLowered};
 
 use crate::balances::{balance, merge};
-use crate::entries::KeyValue;
+use crate::keys::Key;
 use crate::nodes::{Link, Node, join, split};
 use crate::rows::{Row, WIDTH};
+use crate::sides::Side;
 
-/// The keys of the first and the last entry of a node without subtrees.
-fn ends_of<T: Copy>(node: &Node<T>) -> (u64, u64)
+/// Whether a key lies before the row of a node without subtrees, behind it, or between its ends.
+fn side_in<K: Key, T: Copy>(node: &Node<K, T>, key: K) -> Side
     requires { IsLeaf node.now }
-    ensures { HasEnds result.0 result.1 node.now.entries }
+    ensures { LiesAt result (K.number key) node.now.entries }
 {
-    (node.first, node.last)
+    if key.is_below(node.first) {
+        Side::Left
+    } else if node.last.is_below(key) {
+        Side::Right
+    } else {
+        Side::Here
+    }
 }
 
 /// Writes a row of one entry into a node without subtrees.
-fn fill<T: Copy>(mut node: Box<Node<T>>, entry: KeyValue<T>) -> Box<Node<T>>
+fn fill<K: Key, T: Copy>(mut node: Box<Node<K, T>>, key: K, value: T) -> Box<Node<K, T>>
     requires leaf { IsLeaf node.value }
-    ensures entries { result.value.entries ≡ entry ∷ [] }
+    ensures entries { result.value.entries ≡ keyed (K.number key) value ∷ [] }
     ensures leaf { IsLeaf result.value }
 {
     let n = &mut *node;
-    n.row.reset(entry);
-    n.first = entry.key;
-    n.last = entry.key;
+    n.row.reset(key, value);
+    n.first = key;
+    n.last = key;
     node
 }
 
 /// Moves the upper half of a row to another, and puts an entry into one of them.
-fn share<T: Copy>(lower: &mut Row<T>, upper: &mut Row<T>, entry: KeyValue<T>)
+fn share<K: Key, T: Copy>(lower: &mut Row<K, T>, upper: &mut Row<K, T>, key: K, value: T)
     requires more { 1 < length lower.old }
     requires rising { KeysRise lower.old }
-    requires new { at_key entry.key lower.old ≡ None }
-    ensures entries { with_entry entry lower.old ≡ lower.new ++ upper.new }
+    requires new { at_key (K.number key) lower.old ≡ None }
+    ensures entries { with_entry (keyed (K.number key) value) lower.old ≡ lower.new ++ upper.new }
     ensures lower { 0 < length lower.new }
     ensures upper { 0 < length upper.new }
 {
     lower.halve(upper);
-    if entry.key < upper.at(0).key {
-        lower.put(entry);
+    if key.is_below(upper.at(0).key) {
+        lower.put(key, value);
     } else {
-        upper.put(entry);
+        upper.put(key, value);
     }
 }
 
 /// Cuts the row of a node in two, the upper one in a node that waits, and puts an entry into one of them.
-fn cut<T: Copy>(
-    mut node: Box<Node<T>>,
-    mut spare: Box<Node<T>>,
-    entry: KeyValue<T>,
-) -> (Box<Node<T>>, Box<Node<T>>)
+fn cut<K: Key, T: Copy>(
+    mut node: Box<Node<K, T>>,
+    mut spare: Box<Node<K, T>>,
+    key: K,
+    value: T,
+) -> (Box<Node<K, T>>, Box<Node<K, T>>)
     requires leaf { IsLeaf node.value }
     requires spare { IsLeaf spare.value }
     requires more { 1 < length node.value.entries }
     requires rising { KeysRise node.value.entries }
-    requires new { at_key entry.key node.value.entries ≡ None }
-    ensures entries { with_entry entry node.value.entries ≡ result.0.value.entries ++ result.1.value.entries }
+    requires new { at_key (K.number key) node.value.entries ≡ None }
+    ensures entries { with_entry (keyed (K.number key) value) node.value.entries ≡ result.0.value.entries ++ result.1.value.entries }
     ensures leaf { IsLeaf result.0.value }
     ensures upper { IsLeaf result.1.value }
 {
     let lower = &mut *node;
     let upper = &mut *spare;
-    share(&mut lower.row, &mut upper.row, entry);
+    share(&mut lower.row, &mut upper.row, key, value);
     let (first, last) = upper.row.ends();
     upper.first = first;
     upper.last = last;
@@ -75,7 +83,7 @@ fn cut<T: Copy>(
 }
 
 /// Puts a node before all others of a tree.
-fn put_first<T: Copy>(tree: Link<T>, node: Box<Node<T>>) -> Box<Node<T>>
+fn put_first<K: Key, T: Copy>(tree: Link<K, T>, node: Box<Node<K, T>>) -> Box<Node<K, T>>
     requires leaf { IsLeaf node.value }
     requires alone { IsAlone tree }
     requires limit { height_of tree < 2 ^ 61 }
@@ -91,39 +99,47 @@ fn put_first<T: Copy>(tree: Link<T>, node: Box<Node<T>>) -> Box<Node<T>>
     balance(Some(left), top, right)
 }
 
-/// Puts an entry whose key is not there yet into a tree, with a node that waits.
-pub fn insert<T: Copy>(tree: Link<T>, node: Box<Node<T>>, entry: KeyValue<T>) -> Box<Node<T>>
+/// Puts a value under a key that is not there yet into a tree, with a node that waits.
+pub fn insert<K: Key, T: Copy>(
+    tree: Link<K, T>,
+    node: Box<Node<K, T>>,
+    key: K,
+    value: T,
+) -> Box<Node<K, T>>
     requires leaf { IsLeaf node.value }
     requires alone { IsAlone tree }
     requires limit { height_of tree < 2 ^ 61 }
     requires rising { KeysRise (entries_in tree) }
-    requires new { at_key entry.key (entries_in tree) ≡ None }
-    ensures entries { result.value.entries ≡ with_entry entry (entries_in tree) }
+    requires new { at_key (K.number key) (entries_in tree) ≡ None }
+    ensures entries { result.value.entries ≡ with_entry (keyed (K.number key) value) (entries_in tree) }
     ensures nodes { result.value.nodes ≡ nodes_in tree + 1 }
     ensures alone { result.value.behind ≡ 0 }
     ensures not_lower { height_of tree ≤ result.value.height }
     ensures not_higher { result.value.height ≤ height_of tree + 1 }
 {
     let Some(tree) = tree else {
-        return fill(node, entry);
+        return fill(node, key, value);
     };
     let (left, top, right) = split(tree);
-    let (first, last) = ends_of(&top);
-    if entry.key < first {
-        let left = insert(left, node, entry);
-        balance(Some(left), top, right)
-    } else if last < entry.key {
-        let right = insert(right, node, entry);
-        balance(left, top, Some(right))
-    } else {
-        let (lower, upper) = cut(top, node, entry);
-        let right = put_first(right, upper);
-        balance(left, lower, Some(right))
+    match side_in(&top, key) {
+        Side::Left => {
+            let left = insert(left, node, key, value);
+            balance(Some(left), top, right)
+        }
+        Side::Right => {
+            let right = insert(right, node, key, value);
+            balance(left, top, Some(right))
+        }
+        Side::Here => {
+            let (lower, upper) = cut(top, node, key, value);
+            let right = put_first(right, upper);
+            balance(left, lower, Some(right))
+        }
     }
 }
 
 /// How many entries a node without subtrees has.
-fn count_in<T: Copy>(node: &Node<T>) -> usize
+fn count_in<K: Key, T: Copy>(node: &Node<K, T>) -> usize
     requires leaf { IsLeaf node.now }
     ensures { result ≡ length node.now.entries }
 {
@@ -131,7 +147,10 @@ fn count_in<T: Copy>(node: &Node<T>) -> usize
 }
 
 /// Moves the entries of a node to the end of the row of another. The first of the answer has them all.
-fn append<T: Copy>(mut lower: Box<Node<T>>, upper: Box<Node<T>>) -> (Box<Node<T>>, Box<Node<T>>)
+fn append<K: Key, T: Copy>(
+    mut lower: Box<Node<K, T>>,
+    upper: Box<Node<K, T>>,
+) -> (Box<Node<K, T>>, Box<Node<K, T>>)
     requires leaf { IsLeaf lower.value }
     requires upper { IsLeaf upper.value }
     requires few { length lower.value.entries + length upper.value.entries ≤ 64 }
@@ -146,41 +165,24 @@ fn append<T: Copy>(mut lower: Box<Node<T>>, upper: Box<Node<T>>) -> (Box<Node<T>
 }
 
 /// Takes the entry of a key out of the row of a node, where it is not alone.
-fn shorten<T: Copy>(mut node: Box<Node<T>>, key: u64) -> (KeyValue<T>, Box<Node<T>>)
+fn shorten<K: Key, T: Copy>(mut node: Box<Node<K, T>>, key: K) -> Box<Node<K, T>>
     requires leaf { IsLeaf node.value }
     requires rising { KeysRise node.value.entries }
-    requires there { IsSome (at_key key node.value.entries) }
+    requires there { IsSome (at_key (K.number key) node.value.entries) }
     requires more { 1 < length node.value.entries }
-    ensures entry { at_key key node.value.entries ≡ Some result.0 }
-    ensures entries { result.1.value.entries ≡ without_key key node.value.entries }
-    ensures leaf { IsLeaf result.1.value }
+    ensures entries { result.value.entries ≡ without_key (K.number key) node.value.entries }
+    ensures leaf { IsLeaf result.value }
 {
     let n = &mut *node;
-    let entry = n.row.take(key);
+    n.row.take(key);
     let (first, last) = n.row.ends();
     n.first = first;
     n.last = last;
-    (entry, node)
-}
-
-/// The entry of a node without subtrees that has no other.
-fn only_entry<T: Copy>(node: &Node<T>) -> Option<KeyValue<T>>
-    requires leaf { IsLeaf node.now }
-    ensures one { IfSome result (λ entry. node.now.entries ≡ entry ∷ []) }
-    ensures more { IfNone result (1 < length node.now.entries) }
-{
-    if node.row.len() > 1 {
-        return None;
-    }
-    let found = node.row.at(0);
-    Some(KeyValue {
-        key: found.key,
-        value: *found.value,
-    })
+    node
 }
 
 /// Takes the first node off a tree, if its row has at most so many entries.
-fn take_first_few<T: Copy>(tree: Link<T>, most: usize) -> (Link<T>, Link<T>)
+fn take_first_few<K: Key, T: Copy>(tree: Link<K, T>, most: usize) -> (Link<K, T>, Link<K, T>)
     requires alone { IsAlone tree }
     requires limit { height_of tree < 2 ^ 62 }
     ensures freed { IsFreed result.0 }
@@ -207,7 +209,7 @@ fn take_first_few<T: Copy>(tree: Link<T>, most: usize) -> (Link<T>, Link<T>)
 }
 
 /// Takes the last node off a tree, if its row has at most so many entries.
-fn take_last_few<T: Copy>(tree: Link<T>, most: usize) -> (Link<T>, Link<T>)
+fn take_last_few<K: Key, T: Copy>(tree: Link<K, T>, most: usize) -> (Link<K, T>, Link<K, T>)
     requires alone { IsAlone tree }
     requires limit { height_of tree < 2 ^ 62 }
     ensures freed { IsFreed result.1 }
@@ -235,7 +237,10 @@ fn take_last_few<T: Copy>(tree: Link<T>, most: usize) -> (Link<T>, Link<T>)
 
 /// Joins the row of the last node of a left subtree with that of the node above it, where both have few entries. The last
 /// of the answer is the node that became free.
-fn fold_left<T: Copy>(left: Link<T>, top: Box<Node<T>>) -> (Link<T>, Box<Node<T>>, Link<T>)
+fn fold_left<K: Key, T: Copy>(
+    left: Link<K, T>,
+    top: Box<Node<K, T>>,
+) -> (Link<K, T>, Box<Node<K, T>>, Link<K, T>)
     requires leaf { IsLeaf top.value }
     requires alone { IsAlone left }
     requires limit { height_of left < 2 ^ 62 }
@@ -261,7 +266,10 @@ fn fold_left<T: Copy>(left: Link<T>, top: Box<Node<T>>) -> (Link<T>, Box<Node<T>
 
 /// Joins the row of the first node of a right subtree with that of the node above it, where both have few entries. The
 /// last of the answer is the node that became free.
-fn fold_right<T: Copy>(top: Box<Node<T>>, right: Link<T>) -> (Box<Node<T>>, Link<T>, Link<T>)
+fn fold_right<K: Key, T: Copy>(
+    top: Box<Node<K, T>>,
+    right: Link<K, T>,
+) -> (Box<Node<K, T>>, Link<K, T>, Link<K, T>)
     requires leaf { IsLeaf top.value }
     requires alone { IsAlone right }
     requires limit { height_of right < 2 ^ 62 }
@@ -287,7 +295,11 @@ fn fold_right<T: Copy>(top: Box<Node<T>>, right: Link<T>) -> (Box<Node<T>>, Link
 
 /// Joins the row of a node with the last before it or the first behind it, where both have few entries, and puts its
 /// subtrees back. It answers the node that became free too, if one did.
-fn fold_here<T: Copy>(left: Link<T>, top: Box<Node<T>>, right: Link<T>) -> (Box<Node<T>>, Link<T>)
+fn fold_here<K: Key, T: Copy>(
+    left: Link<K, T>,
+    top: Box<Node<K, T>>,
+    right: Link<K, T>,
+) -> (Box<Node<K, T>>, Link<K, T>)
     requires leaf { IsLeaf top.value }
     requires balanced { IsBalanced left right }
     requires limit { max (height_of left) (height_of right) < 2 ^ 62 }
@@ -306,66 +318,65 @@ fn fold_here<T: Copy>(left: Link<T>, top: Box<Node<T>>, right: Link<T>) -> (Box<
     (balance(left, top, right), freed)
 }
 
-/// Takes the entry of a key out of the row of a node with these subtrees, and answers it, what is left, and the node that
+/// Takes the entry of a key out of the row of a node with these subtrees. It answers what is left, and the node that
 /// became free, if one did.
-fn remove_here<T: Copy>(
-    left: Link<T>,
-    top: Box<Node<T>>,
-    right: Link<T>,
-    key: u64,
-) -> (KeyValue<T>, Link<T>, Link<T>)
+fn remove_here<K: Key, T: Copy>(
+    left: Link<K, T>,
+    top: Box<Node<K, T>>,
+    right: Link<K, T>,
+    key: K,
+) -> (Link<K, T>, Link<K, T>)
     requires leaf { IsLeaf top.value }
     requires balanced { IsBalanced left right }
     requires limit { max (height_of left) (height_of right) < 2 ^ 62 }
     requires rising { KeysRise top.value.entries }
-    requires there { IsSome (at_key key top.value.entries) }
-    ensures entry { at_key key top.value.entries ≡ Some result.0 }
-    ensures entries { entries_in result.1 ≡ entries_in left ++ without_key key top.value.entries ++ entries_in right }
-    ensures freed { IsFreed result.2 }
-    ensures alone { IsAlone result.1 }
-    ensures nodes { nodes_in result.1 + nodes_in result.2 ≡ nodes_in left + (nodes_in right + 1) }
-    ensures height { IsLowered (max (height_of left) (height_of right) + 1) (height_of result.1) }
-    ensures kept { nodes_in result.2 ≡ 0 → height_of result.1 ≡ max (height_of left) (height_of right) + 1 }
+    requires there { IsSome (at_key (K.number key) top.value.entries) }
+    ensures entries { entries_in result.0 ≡ entries_in left ++ without_key (K.number key) top.value.entries ++ entries_in right }
+    ensures freed { IsFreed result.1 }
+    ensures alone { IsAlone result.0 }
+    ensures nodes { nodes_in result.0 + nodes_in result.1 ≡ nodes_in left + (nodes_in right + 1) }
+    ensures height { IsLowered (max (height_of left) (height_of right) + 1) (height_of result.0) }
+    ensures kept { nodes_in result.1 ≡ 0 → height_of result.0 ≡ max (height_of left) (height_of right) + 1 }
 {
-    if let Some(entry) = only_entry(&top) {
-        return (entry, merge(left, right), Some(top));
+    if count_in(&top) <= 1 {
+        return (merge(left, right), Some(top));
     }
-    let (entry, top) = shorten(top, key);
-    (entry, Some(join(left, top, right)), None)
+    let top = shorten(top, key);
+    (Some(join(left, top, right)), None)
 }
 
-/// Takes the entry of a key out of a tree, and answers it, what is left, and the node that became free, if one did.
-pub fn remove<T: Copy>(tree: Box<Node<T>>, key: u64) -> (KeyValue<T>, Link<T>, Link<T>)
+/// Takes the entry of a key out of a tree. It answers what is left, and the node that became free, if one did.
+pub fn remove<K: Key, T: Copy>(tree: Box<Node<K, T>>, key: K) -> (Link<K, T>, Link<K, T>)
     requires alone { tree.value.behind ≡ 0 }
     requires limit { tree.value.height < 2 ^ 62 }
     requires rising { KeysRise tree.value.entries }
-    requires there { IsSome (at_key key tree.value.entries) }
-    ensures entry { at_key key tree.value.entries ≡ Some result.0 }
-    ensures entries { entries_in result.1 ≡ without_key key tree.value.entries }
-    ensures freed { IsFreed result.2 }
-    ensures alone { IsAlone result.1 }
-    ensures nodes { nodes_in result.1 + nodes_in result.2 ≡ tree.value.nodes }
-    ensures height { IsLowered tree.value.height (height_of result.1) }
-    ensures kept { nodes_in result.2 ≡ 0 → height_of result.1 ≡ tree.value.height }
+    requires there { IsSome (at_key (K.number key) tree.value.entries) }
+    ensures entries { entries_in result.0 ≡ without_key (K.number key) tree.value.entries }
+    ensures freed { IsFreed result.1 }
+    ensures alone { IsAlone result.0 }
+    ensures nodes { nodes_in result.0 + nodes_in result.1 ≡ tree.value.nodes }
+    ensures height { IsLowered tree.value.height (height_of result.0) }
+    ensures kept { nodes_in result.1 ≡ 0 → height_of result.0 ≡ tree.value.height }
 {
     let (left, top, right) = split(tree);
-    let (first, last) = ends_of(&top);
-    if key < first {
-        let Some(left) = left else { unreachable!() };
-        let (entry, left, freed) = remove(left, key);
-        (entry, Some(balance(left, top, right)), freed)
-    } else if last < key {
-        let Some(right) = right else { unreachable!() };
-        let (entry, right, freed) = remove(right, key);
-        (entry, Some(balance(left, top, right)), freed)
-    } else {
-        remove_here(left, top, right, key)
+    match side_in(&top, key) {
+        Side::Left => {
+            let Some(left) = left else { unreachable!() };
+            let (left, freed) = remove(left, key);
+            (Some(balance(left, top, right)), freed)
+        }
+        Side::Right => {
+            let Some(right) = right else { unreachable!() };
+            let (right, freed) = remove(right, key);
+            (Some(balance(left, top, right)), freed)
+        }
+        Side::Here => remove_here(left, top, right, key),
     }
 }
 
 /// Joins the rows of two nodes beside each other, where both have few entries, at the node in which a key lies. It
 /// answers what is left, and the node that became free, if one did.
-pub fn fold<T: Copy>(tree: Link<T>, key: u64) -> (Link<T>, Link<T>)
+pub fn fold<K: Key, T: Copy>(tree: Link<K, T>, key: K) -> (Link<K, T>, Link<K, T>)
     requires alone { IsAlone tree }
     requires limit { height_of tree < 2 ^ 62 }
     ensures entries { entries_in result.0 ≡ entries_in tree }
@@ -379,15 +390,18 @@ pub fn fold<T: Copy>(tree: Link<T>, key: u64) -> (Link<T>, Link<T>)
         return (None, None)
     };
     let (left, top, right) = split(tree);
-    let (first, last) = ends_of(&top);
-    if key < first {
-        let (left, freed) = fold(left, key);
-        (Some(balance(left, top, right)), freed)
-    } else if last < key {
-        let (right, freed) = fold(right, key);
-        (Some(balance(left, top, right)), freed)
-    } else {
-        let (whole, freed) = fold_here(left, top, right);
-        (Some(whole), freed)
+    match side_in(&top, key) {
+        Side::Left => {
+            let (left, freed) = fold(left, key);
+            (Some(balance(left, top, right)), freed)
+        }
+        Side::Right => {
+            let (right, freed) = fold(right, key);
+            (Some(balance(left, top, right)), freed)
+        }
+        Side::Here => {
+            let (whole, freed) = fold_here(left, top, right);
+            (Some(whole), freed)
+        }
     }
 }

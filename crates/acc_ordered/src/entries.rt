@@ -1,62 +1,79 @@
-//! What a tree keeps, what a search answers, and how one entry may change.
-ghost use Rattle.std.specs.Prelude.{◌≡◌};
+//! What a search answers, and how what stands under a key may change.
+ghost use Rattle.std.specs.Prelude.{◌≡◌, ℕ};
 
-/// A value with its key.
-#[derive(Clone, Copy)]
-pub struct KeyValue<T> {
-    /// No two entries of a tree have the same.
-    pub key: u64,
-    /// What is kept under the key.
-    pub value: T,
-}
+use crate::keys::Key;
 
 /// An entry where it stands in a tree.
 #[derive(Clone, Copy)]
-pub struct KeyValueRef<'a, T> {
-    /// Its key.
-    pub key: u64,
+pub struct KeyValueRef<'a, K, T> {
+    /// Its key. No two entries of a tree have the same.
+    pub key: K,
     /// What is kept under the key.
     pub value: &'a T,
 }
 
 /// The entries on both sides of a key.
 #[derive(Clone, Copy)]
-pub struct Neighbors<'a, T> {
+pub struct Neighbors<'a, K, T> {
     /// The entry of greatest key before it.
-    pub before: Option<KeyValueRef<'a, T>>,
+    pub before: Option<KeyValueRef<'a, K, T>>,
     /// The entry of least key from it on.
-    pub from: Option<KeyValueRef<'a, T>>,
+    pub from: Option<KeyValueRef<'a, K, T>>,
 }
 
-/// What happens to the entry of a key in the row where it stands.
+/// What became of a change in the row where a key stands or goes.
 #[derive(Clone, Copy)]
-pub enum Change {
-    /// It is not there yet, and comes.
-    Put,
-    /// It goes.
-    Take,
-    /// It gets another value.
-    Write,
-}
-
-/// What became of a change in one row.
-#[derive(Clone, Copy)]
-pub enum RowOutcome {
-    /// The row may not change alone: it is full, or has one entry.
-    Refused,
-    /// It changed.
+pub enum RowOutcome<T> {
+    /// The row did it, if there was something to do.
     Done,
-    /// It changed, and has so few entries left that it may fit together with a row beside it.
+    /// The row did it, and has so few entries left that it may fit together with a row beside it.
     Few,
+    /// This value is to come, but the row is full.
+    Full(T),
+    /// The entry is to go, but the row has no other.
+    Alone,
 }
 
-/// A change of values, which may let one stay as it is.
-pub trait Rewriting<T> {
+/// What a walk to the row of a key found, and what became of it.
+#[derive(Clone, Copy)]
+pub struct Changed<T> {
+    /// What stood under the key.
+    pub found: Option<T>,
+    /// What the row did.
+    pub outcome: RowOutcome<T>,
+}
+
+/// A change of what stands under a key: nothing, or a value.
+pub trait Changing<T> {
     ghost use Rattle.std.specs.Prelude.{Option};
 
-    ghost becomes: { Self → T → Option T };
+    ghost becomes: { Self → Option T → Option T };
 
-    /// What a value becomes, or `None` where it stays.
-    fn rewrite(&self, value: T) -> Option<T>
-        ensures { result ≡ becomes self.now value };
+    /// What it becomes.
+    fn change(&self, found: Option<T>) -> Option<T>
+        ensures { result ≡ becomes self.now found };
+}
+
+/// A change that leaves this under a key, whatever stood there.
+#[derive(Clone, Copy)]
+pub struct Given<T>(pub Option<T>);
+
+impl<T: Copy> Changing<T> for Given<T> {
+    ghost becomes = { λ given found. given.0 };
+
+    #[inline]
+    fn change(&self, _found: Option<T>) -> Option<T>
+        ensures { result ≡ self.now.0 }
+    {
+        self.0
+    }
+}
+
+/// What is copied of an entry.
+pub trait Telling<K: Key, T, U> {
+    ghost told: { Self → ℕ → T → U };
+
+    /// The copy of an entry.
+    fn tell(&self, key: K, value: T) -> U
+        ensures { result ≡ told self.now (K.number key) value };
 }

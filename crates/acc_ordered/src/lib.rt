@@ -3,12 +3,16 @@
 
 mod balances;
 mod changes;
+mod cursors;
 mod entries;
+mod keys;
 mod nodes;
 mod rows;
 mod search;
 mod sides;
 mod tree;
 
-pub use entries::{KeyValue, KeyValueRef, Neighbors, Rewriting};
+pub use cursors::Cursor;
+pub use entries::{Changing, Given, KeyValueRef, Neighbors, Telling};
+pub use keys::Key;
 pub use tree::OrderedTree;

@@ -1,12 +1,13 @@
 //! Nodes of a tree, the steps that change which subtrees hang from one, and the walks that go down.
-ghost use Rattle.std.specs.Prelude.{◌≡◌, ◌+◌, ◌*◌, ◌^◌, ◌<◌, ◌≤◌, [], ◌++◌, max, min, length, true, Some, None, IfSome, IfNone, IfErr, OnOk};
-ghost use Rattle.acc_ordered.specs.Listing.{KeysRise, at_key, first_from, last_before, values_in, seen};
-ghost use Rattle.acc_ordered.specs.Changes.{IsSide, IsAllowed, IsChanged};
-ghost use Rattle.acc_ordered.specs.Nodes.{entries_in, height_of, length_of, nodes_in, IsTall, IsWide, IsLeaf, IsChain, IsFreed, IsBalanced};
+ghost use Rattle.std.specs.Prelude.{ℕ, ◌≡◌, ◌+◌, ◌*◌, ◌^◌, ◌<◌, ◌≤◌, [], ◌++◌, max, min, length, Some, None, IfSome, IfNone, IfErr, OnOk};
+ghost use Rattle.acc_ordered.specs.Listing.{KeysRise, value_at, first_from, last_before, told_in, seen};
+ghost use Rattle.acc_ordered.specs.Runs.{IsRunFrom};
+ghost use Rattle.acc_ordered.specs.Changes.{IsSide, IsChanged};
+ghost use Rattle.acc_ordered.specs.Nodes.{entries_in, height_of, length_of, nodes_in, IsTall, IsWide, IsLeaf, IsChain, IsBalanced};
 ghost use Rattle.acc_ordered.specs.Seen.{first_in, last_in};
-ghost use Rattle.acc_ordered.specs.Rewritten.{IsWalked};
 
-use crate::entries::{Change, KeyValue, KeyValueRef, Neighbors, Rewriting, RowOutcome};
+use crate::entries::{Changed, Changing, KeyValueRef, Neighbors, RowOutcome, Telling};
+use crate::keys::Key;
 use crate::rows::{Row, WIDTH};
 use crate::sides::Side;
 use acc_base::{Fault, Steps};
@@ -14,23 +15,23 @@ use std::alloc::Global;
 use std::marker::Model;
 
 /// A tree or a chain, which may be empty.
-pub type Link<T> = Option<Box<Node<T>>>;
+pub type Link<K, T> = Option<Box<Node<K, T>>>;
 
 /// A node of a tree, with those that hang from it, or of a chain, with those behind it.
 #[derive(Drop)]
-pub struct Node<T> {
-    left: Option<Box<Node<T>>>,
-    right: Option<Box<Node<T>>>,
+pub struct Node<K: Key, T> {
+    left: Option<Box<Node<K, T>>>,
+    right: Option<Box<Node<K, T>>>,
     // The keys of the first and the last entry of the row, so that a walk reads no row that it passes.
-    pub(crate) first: u64,
-    pub(crate) last: u64,
+    pub(crate) first: K,
+    pub(crate) last: K,
     height: u64,
-    pub(crate) row: Row<T>,
+    pub(crate) row: Row<K, T>,
     // The next node of the chain that this one waits in.
-    next: Option<Box<Node<T>>>,
+    next: Option<Box<Node<K, T>>>,
 }
 
-impl<T> Model for Node<T> {
+impl<K: Key, T> Model for Node<K, T> {
     ghost use Rattle.acc_ordered.specs.Shape.{Shape};
 
     ghost Value = { Shape T };
@@ -40,17 +41,17 @@ impl<T> Model for Node<T> {
 
     ghost view = { shape_of };
 
-    ghost invariant = { IsAvl };
+    ghost invariant = { IsAvl K.number };
 
     ghost size = { λ s. s.height + s.behind };
 
     ghost use Rattle.acc_ordered.specs.NodeFalls.{child_le};
 
-    ghost size_decreases = { child_le };
+    ghost size_decreases = { child_le (record { number = K.number }) };
 }
 
 /// The height of a tree, and what it tells of the number of nodes and entries.
-pub fn height<T>(tree: &Link<T>) -> u64
+pub fn height<K: Key, T>(tree: &Link<K, T>) -> u64
     ensures value { result ≡ height_of tree.now }
     ensures tall { IsTall result (nodes_in tree.now) }
     ensures wide { IsWide tree.now }
@@ -62,7 +63,7 @@ pub fn height<T>(tree: &Link<T>) -> u64
 }
 
 /// What the height of a tree tells of the number of nodes and entries. Nothing is done.
-pub fn height_law<T>(tree: &Link<T>)
+pub fn height_law<K: Key, T>(tree: &Link<K, T>)
     ensures tall { IsTall (height_of tree.now) (nodes_in tree.now) }
     ensures wide { IsWide tree.now }
 {
@@ -70,7 +71,9 @@ pub fn height_law<T>(tree: &Link<T>)
 }
 
 /// Takes the subtrees off a node.
-pub fn split<T: Copy>(mut node: Box<Node<T>>) -> (Link<T>, Box<Node<T>>, Link<T>)
+pub fn split<K: Key, T: Copy>(
+    mut node: Box<Node<K, T>>,
+) -> (Link<K, T>, Box<Node<K, T>>, Link<K, T>)
     requires alone { node.value.behind ≡ 0 }
     ensures entries { node.value.entries ≡ entries_in result.0 ++ result.1.value.entries ++ entries_in result.2 }
     ensures leaf { IsLeaf result.1.value }
@@ -86,7 +89,11 @@ pub fn split<T: Copy>(mut node: Box<Node<T>>) -> (Link<T>, Box<Node<T>>, Link<T>
 }
 
 /// Puts two subtrees on a node.
-pub fn join<T: Copy>(left: Link<T>, mut node: Box<Node<T>>, right: Link<T>) -> Box<Node<T>>
+pub fn join<K: Key, T: Copy>(
+    left: Link<K, T>,
+    mut node: Box<Node<K, T>>,
+    right: Link<K, T>,
+) -> Box<Node<K, T>>
     requires leaf { IsLeaf node.value }
     requires balanced { IsBalanced left right }
     requires limit { max (height_of left) (height_of right) < 2 ^ 63 }
@@ -104,15 +111,15 @@ pub fn join<T: Copy>(left: Link<T>, mut node: Box<Node<T>>, right: Link<T>) -> B
 }
 
 /// A node of its own, with some entry in its row, or `None` where there is no memory.
-pub fn new_node<T: Copy>(alloc: Global, blank: KeyValue<T>) -> Option<Box<Node<T>>>
+pub fn new_node<K: Key, T: Copy>(alloc: Global, key: K, value: T) -> Option<Box<Node<K, T>>>
     ensures leaf { IfSome result (λ node. IsLeaf node.value) }
 {
-    let row = Row::new(alloc, blank)?;
+    let row = Row::new(alloc, key, value)?;
     let node = Node {
         left: None,
         right: None,
-        first: blank.key,
-        last: blank.key,
+        first: key,
+        last: key,
         height: 1,
         row,
         next: None,
@@ -124,7 +131,7 @@ pub fn new_node<T: Copy>(alloc: Global, blank: KeyValue<T>) -> Option<Box<Node<T
 }
 
 /// Puts a node without subtrees before a chain.
-pub fn push<T: Copy>(chain: Link<T>, mut node: Box<Node<T>>) -> Link<T>
+pub fn push<K: Key, T: Copy>(chain: Link<K, T>, mut node: Box<Node<K, T>>) -> Link<K, T>
     requires leaf { IsLeaf node.value }
     requires chain { IsChain chain }
     ensures length { length_of result ≡ length_of chain + 1 }
@@ -136,7 +143,7 @@ pub fn push<T: Copy>(chain: Link<T>, mut node: Box<Node<T>>) -> Link<T>
 }
 
 /// The first node of a chain, and the others.
-pub fn pop<T: Copy>(mut chain: Box<Node<T>>) -> (Box<Node<T>>, Link<T>)
+pub fn pop<K: Key, T: Copy>(mut chain: Box<Node<K, T>>) -> (Box<Node<K, T>>, Link<K, T>)
     requires chain { IsChain (Some chain) }
     ensures leaf { IsLeaf result.0.value }
     ensures chain { IsChain result.1 }
@@ -150,7 +157,7 @@ pub fn pop<T: Copy>(mut chain: Box<Node<T>>) -> (Box<Node<T>>, Link<T>)
 /// Comes to the node that a link leads to, if there is one, which is one step. A counted search comes to nodes by this
 /// alone.
 #[inline]
-fn visit<'a, T: Copy>(link: &'a Link<T>, steps: &mut Steps) -> Option<&'a Node<T>>
+fn visit<'a, K: Key, T: Copy>(link: &'a Link<K, T>, steps: &mut Steps) -> Option<&'a Node<K, T>>
     requires limit { steps.old < 2 ^ 33 }
     ensures node { IfSome result (λ node. (entries_in link.now ≡ node.now.entries) × (height_of link.now ≡ node.now.height)) }
     ensures step { IfSome result (λ node. steps.new ≡ steps.old + 1) }
@@ -168,8 +175,8 @@ fn visit<'a, T: Copy>(link: &'a Link<T>, steps: &mut Steps) -> Option<&'a Node<T
 
 /// The last entry of a row, if there is a row.
 #[inline]
-fn last_of<'a, T: Copy>(row: Option<&'a Row<T>>) -> Option<KeyValueRef<'a, T>>
-    ensures { seen result ≡ last_in row.entry }
+fn last_of<'a, K: Key, T: Copy>(row: Option<&'a Row<K, T>>) -> Option<KeyValueRef<'a, K, T>>
+    ensures { seen K.number result ≡ last_in row.entry }
 {
     let row = row?;
     let len = row.len();
@@ -181,8 +188,8 @@ fn last_of<'a, T: Copy>(row: Option<&'a Row<T>>) -> Option<KeyValueRef<'a, T>>
 
 /// The first entry of a row, if there is a row.
 #[inline]
-fn first_of<'a, T: Copy>(row: Option<&'a Row<T>>) -> Option<KeyValueRef<'a, T>>
-    ensures { seen result ≡ first_in row.entry }
+fn first_of<'a, K: Key, T: Copy>(row: Option<&'a Row<K, T>>) -> Option<KeyValueRef<'a, K, T>>
+    ensures { seen K.number result ≡ first_in row.entry }
 {
     let row = row?;
     if row.len() == 0 {
@@ -194,32 +201,36 @@ fn first_of<'a, T: Copy>(row: Option<&'a Row<T>>) -> Option<KeyValueRef<'a, T>>
 /// The last entry before a key and the first from it on. Each node on the way is a step; of its row nothing is read but
 /// in the last one.
 #[inline]
-pub fn find_around<'a, T: Copy>(tree: &'a Link<T>, key: u64, steps: &mut Steps) -> Neighbors<'a, T>
+pub fn find_around<'a, K: Key, T: Copy>(
+    tree: &'a Link<K, T>,
+    key: K,
+    steps: &mut Steps,
+) -> Neighbors<'a, K, T>
     requires rising { KeysRise (entries_in tree.now) }
     requires limit { steps.old + height_of tree.now < 2 ^ 33 }
-    ensures before { seen result.before ≡ last_before key (entries_in tree.now) }
-    ensures from { seen result.from ≡ first_from key (entries_in tree.now) }
+    ensures before { seen K.number result.before ≡ last_before (K.number key) (entries_in tree.now) }
+    ensures from { seen K.number result.from ≡ first_from (K.number key) (entries_in tree.now) }
     ensures not_fewer { steps.old ≤ steps.new }
     ensures least { 0 < length (entries_in tree.now) → steps.old < steps.new }
     ensures steps { steps.new ≤ steps.old + height_of tree.now }
 {
     let mut rest = tree;
-    let mut before: Option<&'a Row<T>> = None;
-    let mut from: Option<&'a Row<T>> = None;
+    let mut before: Option<&'a Row<K, T>> = None;
+    let mut from: Option<&'a Row<K, T>> = None;
     'down: while let Some(node) = visit(rest, steps) {
         let last = node.last;
-        if last < key {
+        if last.is_below(key) {
             before = Some(&node.row);
             rest = &node.right;
-        } else if key <= node.first {
-            from = Some(&node.row);
-            rest = &node.left;
-        } else {
+        } else if node.first.is_below(key) {
             let (b, f) = node.row.within(key, node.first, last);
             return Neighbors {
                 before: Some(b),
                 from: Some(f),
             };
+        } else {
+            from = Some(&node.row);
+            rest = &node.left;
         }
     }
     Neighbors {
@@ -229,92 +240,78 @@ pub fn find_around<'a, T: Copy>(tree: &'a Link<T>, key: u64, steps: &mut Steps) 
 }
 
 /// Where the entry of a key stands or goes, seen from a node whose row has these ends.
-fn side_of<T: Copy>(left: &Link<T>, right: &Link<T>, first: u64, last: u64, key: u64) -> Side
-    ensures { IsSide result left.now right.now first last key }
+fn side_of<K: Key, T: Copy>(
+    left: &Link<K, T>,
+    right: &Link<K, T>,
+    first: K,
+    last: K,
+    key: K,
+) -> Side
+    ensures { IsSide result left.now right.now (K.number first) (K.number last) (K.number key) }
 {
-    if key < first && left.is_some() {
+    if key.is_below(first) && left.is_some() {
         Side::Left
-    } else if last < key && right.is_some() {
+    } else if last.is_below(key) && right.is_some() {
         Side::Right
     } else {
         Side::Here
     }
 }
 
-/// Changes the entry of a key in the row where it stands or goes, where that row may change alone. An entry that goes is
-/// left in place of the one that was asked for.
-pub fn change_in_place<T: Copy>(
-    tree: &mut Link<T>,
-    change: Change,
-    entry: &mut KeyValue<T>,
-) -> RowOutcome
-    requires rising { KeysRise (entries_in tree.old) }
-    requires allowed { IsAllowed change (at_key entry.old.key (entries_in tree.old)) }
-    ensures changed { IsChanged change result entry.old entry.new (entries_in tree.old) (entries_in tree.new) }
-    ensures height { height_of tree.new ≡ height_of tree.old }
-    ensures behind { length_of tree.new ≡ length_of tree.old }
-    ensures nodes { nodes_in tree.new ≡ nodes_in tree.old }
-    ensures wide { IsWide tree.new }
+/// What a change makes of nothing where no row is.
+fn change_nothing<T: Copy, C: Changing<T>>(change: &C) -> RowOutcome<T>
+    ensures { (key : ℕ) → IsChanged key None (C.becomes change.now None) result [] [] }
 {
-    match tree {
-        None => RowOutcome::Refused,
-        Some(node) => {
-            let node: &mut Node<T> = node;
-            match side_of(&node.left, &node.right, node.first, node.last, entry.key) {
-                Side::Left => change_in_place(&mut node.left, change, entry),
-                Side::Right => change_in_place(&mut node.right, change, entry),
-                Side::Here => {
-                    let outcome = node.row.change(change, entry);
-                    let (first, last) = node.row.ends();
-                    node.first = first;
-                    node.last = last;
-                    outcome
-                }
-            }
-        }
+    match change.change(None) {
+        Some(value) => RowOutcome::Full(value),
+        None => RowOutcome::Done,
     }
 }
 
-/// Rewrites the last entry before a key, and answers whether its value changed. `None` where there is no such entry.
-pub fn rewrite_before<T: Copy, C: Rewriting<T>>(
-    tree: &mut Link<T>,
-    key: u64,
+/// Changes what stands under a key in the row where it stands or goes, as far as that row may do so alone.
+pub fn change_in_place<K: Key, T: Copy, C: Changing<T>>(
+    tree: &mut Link<K, T>,
+    key: K,
     change: &C,
-) -> Option<bool>
+) -> Changed<T>
     requires rising { KeysRise (entries_in tree.old) }
-    ensures walked { IsWalked (C.becomes change.now) (last_before key (entries_in tree.old)) result (entries_in tree.old) (entries_in tree.new) }
+    ensures found { result.found ≡ value_at (K.number key) (entries_in tree.old) }
+    ensures changed { IsChanged (K.number key) result.found (C.becomes change.now result.found) result.outcome (entries_in tree.old) (entries_in tree.new) }
     ensures height { height_of tree.new ≡ height_of tree.old }
     ensures behind { length_of tree.new ≡ length_of tree.old }
     ensures nodes { nodes_in tree.new ≡ nodes_in tree.old }
     ensures wide { IsWide tree.new }
 {
     match tree {
-        None => None,
+        None => Changed {
+            found: None,
+            outcome: change_nothing(change),
+        },
         Some(node) => {
-            let node: &mut Node<T> = node;
-            let (first, last) = (node.first, node.last);
-            if key <= first {
-                rewrite_before(&mut node.left, key, change)
-            } else if last < key {
-                match rewrite_before(&mut node.right, key, change) {
-                    Some(done) => Some(done),
-                    None => Some(node.row.rewrite_before(key, change, first, last)),
+            let node: &mut Node<K, T> = node;
+            match side_of(&node.left, &node.right, node.first, node.last, key) {
+                Side::Left => change_in_place(&mut node.left, key, change),
+                Side::Right => change_in_place(&mut node.right, key, change),
+                Side::Here => {
+                    let changed = node.row.change(key, change);
+                    let (first, last) = node.row.ends();
+                    node.first = first;
+                    node.last = last;
+                    changed
                 }
-            } else {
-                Some(node.row.rewrite_before(key, change, first, last))
             }
         }
     }
 }
 
 /// How many entries a tree has, or the greatest `usize` where they are more than that.
-pub fn count_entries<T: Copy>(tree: &Link<T>) -> usize
+pub fn count_entries<K: Key, T: Copy>(tree: &Link<K, T>) -> usize
     ensures { result ≡ min (length (entries_in tree.now)) usize.MAX }
 {
     match tree {
         None => 0,
         Some(node) => {
-            let node: &Node<T> = node;
+            let node: &Node<K, T> = node;
             let before = count_entries(&node.left);
             let behind = count_entries(&node.right);
             before.saturating_add(node.row.len()).saturating_add(behind)
@@ -322,28 +319,57 @@ pub fn count_entries<T: Copy>(tree: &Link<T>) -> usize
     }
 }
 
-/// Puts the values of a tree behind those that are copied already.
-pub fn copy_into<T: Copy>(tree: &Link<T>, copied: &mut Vec<T>) -> Result<(), Fault>
-    ensures ok { OnOk result (copied.new.items ≡ copied.old.items ++ values_in (entries_in tree.now)) }
+/// Puts a copy of each entry of a tree behind those that are copied already.
+pub fn copy_into<K: Key, T: Copy, U: Copy, C: Telling<K, T, U>>(
+    tree: &Link<K, T>,
+    telling: &C,
+    copied: &mut Vec<U>,
+) -> Result<(), Fault>
+    ensures ok { OnOk result (copied.new.items ≡ copied.old.items ++ told_in (C.told telling.now) (entries_in tree.now)) }
     ensures only { IfErr result (λ fault. fault ≡ Fault.Memory) }
 {
     match tree {
         None => Ok(()),
         Some(node) => {
-            let node: &Node<T> = node;
-            copy_into(&node.left, copied)?;
-            node.row.copy_into(copied)?;
-            copy_into(&node.right, copied)
+            let node: &Node<K, T> = node;
+            copy_into(&node.left, telling, copied)?;
+            node.row.copy_into(telling, copied)?;
+            copy_into(&node.right, telling, copied)
+        }
+    }
+}
+
+/// The keys of a row from the first one on that does not lie below a key. `None` where all keys lie below it.
+pub fn keys_from<'a, K: Key, T: Copy>(tree: &'a Link<K, T>, key: K) -> Option<&'a [K]>
+    requires rising { KeysRise (entries_in tree.now) }
+    ensures run { IfSome result (λ keys. IsRunFrom K.number (K.number key) keys.now (entries_in tree.now)) }
+    ensures none { IfNone result (first_from (K.number key) (entries_in tree.now) ≡ None) }
+{
+    match tree {
+        None => None,
+        Some(node) => {
+            let node: &'a Node<K, T> = node;
+            let (first, last) = (node.first, node.last);
+            if last.is_below(key) {
+                keys_from(&node.right, key)
+            } else if first.is_below(key) {
+                Some(node.row.keys_from(key, first, last))
+            } else {
+                match keys_from(&node.left, key) {
+                    Some(keys) => Some(keys),
+                    None => Some(node.row.keys()),
+                }
+            }
         }
     }
 }
 
 /// The first node of a tree.
-fn first_node<T: Copy>(tree: &Link<T>) -> Option<&Node<T>> {
+fn first_node<K: Key, T: Copy>(tree: &Link<K, T>) -> Option<&Node<K, T>> {
     let mut rest = tree;
     let mut first = None;
     while let Some(node) = rest {
-        let node: &Node<T> = node;
+        let node: &Node<K, T> = node;
         first = Some(node);
         rest = &node.left;
     }
@@ -351,11 +377,11 @@ fn first_node<T: Copy>(tree: &Link<T>) -> Option<&Node<T>> {
 }
 
 /// The last node of a tree.
-fn last_node<T: Copy>(tree: &Link<T>) -> Option<&Node<T>> {
+fn last_node<K: Key, T: Copy>(tree: &Link<K, T>) -> Option<&Node<K, T>> {
     let mut rest = tree;
     let mut last = None;
     while let Some(node) = rest {
-        let node: &Node<T> = node;
+        let node: &Node<K, T> = node;
         last = Some(node);
         rest = &node.right;
     }
@@ -363,7 +389,7 @@ fn last_node<T: Copy>(tree: &Link<T>) -> Option<&Node<T>> {
 }
 
 /// Whether the rows of two nodes fit together in half of a row.
-fn fit_together<T: Copy>(node: &Node<T>, other: Option<&Node<T>>) -> bool {
+fn fit_together<K: Key, T: Copy>(node: &Node<K, T>, other: Option<&Node<K, T>>) -> bool {
     match other {
         None => false,
         Some(other) => node.row.len() + other.row.len() <= WIDTH / 2,
@@ -372,11 +398,11 @@ fn fit_together<T: Copy>(node: &Node<T>, other: Option<&Node<T>>) -> bool {
 
 /// A key of the upper one of two nodes whose rows fit together, of a node and those before and behind it. Those that were
 /// passed on the way to the node stand beside it where it has no subtree.
-fn upper_of<T: Copy>(
-    node: &Node<T>,
-    before: Option<&Node<T>>,
-    behind: Option<&Node<T>>,
-) -> Option<u64> {
+fn upper_of<K: Key, T: Copy>(
+    node: &Node<K, T>,
+    before: Option<&Node<K, T>>,
+    behind: Option<&Node<K, T>>,
+) -> Option<K> {
     if fit_together(node, last_node(&node.left)) || fit_together(node, first_node(&node.right)) {
         return Some(node.first);
     }
@@ -391,12 +417,12 @@ fn upper_of<T: Copy>(
 
 /// A key of the upper one of two nodes beside each other whose rows fit together, where one of them is that in which a
 /// key stands or would stand.
-pub fn fitting_at<T: Copy>(tree: &Link<T>, key: u64) -> Option<u64> {
+pub fn fitting_at<K: Key, T: Copy>(tree: &Link<K, T>, key: K) -> Option<K> {
     let mut rest = tree;
-    let mut before: Option<&Node<T>> = None;
-    let mut behind: Option<&Node<T>> = None;
+    let mut before: Option<&Node<K, T>> = None;
+    let mut behind: Option<&Node<K, T>> = None;
     while let Some(node) = rest {
-        let node: &Node<T> = node;
+        let node: &Node<K, T> = node;
         match side_of(&node.left, &node.right, node.first, node.last, key) {
             Side::Left => {
                 behind = Some(node);

@@ -1,12 +1,13 @@
 //! Rows of entries by rising key, whose keys stand apart from the values.
-ghost use Rattle.std.specs.Prelude.{◌≡◌, ◌+◌, ◌<◌, ◌≤◌, [], ◌∷◌, ◌++◌, Some, None, IsSome, IfSome, IfErr, OnOk, length, nat_lt, slice_get};
+ghost use Rattle.std.specs.Prelude.{ℕ, ◌≡◌, ◌+◌, ◌<◌, ◌≤◌, [], ◌∷◌, ◌++◌, Some, None, IsSome, IfSome, IfErr, OnOk, length, nat_lt, slice_get, option_map};
 ghost use Rattle.acc_base.specs.Splits.{IsSplitBy};
-ghost use Rattle.acc_ordered.specs.Listing.{KeysRise, at_key, first_from, last_before, with_entry, without_key, with_value, values_in, entry_in};
-ghost use Rattle.acc_ordered.specs.Changes.{IsAllowed, IsChanged};
+ghost use Rattle.acc_ordered.specs.Listing.{KeysRise, keyed, at_key, value_at, first_from, last_before, with_entry, without_key, with_value, entry_in, told_in};
+ghost use Rattle.acc_ordered.specs.Changes.{IsChanged};
 ghost use Rattle.acc_ordered.specs.Row.{HasEnds, AreHalves};
-ghost use Rattle.acc_ordered.specs.Rewritten.{IsWalked};
+ghost use Rattle.acc_ordered.specs.Runs.{IsRun, IsRunFrom};
 
-use crate::entries::{Change, KeyValue, KeyValueRef, Rewriting, RowOutcome};
+use crate::entries::{Changed, Changing, KeyValueRef, RowOutcome, Telling};
+use crate::keys::Key;
 use crate::search::count_below;
 use acc_base::{Fault, Steps};
 use std::alloc::Global;
@@ -20,29 +21,29 @@ const FEW: usize = 16;
 
 /// Entries, seen as the list of them. A search reads the keys alone.
 #[derive(Drop)]
-pub struct Row<T> {
-    keys: Vec<u64>,
+pub struct Row<K: Key, T> {
+    keys: Vec<K>,
     // The value of each key.
     values: Vec<T>,
 }
 
-impl<T> Model for Row<T> {
+impl<K: Key, T> Model for Row<K, T> {
     ghost use Rattle.std.specs.Prelude.{List};
-    ghost use Rattle.acc_ordered.specs.declared.entries.KeyValue.{KeyValue};
+    ghost use Rattle.acc_ordered.specs.Listing.{KeyValue};
 
     ghost Value = { List (KeyValue T) };
 
     ghost use Rattle.acc_ordered.specs.Paired.{entries_of, IsPaired};
 
-    ghost view = { entries_of };
+    ghost view = { entries_of K.number };
 
     ghost invariant = { IsPaired };
 }
 
-impl<T: Copy> Row<T> {
+impl<K: Key, T: Copy> Row<K, T> {
     /// A row of one entry, or `None` where there is no memory.
-    pub fn new(alloc: Global, entry: KeyValue<T>) -> Option<Row<T>>
-        ensures { IfSome result (λ row. row ≡ entry ∷ []) }
+    pub fn new(alloc: Global, key: K, value: T) -> Option<Row<K, T>>
+        ensures { IfSome result (λ row. row ≡ keyed (K.number key) value ∷ []) }
     {
         let Ok(mut keys) = Vec::with_capacity(alloc, WIDTH) else {
             return None;
@@ -50,8 +51,8 @@ impl<T: Copy> Row<T> {
         let Ok(mut values) = Vec::with_capacity(alloc, WIDTH) else {
             return None;
         };
-        keys.push_reserved(entry.key);
-        values.push_reserved(entry.value);
+        keys.push_reserved(key);
+        values.push_reserved(value);
         Some(Row { keys, values })
     }
 
@@ -66,9 +67,9 @@ impl<T: Copy> Row<T> {
 
     /// The entry at a place.
     #[inline]
-    pub fn at(&self, place: usize) -> KeyValueRef<'_, T>
+    pub fn at(&self, place: usize) -> KeyValueRef<'_, K, T>
         requires { place < length self.now }
-        ensures { slice_get self.now place ≡ Some (entry_in result) }
+        ensures { slice_get self.now place ≡ Some (entry_in K.number result) }
     {
         KeyValueRef {
             key: self.keys[place],
@@ -78,9 +79,9 @@ impl<T: Copy> Row<T> {
 
     /// The keys of the first and the last entry.
     #[inline]
-    pub fn ends(&self) -> (u64, u64)
+    pub fn ends(&self) -> (K, K)
         requires { 0 < length self.now }
-        ensures { HasEnds result.0 result.1 self.now }
+        ensures { HasEnds (K.number result.0) (K.number result.1) self.now }
     {
         let last = self.keys.len() - 1;
         (self.keys[0], self.keys[last])
@@ -88,9 +89,9 @@ impl<T: Copy> Row<T> {
 
     /// How many entries have a key below `key`.
     #[inline]
-    fn place(&self, key: u64) -> usize
+    fn place(&self, key: K) -> usize
         requires { KeysRise self.now }
-        ensures { IsSplitBy (λ e. nat_lt e.key key) self.now result }
+        ensures { IsSplitBy (λ e. nat_lt e.key (K.number key)) self.now result }
     {
         count_below(&self.keys, key, &mut Steps::new())
     }
@@ -99,132 +100,199 @@ impl<T: Copy> Row<T> {
     #[inline]
     pub fn within(
         &self,
-        key: u64,
-        first: u64,
-        last: u64,
-    ) -> (KeyValueRef<'_, T>, KeyValueRef<'_, T>)
-        requires ends { HasEnds first last self.now }
+        key: K,
+        first: K,
+        last: K,
+    ) -> (KeyValueRef<'_, K, T>, KeyValueRef<'_, K, T>)
+        requires ends { HasEnds (K.number first) (K.number last) self.now }
         requires rising { KeysRise self.now }
-        requires behind { first < key }
-        requires not_behind { key ≤ last }
-        ensures before { last_before key self.now ≡ Some (entry_in result.0) }
-        ensures from { first_from key self.now ≡ Some (entry_in result.1) }
+        requires behind { K.number first < K.number key }
+        requires not_behind { K.number key ≤ K.number last }
+        ensures before { last_before (K.number key) self.now ≡ Some (entry_in K.number result.0) }
+        ensures from { first_from (K.number key) self.now ≡ Some (entry_in K.number result.1) }
     {
         let place = self.place(key);
         (self.at(place - 1), self.at(place))
     }
 
+    /// All keys.
+    pub fn keys(&self) -> &[K]
+        ensures run { IsRun K.number result.now self.now }
+        ensures first { option_map K.number (slice_get result.now 0) ≡ option_map (λ e. e.key) (slice_get self.now 0) }
+    {
+        &self.keys
+    }
+
+    /// The keys from `key` on, which lies behind the first one and not behind the last.
+    pub fn keys_from(&self, key: K, first: K, last: K) -> &[K]
+        requires ends { HasEnds (K.number first) (K.number last) self.now }
+        requires rising { KeysRise self.now }
+        requires behind { K.number first < K.number key }
+        requires not_behind { K.number key ≤ K.number last }
+        ensures { IsRunFrom K.number (K.number key) result.now self.now }
+    {
+        let place = self.place(key);
+        &self.keys[place..]
+    }
+
     /// Makes it a row of one entry.
-    pub fn reset(&mut self, entry: KeyValue<T>)
-        ensures { self.new ≡ entry ∷ [] }
+    pub fn reset(&mut self, key: K, value: T)
+        ensures { self.new ≡ keyed (K.number key) value ∷ [] }
     {
         self.keys.clear();
         self.values.clear();
-        self.keys.push_reserved(entry.key);
-        self.values.push_reserved(entry.value);
+        self.keys.push_reserved(key);
+        self.values.push_reserved(value);
     }
 
-    /// Puts an entry whose key is not there yet in its place.
-    pub fn put(&mut self, entry: KeyValue<T>)
-        requires rising { KeysRise self.old }
-        requires new { at_key entry.key self.old ≡ None }
+    /// Puts a value under a key that is not there yet, at its place.
+    fn insert_at(&mut self, place: usize, key: K, value: T)
+        requires split { IsSplitBy (λ e. nat_lt e.key (K.number key)) self.old place }
+        requires new { at_key (K.number key) self.old ≡ None }
         requires free { length self.old < 64 }
-        ensures entries { self.new ≡ with_entry entry self.old }
+        ensures entries { self.new ≡ with_entry (keyed (K.number key) value) self.old }
         ensures len { length self.new ≡ length self.old + 1 }
     {
-        let place = self.place(entry.key);
-        let _ = self.keys.insert(place, entry.key);
-        let _ = self.values.insert(place, entry.value);
+        let _ = self.keys.insert(place, key);
+        let _ = self.values.insert(place, value);
     }
 
-    /// Takes out the entry of a key that is there.
-    pub fn take(&mut self, key: u64) -> KeyValue<T>
+    /// Takes out the entry of a key at its place.
+    fn remove_at(&mut self, place: usize)
         requires rising { KeysRise self.old }
-        requires there { IsSome (at_key key self.old) }
-        ensures entry { at_key key self.old ≡ Some result }
-        ensures entries { self.new ≡ without_key key self.old }
+        requires within { place < length self.old }
+        ensures entries { (key : ℕ) → IsSplitBy (λ e. nat_lt e.key key) self.old place → IsSome (at_key key self.old) → self.new ≡ without_key key self.old }
         ensures len { length self.new + 1 ≡ length self.old }
     {
-        let place = self.place(key);
-        let key = self.keys.remove(place);
-        let value = self.values.remove(place);
-        KeyValue { key, value }
+        self.keys.remove(place);
+        self.values.remove(place);
     }
 
-    /// Writes the value of a key that is there.
-    pub fn write(&mut self, key: u64, value: T)
+    /// Writes the value of a key at its place.
+    fn write_at(&mut self, place: usize, value: T)
         requires rising { KeysRise self.old }
-        requires there { IsSome (at_key key self.old) }
-        ensures { self.new ≡ with_value key value self.old }
+        requires within { place < length self.old }
+        ensures entries { (key : ℕ) → IsSplitBy (λ e. nat_lt e.key key) self.old place → IsSome (at_key key self.old) → self.new ≡ with_value key value self.old }
+        ensures len { length self.new ≡ length self.old }
     {
-        let place = self.place(key);
         self.values[place] = value;
     }
 
-    /// Rewrites the last entry before a key, which lies behind the first one. It answers whether its value changed.
-    #[inline]
-    pub fn rewrite_before<C: Rewriting<T>>(
-        &mut self,
-        key: u64,
-        change: &C,
-        first: u64,
-        last: u64,
-    ) -> bool
-        requires ends { HasEnds first last self.old }
+    /// Puts a value under a key that is not there yet.
+    pub fn put(&mut self, key: K, value: T)
         requires rising { KeysRise self.old }
-        requires behind { first < key }
-        ensures walked { IsWalked (C.becomes change.now) (last_before key self.old) (Some result) self.old self.new }
-        ensures ends { HasEnds first last self.new }
+        requires new { at_key (K.number key) self.old ≡ None }
+        requires free { length self.old < 64 }
+        ensures entries { self.new ≡ with_entry (keyed (K.number key) value) self.old }
+        ensures len { length self.new ≡ length self.old + 1 }
     {
-        let place = self.place(key) - 1;
-        match change.rewrite(self.values[place]) {
-            Some(value) => {
-                self.values[place] = value;
-                true
-            }
-            None => false,
-        }
+        let place = self.place(key);
+        self.insert_at(place, key, value);
     }
 
-    /// Changes the entry of a key, where that is allowed to one row alone. An entry that goes is left in place of the one
-    /// that was asked for.
-    #[inline]
-    pub fn change(&mut self, change: Change, entry: &mut KeyValue<T>) -> RowOutcome
+    /// Takes out the entry of a key that is there.
+    pub fn take(&mut self, key: K)
         requires rising { KeysRise self.old }
-        requires allowed { IsAllowed change (at_key entry.old.key self.old) }
+        requires there { IsSome (at_key (K.number key) self.old) }
+        ensures entries { self.new ≡ without_key (K.number key) self.old }
+        ensures len { length self.new + 1 ≡ length self.old }
+    {
+        let place = self.place(key);
+        self.remove_at(place);
+    }
+
+    /// What stands under a key, by its place.
+    #[inline]
+    fn value_of(&self, key: K, place: usize) -> Option<T>
+        requires rising { KeysRise self.now }
+        requires split { IsSplitBy (λ e. nat_lt e.key (K.number key)) self.now place }
+        ensures { result ≡ value_at (K.number key) self.now }
+    {
+        if place == self.keys.len() {
+            return None;
+        }
+        if key.is_below(self.keys[place]) {
+            return None;
+        }
+        Some(self.values[place])
+    }
+
+    /// Puts a value under a key that is not there yet, at its place, if the row is not full.
+    #[inline]
+    fn try_insert(&mut self, place: usize, key: K, value: T) -> RowOutcome<T>
+        requires split { IsSplitBy (λ e. nat_lt e.key (K.number key)) self.old place }
+        requires new { value_at (K.number key) self.old ≡ None }
         requires some { 0 < length self.old }
-        ensures changed { IsChanged change result entry.old entry.new self.old self.new }
+        ensures changed { IsChanged (K.number key) None (Some value) result self.old self.new }
+        ensures some { 0 < length self.new }
+    {
+        if self.len() >= WIDTH {
+            return RowOutcome::Full(value);
+        }
+        self.insert_at(place, key, value);
+        RowOutcome::Done
+    }
+
+    /// Takes out the entry of a key at its place, if it is not alone.
+    #[inline]
+    fn try_remove(&mut self, place: usize) -> RowOutcome<T>
+        requires rising { KeysRise self.old }
+        requires within { place < length self.old }
+        ensures changed { (key : ℕ) (value : T) → IsSplitBy (λ e. nat_lt e.key key) self.old place → value_at key self.old ≡ Some value → IsChanged key (Some value) None result self.old self.new }
         ensures some { 0 < length self.new }
     {
         let len = self.len();
-        match change {
-            Change::Put => {
-                if len >= WIDTH {
-                    return RowOutcome::Refused;
+        if len == 1 {
+            return RowOutcome::Alone;
+        }
+        self.remove_at(place);
+        if len == FEW + 1 || len == FEW / 2 + 1 {
+            RowOutcome::Few
+        } else {
+            RowOutcome::Done
+        }
+    }
+
+    /// Changes what stands under a key, as far as the row may do so alone.
+    #[inline]
+    pub fn change<C: Changing<T>>(&mut self, key: K, change: &C) -> Changed<T>
+        requires rising { KeysRise self.old }
+        requires some { 0 < length self.old }
+        ensures found { result.found ≡ value_at (K.number key) self.old }
+        ensures changed { IsChanged (K.number key) result.found (C.becomes change.now result.found) result.outcome self.old self.new }
+        ensures some { 0 < length self.new }
+    {
+        let place = self.place(key);
+        let found = self.value_of(key, place);
+        match change.change(found) {
+            Some(value) => match found {
+                None => Changed {
+                    found,
+                    outcome: self.try_insert(place, key, value),
+                },
+                Some(_) => {
+                    self.write_at(place, value);
+                    Changed {
+                        found,
+                        outcome: RowOutcome::Done,
+                    }
                 }
-                self.put(*entry);
-                RowOutcome::Done
-            }
-            Change::Take => {
-                if len == 1 {
-                    return RowOutcome::Refused;
-                }
-                *entry = self.take(entry.key);
-                if len == FEW + 1 || len == FEW / 2 + 1 {
-                    RowOutcome::Few
-                } else {
-                    RowOutcome::Done
-                }
-            }
-            Change::Write => {
-                self.write(entry.key, entry.value);
-                RowOutcome::Done
-            }
+            },
+            None => match found {
+                None => Changed {
+                    found,
+                    outcome: RowOutcome::Done,
+                },
+                Some(_) => Changed {
+                    found,
+                    outcome: self.try_remove(place),
+                },
+            },
         }
     }
 
     /// Moves the upper half of the entries to another row, whose own are dropped.
-    pub fn halve(&mut self, upper: &mut Row<T>)
+    pub fn halve(&mut self, upper: &mut Row<K, T>)
         requires { 1 < length self.old }
         ensures { AreHalves self.old self.new upper.new }
     {
@@ -238,7 +306,7 @@ impl<T: Copy> Row<T> {
     }
 
     /// Puts the entries of another row behind its own.
-    pub fn append(&mut self, upper: &Row<T>)
+    pub fn append(&mut self, upper: &Row<K, T>)
         requires { length self.old + length upper.now ≤ 64 }
         ensures { self.new ≡ self.old ++ upper.now }
     {
@@ -246,12 +314,18 @@ impl<T: Copy> Row<T> {
         let _ = self.values.extend_from_slice(&upper.values);
     }
 
-    /// Puts its values behind those that are copied already.
-    pub fn copy_into(&self, copied: &mut Vec<T>) -> Result<(), Fault>
-        ensures ok { OnOk result (copied.new.items ≡ copied.old.items ++ values_in self.now) }
+    /// Puts a copy of each entry behind those that are copied already.
+    pub fn copy_into<U: Copy, C: Telling<K, T, U>>(
+        &self,
+        telling: &C,
+        copied: &mut Vec<U>,
+    ) -> Result<(), Fault>
+        ensures ok { OnOk result (copied.new.items ≡ copied.old.items ++ told_in (C.told telling.now) self.now) }
         ensures only { IfErr result (λ fault. fault ≡ Fault.Memory) }
     {
-        copied.extend_from_slice(&self.values)?;
+        for place in 0..self.keys.len() {
+            copied.push(telling.tell(self.keys[place], self.values[place]))?;
+        }
         Ok(())
     }
 }

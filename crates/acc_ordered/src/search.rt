@@ -1,27 +1,29 @@
 //! A search in a row.
-ghost use Rattle.std.specs.Prelude.{◌≡◌, ℕ, ◌+◌, ◌-◌, ◌^◌, ◌<◌, ◌≤◌, length, nat_lt, if◌then◌else◌, slice_index};
+ghost use Rattle.std.specs.Prelude.{◌≡◌, ◌+◌, ◌^◌, ◌<◌, ◌≤◌, length, take, drop, nat_lt, true, false, if◌then◌else◌};
+ghost use Rattle.std.specs.List.{AllByRecursion};
 ghost use Rattle.acc_base.specs.Splits.{IsSplitBy};
 ghost use Rattle.acc_base.specs.Accounts.{EachPair};
 
+use crate::keys::Key;
 use acc_base::Steps;
 
-/// One where a number lies below a key, and else none. It is a number, so that what adds it up takes no branch.
+/// One where a key lies below another, and else none. It is a number, so that what adds it up takes no branch.
 #[inline]
-fn one_if_below(number: u64, key: u64) -> usize
-    ensures { result ≡ (if nat_lt number key then 1 else 0) }
+fn one_if_below<K: Key>(lower: K, key: K) -> usize
+    ensures { result ≡ (if nat_lt (K.number lower) (K.number key) then 1 else 0) }
 {
-    if number < key { 1 } else { 0 }
+    if lower.is_below(key) { 1 } else { 0 }
 }
 
 /// How many keys lie below `key` in the eighths of a row that do so whole, by one comparison for each eighth.
 #[inline]
-fn count_eighths(keys: &[u64], key: u64, comparisons: &mut Steps) -> usize
-    requires rising { EachPair (λ (a : ℕ) (b : ℕ). a < b) keys.now }
+fn count_eighths<K: Key>(keys: &[K], key: K, comparisons: &mut Steps) -> usize
+    requires rising { EachPair (λ a b. K.number a < K.number b) keys.now }
     requires few { length keys.now ≤ 64 }
     requires limit { comparisons.old ≤ 2 ^ 32 }
     ensures comparisons { comparisons.new ≤ comparisons.old + 8 }
-    ensures passed { 0 < result → slice_index keys.now (result - 1) < key }
-    ensures failed { result + 7 < length keys.now → key ≤ slice_index keys.now (result + 7) }
+    ensures passed { AllByRecursion (λ k. nat_lt (K.number k) (K.number key) ≡ true) (take result keys.now) }
+    ensures failed { AllByRecursion (λ k. nat_lt (K.number k) (K.number key) ≡ false) (drop (result + 7) keys.now) }
     ensures bound { result ≤ length keys.now }
 {
     let mut low = 0;
@@ -35,11 +37,11 @@ fn count_eighths(keys: &[u64], key: u64, comparisons: &mut Steps) -> usize
 /// How many keys of a row lie below `key`, by at most fifteen comparisons: one for each eighth, and seven in the one
 /// where the count ends. No branch is taken by any of them: which one a search takes in the end cannot be foreseen.
 #[inline]
-pub fn count_below(keys: &[u64], key: u64, comparisons: &mut Steps) -> usize
-    requires rising { EachPair (λ (a : ℕ) (b : ℕ). a < b) keys.now }
+pub fn count_below<K: Key>(keys: &[K], key: K, comparisons: &mut Steps) -> usize
+    requires rising { EachPair (λ a b. K.number a < K.number b) keys.now }
     requires few { length keys.now ≤ 64 }
     requires limit { comparisons.old ≤ 2 ^ 32 }
-    ensures split { IsSplitBy (λ k. nat_lt k key) keys.now result }
+    ensures split { IsSplitBy (λ k. nat_lt (K.number k) (K.number key)) keys.now result }
     ensures comparisons { comparisons.new ≤ comparisons.old + 15 }
 {
     let low = count_eighths(keys, key, comparisons);

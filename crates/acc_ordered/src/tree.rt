@@ -1,14 +1,16 @@
 //! A balanced tree of entries, each found by its key in a walk from the top.
-ghost use Rattle.std.specs.Prelude.{◌≡◌, ℕ, ◌+◌, ◌*◌, ◌^◌, ◌<◌, ◌≤◌, [], length, Some, None, IsSome, IfOk, IfErr, OnOk, OnErr, MatchBool};
-ghost use Rattle.acc_ordered.specs.Rewritten.{IsRewritten};
-ghost use Rattle.acc_ordered.specs.Listing.{KeysRise, at_key, first_from, last_before, with_entry, without_key, with_value, values_in, seen};
+ghost use Rattle.std.specs.Prelude.{◌≡◌, ℕ, ◌+◌, ◌*◌, ◌^◌, ◌<◌, ◌≤◌, [], length, Some, None, IsSome, IfSome, IfNone, IfOk, IfErr, OnOk, OnErr, MatchBool};
+ghost use Rattle.acc_ordered.specs.Listing.{KeysRise, keyed, at_key, value_at, first_from, last_before, with_entry, without_key, changed, coming, told_in, seen};
+ghost use Rattle.acc_ordered.specs.Runs.{IsRunFrom};
+ghost use Rattle.acc_ordered.specs.Changes.{CanSettle, settled, coming_by};
 ghost use Rattle.acc_ordered.specs.Nodes.{entries_in, height_of, length_of, nodes_in, IsAlone, IsChain, IsFreed};
 
 use crate::changes;
-use crate::entries::{Change, KeyValue, KeyValueRef, Neighbors, Rewriting, RowOutcome};
+use crate::entries::{Changed, Changing, KeyValueRef, Neighbors, RowOutcome, Telling};
+use crate::keys::Key;
 use crate::nodes::{
-    Link, change_in_place, copy_into, count_entries, find_around, fitting_at, height_law, new_node,
-    pop, push, rewrite_before,
+    Link, change_in_place, copy_into, count_entries, find_around, fitting_at, height_law,
+    keys_from, new_node, pop, push,
 };
 use acc_base::{Fault, Steps};
 use std::alloc::Global;
@@ -27,19 +29,20 @@ use std::marker::Model;
 ///
 /// A search comes to at most two nodes for each binary digit of the number of entries. It then makes at most fifteen
 /// comparisons in one row, none of which is a branch.
-pub struct OrderedTree<T: Copy> {
+pub struct OrderedTree<K: Key, T: Copy> {
     alloc: Global,
     // What stands in nodes that wait.
-    blank: KeyValue<T>,
-    root: Link<T>,
-    spare: Link<T>,
+    blank_key: K,
+    blank: T,
+    root: Link<K, T>,
+    spare: Link<K, T>,
     // How many nodes wait.
     waiting: u64,
     // How many there are in the tree and in the chain.
     nodes: u64,
 }
 
-impl<T: Copy> Model for OrderedTree<T> {
+impl<K: Key, T: Copy> Model for OrderedTree<K, T> {
     ghost use Rattle.acc_ordered.specs.Listing.{Listing};
 
     ghost Value = { Listing T };
@@ -51,11 +54,12 @@ impl<T: Copy> Model for OrderedTree<T> {
     ghost invariant = { IsTreeSound };
 }
 
-impl<T: Copy> Drop for OrderedTree<T> {
+impl<K: Key, T: Copy> Drop for OrderedTree<K, T> {
     fn drop(mut self) {
         drop_chain(self.spare.take());
         let OrderedTree {
             alloc: _,
+            blank_key: _,
             blank: _,
             root: _,
             spare: _,
@@ -65,19 +69,16 @@ impl<T: Copy> Drop for OrderedTree<T> {
     }
 }
 
-impl<T: Copy> OrderedTree<T> {
-    /// A tree without entries and without room. It needs no memory. The blank value stands in nodes that hold no entry,
-    /// and no call answers it.
-    pub fn new(alloc: Global, blank: T) -> OrderedTree<T>
+impl<K: Key, T: Copy> OrderedTree<K, T> {
+    /// A tree without entries and without room. It needs no memory. The blank key and value stand in nodes that hold no
+    /// entry, and no call answers them.
+    pub fn new(alloc: Global, blank_key: K, blank: T) -> OrderedTree<K, T>
         ensures entries { result.entries ≡ [] }
         ensures room { result.room ≡ 0 }
     {
-        let blank = KeyValue {
-            key: 0,
-            value: blank,
-        };
         OrderedTree {
             alloc,
+            blank_key,
             blank,
             root: None,
             spare: None,
@@ -101,6 +102,7 @@ impl<T: Copy> OrderedTree<T> {
     {
         if make_nodes(
             self.alloc,
+            self.blank_key,
             self.blank,
             &mut self.spare,
             &mut self.waiting,
@@ -115,19 +117,23 @@ impl<T: Copy> OrderedTree<T> {
 
     /// The entry of a key, if it is there.
     #[inline]
-    pub fn get(&self, key: u64) -> Option<KeyValueRef<'_, T>>
-        ensures { seen result ≡ at_key key self.now.entries }
+    pub fn get(&self, key: K) -> Option<KeyValueRef<'_, K, T>>
+        ensures { seen K.number result ≡ at_key (K.number key) self.now.entries }
     {
         self.laws();
         let found = self.around(key).from?;
-        if found.key == key { Some(found) } else { None }
+        if key.is_below(found.key) {
+            None
+        } else {
+            Some(found)
+        }
     }
 
     /// The entries on both sides of a key.
     #[inline]
-    pub fn around(&self, key: u64) -> Neighbors<'_, T>
-        ensures before { seen result.before ≡ last_before key self.now.entries }
-        ensures from { seen result.from ≡ first_from key self.now.entries }
+    fn around(&self, key: K) -> Neighbors<'_, K, T>
+        ensures before { seen K.number result.before ≡ last_before (K.number key) self.now.entries }
+        ensures from { seen K.number result.from ≡ first_from (K.number key) self.now.entries }
     {
         self.around_counted(key, &mut Steps::new())
     }
@@ -136,10 +142,10 @@ impl<T: Copy> OrderedTree<T> {
     /// one at least where there are entries. A step is a node; the keys of the one row that is read are not counted, of
     /// which at most fifteen are compared. At most 2^32 were counted before.
     #[inline]
-    pub fn around_counted<'a>(&'a self, key: u64, steps: &mut Steps) -> Neighbors<'a, T>
+    pub fn around_counted<'a>(&'a self, key: K, steps: &mut Steps) -> Neighbors<'a, K, T>
         requires limit { steps.old ≤ 2 ^ 32 }
-        ensures before { seen result.before ≡ last_before key self.now.entries }
-        ensures from { seen result.from ≡ first_from key self.now.entries }
+        ensures before { seen K.number result.before ≡ last_before (K.number key) self.now.entries }
+        ensures from { seen K.number result.from ≡ first_from (K.number key) self.now.entries }
         ensures not_fewer { steps.old ≤ steps.new }
         ensures least { 0 < length self.now.entries → steps.old < steps.new }
         ensures steps { (d : ℕ) → length self.now.entries < 2 ^ d → steps.new ≤ steps.old + 2 * d }
@@ -149,113 +155,119 @@ impl<T: Copy> OrderedTree<T> {
     }
 
     /// The entry of least key from `key` on.
-    pub fn next(&self, key: u64) -> Option<KeyValueRef<'_, T>>
-        ensures { seen result ≡ first_from key self.now.entries }
+    pub fn next(&self, key: K) -> Option<KeyValueRef<'_, K, T>>
+        ensures { seen K.number result ≡ first_from (K.number key) self.now.entries }
     {
         self.around(key).from
     }
 
-    /// Puts an entry in its place by its key, which is not there yet. It needs no memory.
-    pub fn insert(&mut self, entry: KeyValue<T>)
-        requires room { 1 ≤ self.old.room }
-        requires new { at_key entry.key self.old.entries ≡ None }
-        ensures entries { self.new.entries ≡ with_entry entry self.old.entries }
-        ensures room { self.old.room ≤ self.new.room + 1 }
+    /// The keys of a row from the first one on that does not lie below a key. `None` where all keys do.
+    pub(crate) fn keys_from(&self, key: K) -> Option<&[K]>
+        ensures run { IfSome result (λ keys. IsRunFrom K.number (K.number key) keys.now self.now.entries) }
+        ensures none { IfNone result (first_from (K.number key) self.now.entries ≡ None) }
     {
-        height_law(&self.root);
-        put(&mut self.root, &mut self.spare, &mut self.waiting, entry);
+        keys_from(&self.root, key)
     }
 
-    /// Takes out the entry of a key that is there, and answers it. It needs no memory.
-    pub fn remove(&mut self, key: u64) -> KeyValue<T>
-        requires there { IsSome (at_key key self.old.entries) }
-        ensures entry { at_key key self.old.entries ≡ Some result }
-        ensures entries { self.new.entries ≡ without_key key self.old.entries }
-        ensures room { self.old.room ≤ self.new.room }
+    /// Changes what stands under a key, and answers what stood there. It is one walk. A second one follows where a node
+    /// comes or goes, and up to two more where rows are joined. None asks for memory. It takes from the room only where an
+    /// entry comes, and then at most one.
+    pub fn change<C: Changing<T>>(&mut self, key: K, change: &C) -> Option<T>
+        requires room { coming (value_at (K.number key) self.old.entries) (C.becomes change.now (value_at (K.number key) self.old.entries)) ≤ self.old.room }
+        ensures found { result ≡ value_at (K.number key) self.old.entries }
+        ensures entries { self.new.entries ≡ changed (K.number key) result (C.becomes change.now result) self.old.entries }
+        ensures room { self.old.room ≤ self.new.room + coming result (C.becomes change.now result) }
     {
         height_law(&self.root);
-        let mut entry = KeyValue {
+        let Changed { found, outcome } = change_in_place(&mut self.root, key, change);
+        settle(
+            &mut self.root,
+            &mut self.spare,
+            &mut self.waiting,
             key,
-            value: self.blank.value,
-        };
-        let freed = take_out(&mut self.root, &mut entry);
-        keep(&mut self.spare, &mut self.waiting, freed);
-        entry
+            outcome,
+        );
+        found
     }
 
-    /// Writes the value of a key that is there.
-    pub fn set(&mut self, key: u64, value: T)
-        requires there { IsSome (at_key key self.old.entries) }
-        ensures entries { self.new.entries ≡ with_value key value self.old.entries }
-        ensures room { self.new.room ≡ self.old.room }
-    {
-        change_in_place(&mut self.root, Change::Write, &mut KeyValue { key, value });
-    }
-
-    /// Rewrites the last entry before a key, if there is one and the change says what its value becomes. It answers
-    /// whether that is so. It is one walk, which needs no memory.
-    pub fn rewrite_before<C: Rewriting<T>>(&mut self, key: u64, change: &C) -> bool
-        ensures rewritten { IsRewritten (C.becomes change.now) (last_before key self.old.entries) result self.old.entries self.new.entries }
-        ensures room { self.new.room ≡ self.old.room }
-    {
-        rewrite_before(&mut self.root, key, change).unwrap_or(false)
-    }
-
-    /// The values of all entries by rising key, in a vector of their own.
+    /// A copy of each entry by rising key, in a vector of their own.
     ///
     /// # Errors
     ///
     /// [`Fault::Memory`] alone.
-    pub fn copy_values(&self, alloc: Global) -> Result<Vec<T>, Fault>
-        ensures ok { IfOk result (λ copied. copied.items ≡ values_in self.now.entries) }
+    pub fn copy_entries<U: Copy, C: Telling<K, T, U>>(
+        &self,
+        alloc: Global,
+        telling: &C,
+    ) -> Result<Vec<U>, Fault>
+        ensures ok { IfOk result (λ copied. copied.items ≡ told_in (C.told telling.now) self.now.entries) }
         ensures only { IfErr result (λ fault. fault ≡ Fault.Memory) }
     {
         let mut copied = Vec::with_capacity(alloc, count_entries(&self.root))?;
-        copy_into(&self.root, &mut copied)?;
+        copy_into(&self.root, telling, &mut copied)?;
         Ok(copied)
     }
 
     /// That the keys rise. Nothing is done.
-    fn laws(&self)
+    pub fn laws(&self)
         ensures { KeysRise self.now.entries }
     {
         let _ = &self.nodes;
     }
 }
 
-/// Puts an entry into the row where it goes, or into a node that waits where that row is full.
-fn put<T: Copy>(root: &mut Link<T>, spare: &mut Link<T>, waiting: &mut u64, entry: KeyValue<T>)
+/// Does what a row left to do of a change: an entry comes or goes with a node, or rows with few entries are joined.
+fn settle<K: Key, T: Copy>(
+    root: &mut Link<K, T>,
+    spare: &mut Link<K, T>,
+    waiting: &mut u64,
+    key: K,
+    outcome: RowOutcome<T>,
+)
     requires alone { IsAlone root.old }
     requires limit { height_of root.old < 2 ^ 61 }
     requires rising { KeysRise (entries_in root.old) }
-    requires new { at_key entry.key (entries_in root.old) ≡ None }
+    requires can { CanSettle (K.number key) outcome (entries_in root.old) (length_of spare.old) }
     requires chain { IsChain spare.old }
-    requires room { 1 ≤ length_of spare.old }
     requires waiting { waiting.old ≡ length_of spare.old }
-    ensures entries { entries_in root.new ≡ with_entry entry (entries_in root.old) }
+    requires nodes { nodes_in root.old + length_of spare.old < 2 ^ 64 }
+    ensures entries { entries_in root.new ≡ settled (K.number key) outcome (entries_in root.old) }
     ensures alone { IsAlone root.new }
     ensures chain { IsChain spare.new }
     ensures waiting { waiting.new ≡ length_of spare.new }
     ensures nodes { nodes_in root.new + length_of spare.new ≡ nodes_in root.old + length_of spare.old }
-    ensures room { length_of spare.old ≤ length_of spare.new + 1 }
+    ensures room { length_of spare.old ≤ length_of spare.new + coming_by outcome }
 {
-    let mut same = entry;
-    match change_in_place(root, Change::Put, &mut same) {
-        RowOutcome::Refused => put_anew(root, spare, waiting, entry),
-        RowOutcome::Done | RowOutcome::Few => {}
+    match outcome {
+        RowOutcome::Done => {}
+        RowOutcome::Full(value) => put_anew(root, spare, waiting, key, value),
+        RowOutcome::Few => {
+            let freed = join_few(root, key);
+            keep(spare, waiting, freed);
+        }
+        RowOutcome::Alone => {
+            let freed = take_out(root, key);
+            keep(spare, waiting, freed);
+        }
     }
 }
 
-/// Puts an entry into a node that waits.
-fn put_anew<T: Copy>(root: &mut Link<T>, spare: &mut Link<T>, waiting: &mut u64, entry: KeyValue<T>)
+/// Puts a value under a key that is not there yet, with a node that waits.
+fn put_anew<K: Key, T: Copy>(
+    root: &mut Link<K, T>,
+    spare: &mut Link<K, T>,
+    waiting: &mut u64,
+    key: K,
+    value: T,
+)
     requires alone { IsAlone root.old }
     requires limit { height_of root.old < 2 ^ 61 }
     requires rising { KeysRise (entries_in root.old) }
-    requires new { at_key entry.key (entries_in root.old) ≡ None }
+    requires new { at_key (K.number key) (entries_in root.old) ≡ None }
     requires chain { IsChain spare.old }
     requires room { 1 ≤ length_of spare.old }
     requires waiting { waiting.old ≡ length_of spare.old }
-    ensures entries { entries_in root.new ≡ with_entry entry (entries_in root.old) }
+    ensures entries { entries_in root.new ≡ with_entry (keyed (K.number key) value) (entries_in root.old) }
     ensures alone { IsAlone root.new }
     ensures chain { IsChain spare.new }
     ensures waiting { waiting.new ≡ length_of spare.new }
@@ -268,40 +280,30 @@ fn put_anew<T: Copy>(root: &mut Link<T>, spare: &mut Link<T>, waiting: &mut u64,
     let (node, rest) = pop(chain);
     *spare = rest;
     *waiting -= 1;
-    *root = Some(changes::insert(root.take(), node, entry));
+    *root = Some(changes::insert(root.take(), node, key, value));
 }
 
-/// Takes the entry of a key out of its row, or out of the tree with its node where it has no other beside it, and writes
-/// it. It answers the node that became free, if one did.
-fn take_out<T: Copy>(root: &mut Link<T>, entry: &mut KeyValue<T>) -> Link<T>
+/// Takes the entry of a key out of the tree. It answers the node that became free, if one did.
+fn take_out<K: Key, T: Copy>(root: &mut Link<K, T>, key: K) -> Link<K, T>
     requires alone { IsAlone root.old }
     requires limit { height_of root.old < 2 ^ 61 }
     requires rising { KeysRise (entries_in root.old) }
-    requires there { IsSome (at_key entry.old.key (entries_in root.old)) }
-    ensures entry { at_key entry.old.key (entries_in root.old) ≡ Some entry.new }
-    ensures entries { entries_in root.new ≡ without_key entry.old.key (entries_in root.old) }
+    requires there { IsSome (at_key (K.number key) (entries_in root.old)) }
+    ensures entries { entries_in root.new ≡ without_key (K.number key) (entries_in root.old) }
     ensures alone { IsAlone root.new }
     ensures freed { IsFreed result }
     ensures nodes { nodes_in root.old ≡ nodes_in root.new + nodes_in result }
 {
-    let key = entry.key;
-    match change_in_place(root, Change::Take, entry) {
-        RowOutcome::Done => None,
-        RowOutcome::Few => join_few(root, key),
-        RowOutcome::Refused => {
-            let Some(tree) = root.take() else {
-                unreachable!()
-            };
-            let (taken, rest, freed) = changes::remove(tree, key);
-            *entry = taken;
-            *root = rest;
-            freed
-        }
-    }
+    let Some(tree) = root.take() else {
+        unreachable!()
+    };
+    let (rest, freed) = changes::remove(tree, key);
+    *root = rest;
+    freed
 }
 
 /// Puts a node that became free, if one did, before those that wait.
-fn keep<T: Copy>(spare: &mut Link<T>, waiting: &mut u64, freed: Link<T>)
+fn keep<K: Key, T: Copy>(spare: &mut Link<K, T>, waiting: &mut u64, freed: Link<K, T>)
     requires freed { IsFreed freed }
     requires chain { IsChain spare.old }
     requires waiting { waiting.old ≡ length_of spare.old }
@@ -321,7 +323,7 @@ fn keep<T: Copy>(spare: &mut Link<T>, waiting: &mut u64, freed: Link<T>)
 
 /// Joins two rows that fit together, one of them that where a key stands or would stand. It answers the node that became
 /// free, if one did.
-fn join_few<T: Copy>(root: &mut Link<T>, key: u64) -> Link<T>
+fn join_few<K: Key, T: Copy>(root: &mut Link<K, T>, key: K) -> Link<K, T>
     requires alone { IsAlone root.old }
     requires limit { height_of root.old < 2 ^ 61 }
     ensures entries { entries_in root.new ≡ entries_in root.old }
@@ -338,10 +340,11 @@ fn join_few<T: Copy>(root: &mut Link<T>, key: u64) -> Link<T>
 }
 
 /// Adds nodes that wait until `count` do, or answers that there is no memory for them.
-fn make_nodes<T: Copy>(
+fn make_nodes<K: Key, T: Copy>(
     alloc: Global,
-    blank: KeyValue<T>,
-    spare: &mut Link<T>,
+    blank_key: K,
+    blank: T,
+    spare: &mut Link<K, T>,
     waiting: &mut u64,
     nodes: &mut u64,
     count: u64,
@@ -361,7 +364,7 @@ fn make_nodes<T: Copy>(
         let Some(more) = nodes.checked_add(1) else {
             return false
         };
-        let Some(node) = new_node(alloc, blank) else {
+        let Some(node) = new_node(alloc, blank_key, blank) else {
             return false
         };
         *spare = push(spare.take(), node);
@@ -372,7 +375,7 @@ fn make_nodes<T: Copy>(
 }
 
 /// Drops a chain node by node, since a drop of the whole goes as deep as the chain is long.
-fn drop_chain<T: Copy>(chain: Link<T>)
+fn drop_chain<K: Key, T: Copy>(chain: Link<K, T>)
     requires { IsChain chain }
 {
     let mut rest = chain;

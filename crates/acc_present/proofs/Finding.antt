@@ -1,6 +1,6 @@
 -- Where a section lies, one range after the other.
 use Rattle.std.proofs.Common.{ℕ, ◌≡◌, ◌+◌, ◌<◌, ◌≤◌, refl, sym, ap, ◌∙◌, subst, Bool, true, false, cond, List, [], ◌∷◌, ◌++◌, length, Option, Some, None, arith}
-use Rattle.std.specs.Prelude.{◌==◌, ◌-◌, not, nat_lt, nat_le, IfSome, Contains}
+use Rattle.std.specs.Prelude.{◌==◌, not, nat_lt, nat_le, IfSome, Contains}
 use Rattle.std.specs.Option.{option_or}
 use Rattle.std.specs.List.{AllByRecursion, list_all, list_any}
 use Rattle.std.proofs.lemmas.Bool.Decides.{nat_tests}
@@ -169,8 +169,23 @@ last_has P k (x ∷ rs) r all e = go (last_has P k rs r all.1) (last_below k rs)
 pub last_own : (k : ℕ) (rs : List Range) (r : Range) → AreMapped rs → last_below k rs ≡ Some r → range_of r.block rs ≡ Some r
 last_own k rs r m e = last_has (λ (t : Range). range_of t.block rs ≡ Some t) k rs r (at-own block_of rs m.own_block) e
 
-pub last_of_block : (k block : ℕ) (rs : List Range) (r : Range) → AreMapped rs → last_below k rs ≡ Some r → r.block ≡ block → range_of block rs ≡ Some r
-last_of_block k block rs r m e is = subst (λ (n : ℕ). range_of n rs ≡ Some r) is (last_own k rs r m e)
+-- where all begin from an address on, none begins below it
+none_before : (k : ℕ) (rs : List Range) → AllByRecursion (λ (r : Range). k ≤ r.section.start) rs → last_below k rs ≡ None
+none_before k [] from = refl
+none_before k (x ∷ rs) from = let first = from.0 in let out : nat_lt x.section.start k ≡ false = grind (arith, nat_tests) in rw (none_before k rs from.1, out) refl
+
+-- a range is the last one that begins not behind its own start
+pub begun_last : (rs : List Range) (r : Range) → AreMapped rs → range_of r.block rs ≡ Some r → last_below (r.section.start + 1) rs ≡ Some r
+begun_last [] r m there = cc
+begun_last (x ∷ rs) r m there = go (x.block == r.block) (begun_last rs r (mapped_rest x rs m)) there
+  where
+    go : (b : Bool) → (range_of r.block rs ≡ Some r → last_below (r.section.start + 1) rs ≡ Some r) → cond b (Some x) (range_of r.block rs) ≡ Some r → option_or (last_below (r.section.start + 1) rs) (cond (nat_lt x.section.start (r.section.start + 1)) (Some x) None) ≡ Some r
+    go true rest is =
+        let same : x ≡ r = same_Some x r is in
+        let behind : AllByRecursion (λ (t : Range). r.section.start + 1 ≤ t.section.start) rs = subst (λ (y : Range). AllByRecursion (λ (t : Range). y.section.start + 1 ≤ t.section.start) rs) same (AllByRecursion-weaker (λ (t : Range). x.section.start < t.section.start) (λ (t : Range). x.section.start + 1 ≤ t.section.start) rs (λ t less. omega arith) (starts_rise (x ∷ rs) m).0) in
+        let own : nat_lt r.section.start (r.section.start + 1) ≡ true = grind (arith, nat_tests) in
+        rw (same, none_before (r.section.start + 1) rs behind, own) refl
+    go false rest is = rw (rest is) refl
 
 -- ranges that end before a section say nothing of it
 skip_all : (s : Section) (blocks : List ℕ) (front rs : List Range) → 0 < s.len → AllByRecursion (λ (r : Range). 0 < r.section.len) (front ++ rs) → AllByRecursion (λ (r : Range). end_of r.section ≤ s.start) front → where_is_apart s blocks (front ++ rs) ≡ where_is_apart s blocks rs
@@ -308,3 +323,10 @@ silent_absent s rs r some m n behind silent =
     let apart : is_apart s r.section ≡ true = (list_all-from (λ (t : Range). is_apart s t.section) (r ∷ []) (absent_says s (r ∷ []) alone).0).0 in
     let before : end_of s ≤ r.section.start = grind (arith, nat_tests) in
     sym (apart_from_none s rs) ∙ n.1 ∙ ap (where_is_apart s []) parts ∙ absent_before s [] r (ranges_from (r.section.start + 1) rs) some mapped before
+
+-- where the next one begins behind the section, or there is none, it is absent
+pub next_absent : (s : Section) (blocks : List ℕ) (rs : List Range) (o : Option Range) → 0 < s.len → AreMapped rs → IsNext s blocks rs o → IfSome o (λ (r : Range). end_of s ≤ r.section.start) → where_is_apart s blocks rs ≡ Absent
+next_absent s blocks rs None some m n past = n
+next_absent s blocks rs (Some r) some m n past =
+    let parts = rest_parts rs r (starts_rise rs m) n.0 in
+    n.1 ∙ ap (where_is_apart s blocks) parts ∙ absent_before s blocks r (ranges_from (r.section.start + 1) rs) some (subst (λ (ts : List Range). AreMapped ts) parts (mapped_rest_from r.section.start rs m)) past

@@ -2,6 +2,5 @@ pub mod Finding
 pub mod Mapping
 pub mod Registering
 pub mod Limits
-pub mod Fresh
-pub mod Crossing
 pub mod Recounting
+pub mod Crossing

@@ -1,9 +1,8 @@
 -- The open regions, which stand in an index of what they hold.
 use Rattle.std.proofs.Common.{ℕ, ◌≡◌, ◌<◌, refl, sym, ap, ◌∙◌, Bool, true, false, cond, List, [], ◌∷◌, Option, Some, None, IsSome}
-use Rattle.std.specs.Prelude.{◌+◌, ◌==◌, find, filter, map, nat_lt, option_map}
+use Rattle.std.specs.Prelude.{◌==◌, find, nat_lt, option_map}
 use Rattle.std.specs.declared.alloc.Global.{Global}
 use Rattle.std.specs.declared.vec.Vec.{Vec}
-use Rattle.std.specs.List.{AllByRecursion}
 use Rattle.acc_base.specs.declared.regions.Holding.{Holding}
 use Rattle.acc_base.specs.Register.{Region, region_at, newest_region, holdings_at, with_region, without_region}
 use Rattle.acc_base.proofs.Elements.{AllByRecursion-map, find-map, filter-map}

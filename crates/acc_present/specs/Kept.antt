@@ -1,5 +1,5 @@
 -- How the present table keeps its ranges and regions. No public clause cites this module.
-use Rattle.std.specs.Prelude.{ℕ, ◌≡◌, ◌^◌, ◌<◌, ◌==◌, ◌&&◌, if◌then◌else◌, Bool, true, List, filter, map, nat_lt, nat_le, Option, Some, None, option_map, ⊤}
+use Rattle.std.specs.Prelude.{ℕ, ◌≡◌, ◌^◌, ◌-◌, ◌<◌, if◌then◌else◌, nat_lt, nat_le, List, filter, map, Option, Some, None, IfSome, option_map, ⊤}
 use Rattle.std.specs.declared.alloc.Global.{Global}
 use Rattle.std.specs.declared.vec.Vec.{Vec}
 use Rattle.std.specs.List.{AllByRecursion}
@@ -9,42 +9,56 @@ use Rattle.acc_base.specs.declared.regions.Holding.{Holding}
 use Rattle.acc_base.specs.declared.mappings.Found.TheVariants.{Absent}
 use Rattle.acc_base.specs.Ranges.{range_of, range_from, where_is_apart, counter_in, risen, fallen, cleared}
 use Rattle.acc_base.specs.Register.{Region}
-use Rattle.acc_index.specs.Indexed.{IndexState, value_at}
-use Rattle.acc_ordered.specs.declared.entries.KeyValue.{KeyValue}
+use Rattle.acc_base.specs.Section.{end_of}
+use Rattle.slab.specs.Slab.{Slab, slab_len}
+use Rattle.acc_ordered.specs.Listing.{KeyValue}
 use Rattle.acc_present.specs.declared.ranges.CounterChange.{CounterChange}
 use Rattle.acc_present.specs.declared.ranges.CounterChange.TheVariants.{Raise, Lower, Clear}
 use Rattle.acc_present.specs.Present.{AreMapped}
 
 -- ---- the ranges
 
--- the range of an entry, whose key is its start
-abbrev pub range_in : KeyValue Range → Range
-range_in e = record { section = record { start = e.key; len = e.value.section.len }; block = e.value.block; structured = e.value.structured; dynamic = e.value.dynamic }
+-- what a slot has, or a range of nothing
+abbrev pub or_blank : Option Range → Range
+or_blank None = record { section = record { start = 0; len = 0 }; block = 0; structured = 0; dynamic = 0 }
+or_blank (Some r) = r
+
+-- the range of an entry: its key is the start, and the rest is what its slot has
+abbrev pub range_with : KeyValue ℕ → Option Range → Range
+range_with e o = record (or_blank o) { section = record { start = e.key; len = (or_blank o).section.len } }
+
+abbrev pub range_in : (ℕ → Option Range) → KeyValue ℕ → Range
+range_in kept e = range_with e (kept e.value)
 
 -- the ranges of some entries
-abbrev pub ranges_in : List (KeyValue Range) → List Range
-ranges_in entries = map range_in entries
+abbrev pub ranges_in : (ℕ → Option Range) → List (KeyValue ℕ) → List Range
+ranges_in kept entries = map (range_in kept) entries
 
--- the entry has the start of its range for a key, which is an address
-pub record IsKeyed (e : KeyValue Range) : Type 0 where
-  pub start : e.value.section.start ≡ e.key
-  pub bound : e.key < 2 ^ 64
+-- what the slot of an entry has that was found
+abbrev pub range_told : (ℕ → Option Range) → Option (KeyValue ℕ) → Option Range
+range_told kept None = None
+range_told kept (Some e) = kept e.value
 
--- ---- the start of each block's range
+-- the same, where the entry begins before the end of a section
+abbrev pub next_told : (ℕ → Option Range) → Section → Option (KeyValue ℕ) → Option Range
+next_told kept s None = None
+next_told kept s (Some e) = if nat_lt e.key (end_of s) then kept e.value else None
 
--- the start that is kept for a block
-abbrev pub start_in : IndexState ℕ → ℕ → Option ℕ
-start_in starts block = value_at block starts.entries
+-- the slot of an entry has its range
+abbrev pub IsKept : (ℕ → Option Range) → KeyValue ℕ → Type 0
+IsKept kept e = kept e.value ≡ Some (range_in kept e)
 
--- the start of the range that is mapped to a block
-abbrev pub start_at : ℕ → List Range → Option ℕ
-start_at block ranges = option_map (λ r. r.section.start) (range_of block ranges)
+-- the ranges are mapped, each in the slot of its start, which is an address, and of its block. No other slot has one
+pub record AreSeated (entries : List (KeyValue ℕ)) (slots : ℕ → Option ℕ) (kept : ℕ → Option Range) : Type 0 where
+  pub mapped : AreMapped (ranges_in kept entries)
+  pub bound : AllByRecursion (λ (e : KeyValue ℕ). e.key < 2 ^ 64) entries
+  pub seated : AllByRecursion (IsKept kept) entries
+  pub agrees : (block : ℕ) → option_map kept (slots block) ≡ option_map (λ (r : Range). Some r) (range_of block (ranges_in kept entries))
+  pub taken : (slot : ℕ) → IfSome (kept slot) (λ (r : Range). slots r.block ≡ Some slot)
 
--- the ranges are mapped, each by its start, and the start of each block's range is kept
-pub record IsIndexed (entries : List (KeyValue Range)) (starts : ℕ → Option ℕ) : Type 0 where
-  pub mapped : AreMapped (ranges_in entries)
-  pub keyed : AllByRecursion IsKeyed entries
-  pub agrees : (block : ℕ) → starts block ≡ start_at block (ranges_in entries)
+-- how many more ranges there are slots for
+abbrev pub slots_left : Slab Range → ℕ
+slots_left s = s.capacity - slab_len s
 
 -- ---- a search
 
@@ -70,16 +84,6 @@ abbrev pub IsChangeable : CounterChange → ℕ → Range → Type 0
 IsChangeable (Raise counter) most r = counter_in counter r < most
 IsChangeable (Lower counter) most r = ⊤
 IsChangeable Clear most r = ⊤
-
--- the test of that
-abbrev pub allows : CounterChange → ℕ → Range → Bool
-allows (Raise counter) most r = nat_lt (counter_in counter r) most
-allows (Lower counter) most r = true
-allows Clear most r = true
-
--- what it makes of the range that is mapped to a block, where that is allowed
-abbrev pub recounted : ℕ → CounterChange → ℕ → Range → Option Range
-recounted block change most r = if r.block == block && allows change most r then Some (changed_by change r) else None
 
 -- ---- the open regions
 

@@ -27,7 +27,7 @@ pub record Gone : Type 0 where
   pub ranges : ℕ
   pub regions : ℕ
 
--- a present table, its room, how many more ranges there are nodes for, and the places of what is gone
+-- a present table, its room, how many more ranges there are nodes and slots for, and the places of what is gone
 pub record PresentState : Type 0 where
   pub table : PresentTable
   pub room : Room

@@ -1,12 +1,16 @@
-//! Copies of the open regions, in vectors of their own.
+//! Copies of the ranges and of the open regions, in vectors of their own.
 
 ghost use Rattle.std.specs.Prelude.{◌≡◌, length, map, IfOk, IfErr, vec_capacity};
+ghost use Rattle.slab.specs.Slab.{get};
 ghost use Rattle.acc_present.specs.Present.{region_of};
-ghost use Rattle.acc_present.specs.Kept.{regions_in};
+ghost use Rattle.acc_present.specs.Kept.{or_blank, regions_in};
 
+use crate::ranges::BLANK;
 use crate::register::OpenRegion;
-use acc_base::{Fault, Holding};
+use acc_base::{Fault, Holding, Range};
 use acc_index::Index;
+use acc_ordered::Telling;
+use slab::Slab;
 use std::alloc::Global;
 
 /// The region of a number with its holdings in a vector of their own.
@@ -36,4 +40,24 @@ pub fn copy_regions_of(
         }
     }
     Ok(copied)
+}
+
+/// A copy of the range of each slot.
+#[derive(Clone, Copy)]
+pub struct RangeOfSlot<'a> {
+    /// The slots.
+    pub ranges: &'a Slab<Range>,
+}
+
+impl<'a> Telling<u64, usize, Range> for RangeOfSlot<'a> {
+    ghost told = { λ copy start slot. or_blank (get copy.ranges.now slot) };
+
+    #[inline]
+    fn tell(&self, _start: u64, slot: usize) -> Range {
+        match self.ranges.get(slot) {
+            Some(range) => *range,
+            // No entry of a table has such a slot.
+            None => BLANK,
+        }
+    }
 }

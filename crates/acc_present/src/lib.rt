@@ -3,9 +3,11 @@
 #![tactic(auto)]
 
 mod copying;
+mod hints;
 mod presence;
 mod ranges;
 mod register;
+mod slots;
 
 pub use presence::Present;
-pub use register::OpenRegion;
+pub use register::{Holds, OpenRegion};

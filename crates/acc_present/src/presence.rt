@@ -1,21 +1,24 @@
 //! The present table as one value.
 
-ghost use Rattle.std.specs.Prelude.{◌≡◌, false, ℕ, ◌+◌, ◌*◌, ◌^◌, ◌<◌, ◌≤◌, ◌⊎◌, ◌↔◌, length, map, option_map, MatchResult, None, Some, Err, IfOk, IfErr, OnOk, OnErr, IfSome, MatchOption, vec_capacity};
-ghost use Rattle.std.specs.Bool.{OnTrue};
+ghost use Rattle.std.specs.Prelude.{◌≡◌, ℕ, ◌+◌, ◌*◌, ◌^◌, ◌<◌, ◌≤◌, ◌⊎◌, ◌↔◌, length, map, option_map, None, Some, Err, IfOk, IfErr, OnOk, OnErr, IfSome, MatchOption, vec_capacity};
+ghost use Rattle.std.specs.List.{flat_map};
 ghost use Rattle.acc_base.specs.declared.mappings.Range.{Range};
 ghost use Rattle.acc_base.specs.declared.mappings.Counter.TheVariants.{Structured, Dynamic};
 ghost use Rattle.acc_base.specs.declared.mappings.Found.TheVariants.{Absent};
 ghost use Rattle.acc_base.specs.Ranges.{where_is, where_is_apart, range_of, range_from, structured_of, dynamic_of, counter_of, with_range, without_range, changed_at, bare_range, risen, fallen, cleared};
 ghost use Rattle.acc_base.specs.Register.{region_at, newest_region, holdings_at, with_region, without_region};
-ghost use Rattle.acc_ordered.specs.Listing.{seen};
 ghost use Rattle.acc_present.specs.Present.{IsWithinLimit, new_table, with_ranges, with_regions, HasRange, HasRegion, IsToldBy, IsRoomKept, IsRangeRoomTaken, IsRegionRoomTaken, IsRoomMissing, IsMemoryNeeded, IsLawful, region_of};
 ghost use Rattle.acc_present.specs.Kept.{IsNext, IsChangeable, changed_by};
 
-use crate::ranges::{CounterChange, Recount, changed, told_by, value_of};
-use crate::register::{OpenRegion, Register};
+use crate::copying::RangeOfSlot;
+use crate::hints::Hints;
+use crate::ranges::{CounterChange, told_by, value_of};
+use crate::register::{Holds, OpenRegion, Register};
+use crate::slots::{next_if, range_if, recount, reserve_slots, slot_of};
 use acc_base::{Counter, Counters, Fault, Found, Holding, Range, Section, Steps};
 use acc_index::Index;
-use acc_ordered::{KeyValue, KeyValueRef, OrderedTree};
+use acc_ordered::{Given, OrderedTree};
+use slab::Slab;
 use std::alloc::Global;
 use std::marker::Model;
 
@@ -25,15 +28,18 @@ use std::marker::Model;
 /// Contracts see the table, and the room that was made for more beside it. A refused call leaves the table as it was.
 /// Only `new`, `add`, `enter` and `reserve` allocate for it, and `copy_ranges` and `copy_regions` for their results.
 ///
-/// The ranges stand in an [`OrderedTree`] by rising start. The start of each block's range stands in an [`Index`] beside
-/// it, and is found mostly without a search.
+/// Each range stands in a slot of a [`Slab`], and stays there until its mapping ends. An [`OrderedTree`] has the slots by
+/// the rising starts of the ranges. An [`Index`] has them by block, and finds one mostly without a search. A section that
+/// begins where a range does is mostly found without either, by a hint.
 #[derive(Drop)]
 pub struct Present {
     counter_max: u64,
-    // By start.
-    ranges: OrderedTree<Range>,
-    // The host address at which the range of each block begins.
-    starts: Index<u64>,
+    // The slot of each range, by its start.
+    starts: OrderedTree<u64, usize>,
+    // The slot of each range, by its block.
+    slots: Index<usize>,
+    ranges: Slab<Range>,
+    hints: Hints,
     register: Register,
 }
 
@@ -41,26 +47,20 @@ impl Model for Present {
     ghost use Rattle.std.specs.Prelude.{◌^◌, ◌<◌, min};
     ghost use Rattle.std.specs.List.{AllByRecursion};
     ghost use Rattle.acc_present.specs.Present.{PresentState, IsWithinLimit};
-    ghost use Rattle.acc_present.specs.Kept.{ranges_in, start_in, IsIndexed};
+    ghost use Rattle.slab.specs.Slab.{get};
+    ghost use Rattle.acc_index.specs.Indexed.{value_at};
+    ghost use Rattle.acc_present.specs.Kept.{ranges_in, slots_left, AreSeated};
 
     ghost Value = { PresentState };
 
     ghost view = { λ p. record {
-      table = record { counter_max = p.counter_max; ranges = ranges_in p.ranges.entries; regions = p.register.regions };
-      room = record { ranges = min p.ranges.room p.starts.room; regions = p.register.room; holdings = p.register.holdings };
-      nodes = p.ranges.room;
-      gone = record { ranges = p.starts.gone; regions = p.register.gone };
+      table = record { counter_max = p.counter_max; ranges = ranges_in (get p.ranges) p.starts.entries; regions = p.register.regions };
+      room = record { ranges = min (min p.starts.room (slots_left p.ranges)) p.slots.room; regions = p.register.room; holdings = p.register.holdings };
+      nodes = min p.starts.room (slots_left p.ranges);
+      gone = record { ranges = p.slots.gone; regions = p.register.gone };
     } };
 
-    ghost invariant = { λ p. (p.counter_max < 2 ^ 32) × AllByRecursion (IsWithinLimit p.counter_max) (ranges_in p.ranges.entries) × IsIndexed p.ranges.entries (start_in p.starts) };
-}
-
-/// The range that was found, if one was.
-#[inline]
-fn range_if(found: Option<KeyValueRef<'_, Range>>) -> Option<Range>
-    ensures { result ≡ option_map (λ e. e.value) (seen found.entry) }
-{
-    Some(*found?.value)
+    ghost invariant = { λ p. (p.counter_max < 2 ^ 32) × AllByRecursion (IsWithinLimit p.counter_max) (ranges_in (get p.ranges) p.starts.entries) × AreSeated p.starts.entries (λ block. value_at block p.slots.entries) (get p.ranges) };
 }
 
 /// A range of a section that is mapped to a block, with one of its counters at 1.
@@ -86,17 +86,12 @@ impl Present {
         requires { counter_max < 2 ^ 32 }
         ensures { result.table ≡ new_table counter_max }
     {
-        let section = Section { start: 0, len: 0 };
-        let blank = Range {
-            section,
-            block: 0,
-            structured: 0,
-            dynamic: 0,
-        };
         Present {
             counter_max,
-            ranges: OrderedTree::new(alloc, blank),
-            starts: Index::new(alloc),
+            starts: OrderedTree::new(alloc, 0, 0),
+            slots: Index::new(alloc),
+            ranges: Slab::new(alloc),
+            hints: Hints::new(alloc),
             register: Register::new(alloc),
         }
     }
@@ -120,9 +115,10 @@ impl Present {
     }
 
     /// Where a section lies, as [`Present::find`] says, by at most two steps for each binary digit of the number of
-    /// mapped ranges. There is one at least where ranges are mapped and the section is not empty. A step is a node that
-    /// holds up to 64 ranges. Of one node the ranges are compared too, at most fifteen, and not counted. At most 2^32
-    /// were counted before.
+    /// mapped ranges. There is one at least where ranges are mapped and the section is not empty. A step is a node, which
+    /// holds up to 64 starts, or the one hint that tells the range. Not counted are the starts that are compared in one
+    /// node, at most fifteen. Nor are a hint that tells nothing, and the ranges that are read in their slots, at most
+    /// three. At most 2^32 were counted before.
     pub fn find_counted(&self, section: Section, steps: &mut Steps) -> Found
         requires limit { steps.old ≤ 2 ^ 32 }
         ensures found { result ≡ where_is section self.now.table.ranges }
@@ -133,8 +129,7 @@ impl Present {
         self.laws();
         match self.locate(section, &[], steps) {
             Ok((found, _)) => found,
-            Err(None) => Found::Absent,
-            Err(Some(range)) => told_by(range, section, &[]).unwrap_or(Found::Absent),
+            Err(range) => told_by(range, section, &[]).unwrap_or(Found::Absent),
         }
     }
 
@@ -156,7 +151,7 @@ impl Present {
         self.laws();
         let mut next = match self.locate(section, blocks, &mut Steps::new()) {
             Ok(told) => return told,
-            Err(next) => next,
+            Err(range) => Some(range),
         };
         while let Some(range) = next {
             if let Some(found) = told_by(range, section, blocks) {
@@ -167,22 +162,23 @@ impl Present {
         (Found::Absent, None)
     }
 
-    /// Where a section lies among the ranges without those of the listed blocks, as far as the last range says that does
-    /// not begin behind the section's start, with that range. Else the first range that does.
-    #[inline]
+    /// Where a section lies among the ranges without those of the listed blocks. The last range that begins at or before
+    /// the section's start says so, and is answered too. If it says nothing, the error is the next range, if that begins
+    /// before the section ends. Else the section is absent.
+    #[inline(always)]
     fn locate(
         &self,
         section: Section,
         blocks: &[u64],
         steps: &mut Steps,
-    ) -> Result<(Found, Option<Range>), Option<Range>>
+    ) -> Result<(Found, Option<Range>), Range>
         requires limit { steps.old ≤ 2 ^ 32 }
         ensures found { IfOk result (λ told. told.0 ≡ where_is_apart section blocks.now self.now.table.ranges) }
         ensures range { IfOk result (λ told. IfSome told.1 (λ range. range_of range.block self.now.table.ranges ≡ Some range)) }
         ensures block { IfOk result (λ told. IsToldBy told.0 told.1) }
-        ensures next { IfErr result (λ next. IsNext section blocks.now self.now.table.ranges next) }
+        ensures next { IfErr result (λ next. IsNext section blocks.now self.now.table.ranges (Some next)) }
         ensures some { OnErr result (0 < section.len) }
-        ensures behind { IfErr result (λ next. IfSome next (λ range. section.start ≤ range.section.start)) }
+        ensures behind { IfErr result (λ next. section.start ≤ next.section.start) }
         ensures not_fewer { steps.old ≤ steps.new }
         ensures least { 0 < section.len → 0 < length self.now.table.ranges → steps.old < steps.new }
         ensures steps { (d : ℕ) → length self.now.table.ranges < 2 ^ d → steps.new ≤ steps.old + 2 * d }
@@ -190,68 +186,73 @@ impl Present {
         if section.len == 0 {
             return Ok((Found::Empty, None));
         }
+        if let Some((found, range)) = self.found_by_hint(section, blocks) {
+            steps.tick();
+            return Ok((found, Some(range)));
+        }
         let around = self
-            .ranges
+            .starts
             .around_counted(section.start.saturating_add(1), steps);
-        if let Some(range) = range_if(around.before) {
+        if let Some(range) = range_if(&self.ranges, around.before) {
             if let Some(found) = told_by(range, section, blocks) {
                 return Ok((found, Some(range)));
             }
         }
-        Err(range_if(around.from))
+        match next_if(&self.ranges, around.from, section) {
+            Some(range) => Err(range),
+            None => Ok((Found::Absent, None)),
+        }
+    }
+
+    /// Where a section lies, as [`Present::locate`] says, with a range that begins where it does. `None` where no hint
+    /// tells one, or that range says nothing.
+    #[inline]
+    fn found_by_hint(&self, section: Section, blocks: &[u64]) -> Option<(Found, Range)>
+        requires some { 0 < section.len }
+        ensures found { IfSome result (λ told. told.0 ≡ where_is_apart section blocks.now self.now.table.ranges) }
+        ensures range { IfSome result (λ told. range_of told.1.block self.now.table.ranges ≡ Some told.1) }
+        ensures block { IfSome result (λ told. IsToldBy told.0 (Some told.1)) }
+    {
+        let slot = self.hints.slot(section.start)?;
+        let range = *self.ranges.get(slot)?;
+        if range.section.start != section.start {
+            return None;
+        }
+        let found = told_by(range, section, blocks)?;
+        Some((found, range))
     }
 
     /// The mapped range behind another.
     fn behind(&self, range: Range) -> Option<Range>
         ensures { result ≡ range_from (range.section.start + 1) self.now.table.ranges }
     {
-        let ranges = &self.ranges;
-        range_if(ranges.next(range.section.start.checked_add(1)?))
+        let starts = &self.starts;
+        range_if(
+            &self.ranges,
+            starts.next(range.section.start.checked_add(1)?),
+        )
     }
 
-    /// The range that is mapped to a block, if one is.
+    /// The range that is mapped to a block, if one is. Its slot is found mostly without a search.
     pub fn range(&self, block: u64) -> Option<Range>
         ensures { result ≡ range_of block self.now.table.ranges }
     {
-        let start = self.starts.get(block)?;
-        range_if(self.ranges.get(*start))
+        let slot = *self.slots.get(block)?;
+        Some(*self.ranges.get(slot)?)
     }
 
     /// The host address at which the range begins that is mapped to a block, if one is. It is found mostly without a search.
     pub fn start(&self, block: u64) -> Option<u64>
         ensures { result ≡ option_map (λ r. r.section.start) (range_of block self.now.table.ranges) }
     {
-        Some(*self.starts.get(block)?)
-    }
-
-    /// The range that is mapped to a block, if one is, as [`Present::range`] returns it. It is found by one search where
-    /// it is the last one that begins at or before the address `at`, and else by three.
-    pub fn range_near(&self, block: u64, at: u64) -> Option<Range>
-        ensures { result ≡ range_of block self.now.table.ranges }
-    {
-        match range_if(self.ranges.around(at.saturating_add(1)).before) {
-            Some(range) if range.block == block => Some(range),
-            Some(_) | None => self.range(block),
-        }
-    }
-
-    /// The range that is mapped to a block. One is.
-    fn mapped(&self, block: u64) -> Range
-        requires { HasRange self.now.table block }
-        ensures range { range_of block self.now.table.ranges ≡ Some result }
-        ensures block { result.block ≡ block }
-    {
-        let Some(range) = self.range(block) else {
-            unreachable!()
-        };
-        range
+        Some(self.range(block)?.section.start)
     }
 
     /// The mapped range of least start at or above an address.
     pub fn next_range(&self, from: u64) -> Option<Range>
         ensures { result ≡ range_from from self.now.table.ranges }
     {
-        range_if(self.ranges.next(from))
+        range_if(&self.ranges, self.starts.next(from))
     }
 
     /// Maps a section to a block. The section is absent, and no range is mapped to the block. Both counters of the new
@@ -321,11 +322,10 @@ impl Present {
         ensures room_holdings { self.old.room.holdings ≤ self.new.room.holdings }
     {
         let start = range.section.start;
-        self.ranges.insert(KeyValue {
-            key: start,
-            value: range,
-        });
-        self.starts.insert(range.block, start);
+        let slot = self.ranges.insert_reserved(range);
+        self.starts.change(start, &Given(Some(slot)));
+        self.slots.insert(range.block, slot);
+        self.hints.tell(start, slot);
     }
 
     /// Ends the mapping to a block. A range is mapped to it, and both counters of the range are 0.
@@ -347,8 +347,9 @@ impl Present {
         ensures room { IsRoomKept self.old.room self.new.room }
     {
         // Nothing told its place. A look at the first one costs no search.
-        let start = self.starts.take_out_near(block, 0);
-        self.ranges.remove(start);
+        let slot = self.slots.take_out_near(block, 0);
+        let range = self.ranges.remove(slot);
+        self.starts.change(range.section.start, &Given(None));
     }
 
     // ---- reference counters
@@ -359,7 +360,7 @@ impl Present {
         ensures structured { result.structured ≡ structured_of block self.now.table.ranges }
         ensures dynamic { result.dynamic ≡ dynamic_of block self.now.table.ranges }
     {
-        let range = self.mapped(block);
+        let range = self.ranges[slot_of(&self.slots, block)];
         Counters {
             structured: range.structured,
             dynamic: range.dynamic,
@@ -380,8 +381,7 @@ impl Present {
         ensures unchanged { OnErr result (self.new.table ≡ self.old.table) }
         ensures room { IsRoomKept self.old.room self.new.room }
     {
-        let range = self.mapped(block);
-        self.count(Counter::Structured, range)
+        self.count(Counter::Structured, block)
     }
 
     /// Raises the dynamic counter of the range that is mapped to a block. One is.
@@ -398,19 +398,18 @@ impl Present {
         ensures unchanged { OnErr result (self.new.table ≡ self.old.table) }
         ensures room { IsRoomKept self.old.room self.new.room }
     {
-        let range = self.mapped(block);
-        self.count(Counter::Dynamic, range)
+        self.count(Counter::Dynamic, block)
     }
 
     /// Raises a counter of the range that is mapped to a block, as [`Present::count_structured`] and
-    /// [`Present::count_dynamic`] do. One is. It is looked for near the address `at` first, as by
-    /// [`Present::range_near`].
+    /// [`Present::count_dynamic`] do. One is.
     ///
     /// # Errors
     ///
     /// [`Fault::CounterFull`] with item 0, exactly where the counter has its greatest value. The table is then as
     /// before.
-    pub fn count_near(&mut self, counter: Counter, block: u64, at: u64) -> Result<(), Fault>
+    #[inline]
+    pub fn count(&mut self, counter: Counter, block: u64) -> Result<(), Fault>
         requires { HasRange self.old.table block }
         ensures ok { OnOk result (self.new.table ≡ with_ranges self.old.table (changed_at block (risen counter) self.old.table.ranges)) }
         ensures below { OnOk result (counter_of counter block self.old.table.ranges < self.old.table.counter_max) }
@@ -419,55 +418,24 @@ impl Present {
         ensures unchanged { OnErr result (self.new.table ≡ self.old.table) }
         ensures room { IsRoomKept self.old.room self.new.room }
     {
-        if self.change_near(CounterChange::Raise(counter), block, at) {
-            return Ok(());
-        }
-        self.count(counter, self.mapped(block))
-    }
-
-    /// Raises a counter of a mapped range.
-    fn count(&mut self, counter: Counter, range: Range) -> Result<(), Fault>
-        requires { range_of range.block self.old.table.ranges ≡ Some range }
-        ensures ok { OnOk result (self.new.table ≡ with_ranges self.old.table (changed_at range.block (risen counter) self.old.table.ranges)) }
-        ensures below { OnOk result (counter_of counter range.block self.old.table.ranges < self.old.table.counter_max) }
-        ensures full { OnErr result (counter_of counter range.block self.old.table.ranges ≡ self.old.table.counter_max) }
-        ensures only { IfErr result (λ fault. fault ≡ Fault.CounterFull 0) }
-        ensures unchanged { OnErr result (self.new.table ≡ self.old.table) }
-        ensures room { IsRoomKept self.old.room self.new.room }
-    {
-        if self.counter_max <= value_of(counter, range) {
+        let slot = slot_of(&self.slots, block);
+        if self.counter_max <= value_of(counter, self.ranges[slot]) {
             return Err(Fault::CounterFull { item: 0 });
         }
-        self.change(CounterChange::Raise(counter), range);
+        recount(&mut self.ranges, slot, CounterChange::Raise(counter));
         Ok(())
     }
 
-    /// Changes a counter of the range that is mapped to a block, if that is the last one that begins at or before the
-    /// address `at`. A counter that rises has to be below the limit. It answers whether it changed one, by one search.
+    /// Changes a counter of the range that is mapped to a block. One is, and the counter does not rise.
     #[inline]
-    fn change_near(&mut self, change: CounterChange, block: u64, at: u64) -> bool
-        ensures changed { OnTrue result (self.new.table ≡ with_ranges self.old.table (changed_at block (changed_by change) self.old.table.ranges)) }
-        ensures below { OnTrue result ((range : Range) × (range_of block self.old.table.ranges ≡ Some range) × IsChangeable change self.old.table.counter_max range) }
-        ensures unchanged { result ≡ false → self.new.table ≡ self.old.table }
+    fn lower(&mut self, change: CounterChange, block: u64)
+        requires there { HasRange self.old.table block }
+        requires free { (most : ℕ) → (range : Range) → IsChangeable change most range }
+        ensures table { self.new.table ≡ with_ranges self.old.table (changed_at block (changed_by change) self.old.table.ranges) }
         ensures room { IsRoomKept self.old.room self.new.room }
     {
-        let most = self.counter_max as u32;
-        let recount = Recount {
-            block,
-            change,
-            most,
-        };
-        self.ranges.rewrite_before(at.saturating_add(1), &recount)
-    }
-
-    /// Changes a counter of a mapped range. One that rises is below the limit.
-    fn change(&mut self, change: CounterChange, range: Range)
-        requires there { range_of range.block self.old.table.ranges ≡ Some range }
-        requires below { IsChangeable change self.old.table.counter_max range }
-        ensures table { self.new.table ≡ with_ranges self.old.table (changed_at range.block (changed_by change) self.old.table.ranges) }
-        ensures room { IsRoomKept self.old.room self.new.room }
-    {
-        self.ranges.set(range.section.start, changed(change, range));
+        let slot = slot_of(&self.slots, block);
+        recount(&mut self.ranges, slot, change);
     }
 
     /// Lowers the structured counter of the range that is mapped to a block. One is. Zero stays zero.
@@ -476,10 +444,7 @@ impl Present {
         ensures table { self.new.table ≡ with_ranges self.old.table (changed_at block (fallen Structured) self.old.table.ranges) }
         ensures room { IsRoomKept self.old.room self.new.room }
     {
-        self.change(
-            CounterChange::Lower(Counter::Structured),
-            self.mapped(block),
-        );
+        self.lower(CounterChange::Lower(Counter::Structured), block);
     }
 
     /// Lowers the dynamic counter of the range that is mapped to a block. One is. Zero stays zero.
@@ -488,7 +453,7 @@ impl Present {
         ensures table { self.new.table ≡ with_ranges self.old.table (changed_at block (fallen Dynamic) self.old.table.ranges) }
         ensures room { IsRoomKept self.old.room self.new.room }
     {
-        self.change(CounterChange::Lower(Counter::Dynamic), self.mapped(block));
+        self.lower(CounterChange::Lower(Counter::Dynamic), block);
     }
 
     /// Sets the dynamic counter of the range that is mapped to a block to 0 (OpenACC 3.3, the finalize clause). One is.
@@ -497,32 +462,7 @@ impl Present {
         ensures table { self.new.table ≡ with_ranges self.old.table (changed_at block cleared self.old.table.ranges) }
         ensures room { IsRoomKept self.old.room self.new.room }
     {
-        self.change(CounterChange::Clear, self.mapped(block));
-    }
-
-    /// Lowers a counter of the range that is mapped to a block, as [`Present::drop_structured`] and
-    /// [`Present::drop_dynamic`] do. One is. It is looked for near the address `at` first, as by
-    /// [`Present::range_near`]. Zero stays zero.
-    pub fn drop_near(&mut self, counter: Counter, block: u64, at: u64)
-        requires { HasRange self.old.table block }
-        ensures table { self.new.table ≡ with_ranges self.old.table (changed_at block (fallen counter) self.old.table.ranges) }
-        ensures room { IsRoomKept self.old.room self.new.room }
-    {
-        if !self.change_near(CounterChange::Lower(counter), block, at) {
-            self.change(CounterChange::Lower(counter), self.mapped(block));
-        }
-    }
-
-    /// Sets the dynamic counter of the range that is mapped to a block to 0, as [`Present::clear_dynamic`] does. One is.
-    /// It is looked for near the address `at` first, as by [`Present::range_near`].
-    pub fn clear_near(&mut self, block: u64, at: u64)
-        requires { HasRange self.old.table block }
-        ensures table { self.new.table ≡ with_ranges self.old.table (changed_at block cleared self.old.table.ranges) }
-        ensures room { IsRoomKept self.old.room self.new.room }
-    {
-        if !self.change_near(CounterChange::Clear, block, at) {
-            self.change(CounterChange::Clear, self.mapped(block));
-        }
+        self.lower(CounterChange::Clear, block);
     }
 
     // ---- open data regions
@@ -547,17 +487,18 @@ impl Present {
         self.register.enter(number, holdings)
     }
 
-    /// As [`Present::enter`], where there is room for one more region and for its holdings: it allocates nothing and is
-    /// not refused. It takes at most one from the room of regions, and leaves no room for holdings of a further region.
-    pub fn enter_reserved(&mut self, number: u64, holdings: &[Holding])
+    /// As [`Present::enter`], but each of `entered` tells what the region holds of it. There is room for one more region,
+    /// and for one holding of each of these: it allocates nothing and is not refused. It takes at most one from the room
+    /// of regions, and leaves no room for holdings of a further region.
+    pub fn enter_reserved<H: Holds>(&mut self, number: u64, entered: &[H])
         requires room { 1 ≤ self.old.room.regions }
-        requires room_holdings { length holdings.now ≤ self.old.room.holdings }
+        requires room_holdings { length entered.now ≤ self.old.room.holdings }
         requires new { region_at number self.old.table.regions ≡ None }
-        ensures table { self.new.table ≡ with_regions self.old.table (with_region (record { number = number; holdings = holdings.now }) self.old.table.regions) }
+        ensures table { self.new.table ≡ with_regions self.old.table (with_region (record { number = number; holdings = flat_map H.held entered.now }) self.old.table.regions) }
         ensures room_ranges { self.old.room.ranges ≤ self.new.room.ranges }
         ensures room_regions { self.old.room.regions ≤ self.new.room.regions + 1 }
     {
-        self.register.enter_reserved(number, holdings);
+        self.register.enter_reserved(number, entered);
     }
 
     /// What an open region holds, in the written order of its items, or `None` where no region of that number is open.
@@ -603,7 +544,8 @@ impl Present {
         ensures ok { IfOk result (λ ranges. ranges.items ≡ self.now.table.ranges) }
         ensures only { IfErr result (λ fault. fault ≡ Fault.Memory) }
     {
-        self.ranges.copy_values(alloc)
+        let ranges = &self.ranges;
+        self.starts.copy_entries(alloc, &RangeOfSlot { ranges })
     }
 
     /// The open regions in a vector of their own, by rising number. Each has its number, and what each item of its
@@ -631,7 +573,7 @@ impl Present {
     ///
     /// [`Fault::Memory`] alone, only where some of that room was missing. No room has shrunk then. Places of ranges and
     /// of regions that are gone are taken for others first, where they are a quarter of all or more. So it is refused
-    /// only where nodes for ranges or room for holdings were missing, or where such places were fewer or not enough.
+    /// only where nodes or slots for ranges or room for holdings were missing. Or such places were fewer, or not enough.
     pub fn reserve(&mut self, ranges: u64, regions: u64, holdings: u64) -> Result<(), Fault>
         ensures table { self.new.table ≡ self.old.table }
         ensures ranges { OnOk result (ranges ≤ self.new.room.ranges) }
@@ -642,10 +584,13 @@ impl Present {
         ensures cleared { OnErr result (IsMemoryNeeded ranges regions holdings self.old) }
         ensures room { IsRoomKept self.old.room self.new.room }
     {
-        self.starts.laws();
-        self.ranges.reserve(ranges)?;
-        self.starts.reserve(ranges as usize)?;
+        self.slots.laws();
+        self.starts.reserve(ranges)?;
+        reserve_slots(&mut self.ranges, ranges as usize)?;
+        self.slots.reserve(ranges as usize)?;
         self.register.reserve(regions as usize, holdings as usize)?;
+        // Hints are no reason to refuse. So they get their memory only where the call is not refused.
+        self.hints.reserve(&self.ranges, ranges as usize);
         Ok(())
     }
 }

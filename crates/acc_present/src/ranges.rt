@@ -6,10 +6,17 @@ ghost use Rattle.std.specs.List.{list_any};
 ghost use Rattle.acc_base.specs.Section.{is_within, end_of};
 ghost use Rattle.acc_base.specs.Ranges.{where_is_apart, counter_in};
 ghost use Rattle.acc_present.specs.Present.{AreMapped, IsToldBy};
-ghost use Rattle.acc_present.specs.Kept.{changed_by, allows, IsChangeable};
+ghost use Rattle.acc_present.specs.Kept.{changed_by, IsChangeable};
 
 use acc_base::{Counter, Found, Range, Section};
-use acc_ordered::Rewriting;
+
+/// A range of nothing.
+pub const BLANK: Range = Range {
+    section: Section { start: 0, len: 0 },
+    block: 0,
+    structured: 0,
+    dynamic: 0,
+};
 
 /// Each address of the first section is one of the second's, where the first is not empty.
 #[inline]
@@ -24,7 +31,7 @@ pub fn within(section: Section, other: Section) -> bool
 
 /// The first section ends before the second begins.
 #[inline]
-pub fn ends_before(section: Section, other: Section) -> bool
+fn ends_before(section: Section, other: Section) -> bool
     ensures { result ≡ nat_le (end_of section) other.start }
 {
     u128::from(section.start) + u128::from(section.len) <= u128::from(other.start)
@@ -32,7 +39,7 @@ pub fn ends_before(section: Section, other: Section) -> bool
 
 /// The block is one of those listed.
 #[inline]
-pub fn is_listed(blocks: &[u64], block: u64) -> bool
+fn is_listed(blocks: &[u64], block: u64) -> bool
     ensures { result ≡ list_any (λ b. b == block) blocks.now }
 {
     blocks.iter().any(|b| *b == block)
@@ -88,11 +95,11 @@ pub enum CounterChange {
     Clear,
 }
 
-/// The range with a counter changed.
+/// Changes a counter of a range.
 #[inline]
-pub fn changed(change: CounterChange, mut range: Range) -> Range
-    requires { IsChangeable change (2 ^ 32) range }
-    ensures { result ≡ changed_by change range }
+pub fn change_counter(change: CounterChange, range: &mut Range)
+    requires { IsChangeable change (2 ^ 32) range.old }
+    ensures { range.new ≡ changed_by change range.old }
 {
     match change {
         CounterChange::Raise(Counter::Structured) => range.structured += 1,
@@ -102,45 +109,5 @@ pub fn changed(change: CounterChange, mut range: Range) -> Range
             .saturating_sub(1),
         CounterChange::Lower(Counter::Dynamic) => range.dynamic = range.dynamic.saturating_sub(1),
         CounterChange::Clear => range.dynamic = 0,
-    }
-    range
-}
-
-/// Whether a range allows a change: a counter that rises is below its limit.
-#[inline]
-fn is_allowed(change: CounterChange, most: u32, range: Range) -> bool
-    ensures test { result ≡ allows change most range }
-    ensures changeable { OnTrue result (IsChangeable change most range) }
-{
-    match change {
-        CounterChange::Raise(counter) => value_of(counter, range) < u64::from(most),
-        CounterChange::Lower(_) => true,
-        CounterChange::Clear => true,
-    }
-}
-
-/// A change of a counter of the range that is mapped to a block. A counter rises below a limit alone.
-#[derive(Clone, Copy)]
-pub struct Recount {
-    /// The block.
-    pub block: u64,
-    /// What becomes of the counter.
-    pub change: CounterChange,
-    /// The greatest value of a counter.
-    pub most: u32,
-}
-
-impl Rewriting<Range> for Recount {
-    ghost use Rattle.acc_present.specs.Kept.{recounted};
-
-    ghost becomes = { λ c. recounted c.block c.change c.most };
-
-    #[inline]
-    fn rewrite(&self, range: Range) -> Option<Range> {
-        if range.block == self.block && is_allowed(self.change, self.most, range) {
-            Some(changed(self.change, range))
-        } else {
-            None
-        }
     }
 }

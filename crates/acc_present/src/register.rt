@@ -1,6 +1,7 @@
 //! The register of open data regions.
 
-ghost use Rattle.std.specs.Prelude.{◌≡◌, ◌+◌, ◌*◌, ◌<◌, ◌≤◌, ◌⊎◌, [], length, map, None, Some, IsSome, IfOk, IfErr, OnOk, OnErr, MatchOption, vec_capacity};
+ghost use Rattle.std.specs.Prelude.{◌≡◌, ◌+◌, ◌*◌, ◌<◌, ◌≤◌, ◌⊎◌, [], length, map, None, Some, IsSome, IfOk, IfErr, OnOk, OnErr, MatchOption, vec_len, vec_capacity};
+ghost use Rattle.std.specs.List.{flat_map};
 ghost use Rattle.acc_base.specs.Register.{region_at, newest_region, holdings_at, with_region, without_region};
 ghost use Rattle.acc_present.specs.Present.{AreNumbered, IsPlaceMissing, region_of};
 
@@ -18,6 +19,34 @@ pub struct OpenRegion {
     pub number: u64,
     /// What each item of its entry counted, in written order.
     pub holdings: Vec<Holding>,
+}
+
+/// Something with which a region is entered. It tells what the region holds of it.
+pub trait Holds {
+    ghost use Rattle.std.specs.Prelude.{◌≡◌, ◌+◌, ◌<◌, ◌≤◌, ◌++◌, List, vec_len, vec_capacity};
+    ghost use Rattle.acc_base.specs.declared.regions.Holding.{Holding};
+
+    ghost held: { Self → List Holding };
+
+    /// Puts what the region holds of it, one holding at most, behind others, where there is room for one.
+    fn hold(&self, holdings: &mut Vec<Holding>)
+        requires { vec_len holdings.old < vec_capacity holdings.old }
+        ensures items { holdings.new.items ≡ holdings.old.items ++ held self.now }
+        ensures few { vec_len holdings.new ≤ vec_len holdings.old + 1 }
+        ensures capacity { vec_capacity holdings.new ≡ vec_capacity holdings.old };
+}
+
+/// What a region holds that is entered with these, in a vector that is empty, with room for one holding of each.
+fn holdings_of<H: Holds>(spare: Vec<Holding>, entered: &[H]) -> Vec<Holding>
+    requires empty { spare.items ≡ [] }
+    requires room { length entered.now ≤ vec_capacity spare }
+    ensures { result.items ≡ flat_map H.held entered.now }
+{
+    let mut holdings = spare;
+    for x in entered {
+        x.hold(&mut holdings);
+    }
+    holdings
 }
 
 /// The open regions.
@@ -129,17 +158,16 @@ impl Register {
         Ok(())
     }
 
-    /// Opens a region, where there is room for it.
-    pub fn enter_reserved(&mut self, number: u64, holdings: &[Holding])
+    /// Opens a region that is entered with these, where there is room for it and for one holding of each.
+    pub fn enter_reserved<H: Holds>(&mut self, number: u64, entered: &[H])
         requires room { 1 ≤ self.old.room }
-        requires room_holdings { length holdings.now ≤ self.old.holdings }
+        requires room_holdings { length entered.now ≤ self.old.holdings }
         requires new { region_at number self.old.regions ≡ None }
-        ensures regions { self.new.regions ≡ with_region (record { number = number; holdings = holdings.now }) self.old.regions }
+        ensures regions { self.new.regions ≡ with_region (record { number = number; holdings = flat_map H.held entered.now }) self.old.regions }
         ensures room { self.old.room ≤ self.new.room + 1 }
     {
-        let mut own = mem::replace(&mut self.spare, Vec::new(self.alloc));
-        let _ = own.extend_from_slice(holdings);
-        self.regions.insert(number, own);
+        let spare = mem::replace(&mut self.spare, Vec::new(self.alloc));
+        self.regions.insert(number, holdings_of(spare, entered));
     }
 
     /// The region is no longer open.

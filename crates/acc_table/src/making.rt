@@ -5,7 +5,6 @@ ghost use Rattle.acc_base.specs.declared.faults.Fault.TheVariants.{Memory};
 ghost use Rattle.acc_base.specs.Limits.{recorded};
 ghost use Rattle.acc_base.specs.Bytes.{host_after_write};
 ghost use Rattle.acc_base.specs.Judge.{plan_of, written};
-ghost use Rattle.acc_base.specs.Records.{State};
 ghost use Rattle.acc_clauses.specs.Acts.{CanWrite, HasPlanRoom, lens_born};
 ghost use Rattle.acc_clauses.specs.Planned.{IsPlanOf, state_by};
 ghost use Rattle.acc_table.specs.Making.{is_idle, number_told, event_told, reply_told, apart_of, planned_verdict, MayBeToldOf, IsCommitted, IsAsBefore};
@@ -38,63 +37,71 @@ fn number_told(store: &Store, directive: &Directive) -> u64
     }
 }
 
-/// The event of a directive on a device, with this number and what its items did, in written order.
+/// Stores the event of a directive on a device, with this number and what its items did, in written order. Each kind is
+/// stored where it is known, so no event is made first and moved then.
 #[inline(always)]
-fn event_told(device: u64, directive: Directive, number: u64, did: List<Did>) -> Event
-    ensures { result ≡ event_told device directive number did }
+fn store_event(
+    trace: &mut Vec<Event>,
+    device: u64,
+    directive: Directive,
+    number: u64,
+    did: List<Did>,
+)
+    requires { vec_len trace.old < vec_capacity trace.old }
+    ensures { trace.new.items ≡ trace.old.items ++ event_told device directive number did ∷ [] }
 {
     match directive {
-        Directive::Enter { items, .. } => Event::Entered {
+        Directive::Enter { items, .. } => trace.push_reserved(Event::Entered {
             device,
             number,
             items,
             did,
-        },
-        Directive::Exit { number } => Event::Left {
+        }),
+        Directive::Exit { number } => trace.push_reserved(Event::Left {
             device,
             number,
             did,
-        },
-        Directive::EnterData { items, queue, .. } => Event::EnteredData {
+        }),
+        Directive::EnterData { items, queue, .. } => trace.push_reserved(Event::EnteredData {
             device,
             items,
             queue,
             did,
-        },
+        }),
         Directive::ExitData {
             items,
             finalize,
             queue,
             ..
-        } => Event::ExitedData {
+        } => trace.push_reserved(Event::ExitedData {
             device,
             items,
             finalize,
             queue,
             did,
-        },
+        }),
         Directive::Update {
             items,
             if_present,
             queue,
             ..
-        } => Event::Updated {
+        } => trace.push_reserved(Event::Updated {
             device,
             items,
             if_present,
             queue,
             did,
-        },
-        Directive::Wait { queue, .. } => Event::Waited {
+        }),
+        Directive::Wait { queue, .. } => trace.push_reserved(Event::Waited {
             device,
             queue,
             count: number,
-        },
-        Directive::Step { queue, .. } => Event::Stepped {
+        }),
+        Directive::Step { queue, .. } => trace.push_reserved(Event::Stepped {
             device,
             queue,
             block: number,
-        },
+        }),
     }
 }
 
@@ -111,7 +118,8 @@ fn reply_told(directive: &Directive, number: u64) -> Reply
 
 /// Of what the items do, what stands in memory of its own: all of it, but nothing where that is of one item.
 fn copy_apart(alloc: Global, did: &[Did]) -> Result<Vec<Did>, AllocError>
-    ensures { IfOk result (λ apart. apart.items ≡ apart_of did.now) }
+    ensures apart { IfOk result (λ apart. apart.items ≡ apart_of did.now) }
+    ensures one { length did.now ≡ 1 → IsOk result }
 {
     match did {
         [_] => Ok(Vec::new(alloc)),
@@ -246,7 +254,7 @@ pub fn carry_out(
         Ok(Some((number, apart))) => {
             let reply = reply_told(&directive, number);
             let did = list_of(plan.did(), apart);
-            trace.push_reserved(event_told(store.number(), directive, number, did));
+            store_event(trace, store.number(), directive, number, did);
             Ok(reply)
         }
         Ok(None) => Ok(Reply::Idle),

@@ -1,6 +1,6 @@
 //! Loans of blocks to kernels: a block is lent, the bytes of its lease are read and written, and it is brought back.
 
-ghost use Rattle.std.specs.Prelude.{◌≡◌, ◌<◌, ◌≤◌, ◌++◌, IsSome, IfErr, OnOk, OnErr, MatchOption, None, Some};
+ghost use Rattle.std.specs.Prelude.{◌≡◌, ◌+◌, ◌*◌, ◌<◌, ◌≤◌, ◌⊎◌, ◌++◌, length, IsSome, IfErr, OnOk, OnErr, MatchOption, None, Some};
 ghost use Rattle.std.specs.List.{AllByRecursion};
 ghost use Rattle.acc_base.specs.declared.faults.Fault.TheVariants.{Memory};
 ghost use Rattle.acc_index.specs.Indexed.{value_at, with_other};
@@ -23,11 +23,13 @@ use std::mem;
 ///
 /// # Errors
 ///
-/// Where there is no memory for it, and only where that room was missing.
+/// Where there is no memory for it, and only where that room was missing. Places of leases that came back are taken
+/// first, where they are a quarter of all or more.
 fn make_place(leases: &mut Index<KeptLease>) -> Result<(), Fault>
     ensures same { leases.new.entries ≡ leases.old.entries }
     ensures place { OnOk result (1 ≤ leases.new.room) }
     ensures needed { OnErr result (leases.old.room < 1) }
+    ensures cleared { OnErr result ((3 * leases.old.gone < length leases.old.entries) ⊎ (leases.old.room + leases.old.gone < 1)) }
     ensures only { IfErr result (λ fault. fault ≡ Memory) }
 {
     leases.reserve(1)

@@ -32,11 +32,11 @@ impl View<'_> {
         self.environment.present.next_range(from)
     }
 
-    /// The range that is mapped to a block, if one is. An address says where it is looked for first.
-    pub(crate) fn range_near(&self, block: u64, at: u64) -> Option<Range>
+    /// The range that is mapped to a block, if one is.
+    pub(crate) fn range(&self, block: u64) -> Option<Range>
         ensures { result ≡ range_of block self.now.state.records.ranges }
     {
-        self.environment.present.range_near(block, at)
+        self.environment.present.range(block)
     }
 
     /// The range that is mapped to a block, if one is. It is not searched for where it is the one that is known.
@@ -46,7 +46,7 @@ impl View<'_> {
     {
         match known {
             Some(range) if range.block == block => Some(range),
-            Some(_) | None => self.environment.present.range(block),
+            Some(_) | None => self.range(block),
         }
     }
 

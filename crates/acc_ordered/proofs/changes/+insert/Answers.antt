@@ -1,6 +1,5 @@
 use Rattle.std.proofs.Common.{◌≡◌, ◌++◌, List, Some, None, arith, sym, ap, subst, ◌∙◌, append_assoc}
-use Rattle.acc_ordered.specs.declared.entries.KeyValue.{KeyValue}
-use Rattle.acc_ordered.specs.Listing.{KeysRise, at_key, with_entry}
+use Rattle.acc_ordered.specs.Listing.{KeyValue, keyed, KeysRise, at_key, with_entry}
 use Rattle.acc_ordered.specs.Shape.{Shape}
 use Rattle.acc_ordered.specs.Row.{HasEnds}
 use Rattle.acc_ordered.specs.Nodes.{entries_in, height_of}
@@ -11,140 +10,148 @@ use Rattle.acc_ordered.proofs.changes.+insert.Goals as goal
 
 pub insert-left-requires : goal.insert-left-requires
 insert-left-requires g t c κs within =
-    let e : KeyValue g.row.T.Denot = c.args.entry in
+    let e : KeyValue g.row.T.Denot = keyed (g.K.Key.number c.args.key) c.args.value in
     let l = entries_in c.split-left.result.0 in
     let w = c.split-left.result.1.value.entries in
     let r = entries_in c.split-left.result.2 in
     let is : c.args.tree ≡ Some c.in-Some.tree = c.in-Some.is in
     let h : height_of c.args.tree ≡ c.in-Some.tree.value.height = ap height_of is in
     let whole : entries_in c.args.tree ≡ l ++ w ++ r = ap entries_in is ∙ c.split-left.ensures.entries in
-    let first = c.ends_of-first.result.0 in
-    let last = c.ends_of-first.result.1 in
-    let keys : HasEnds first last w = subst (λ (s : Shape g.row.T.Denot). HasEnds first last s.entries) c.deref.ensures c.ends_of-first.ensures in
+    let lies = c.in-Left.ensures in
+    let first = lies.first in
+    let last = lies.last in
+    let keys : HasEnds first last w = subst (λ (s : Shape g.row.T.Denot). HasEnds first last s.entries) c.deref.ensures lies.ends in
     let p : Parts first last l w r = parts first last l w r keys (subst (λ (es : List (KeyValue g.row.T.Denot)). KeysRise es) whole c.requires.rising) in
     let new : at_key e.key (l ++ w ++ r) ≡ None = subst (λ (es : List (KeyValue g.row.T.Denot)). at_key e.key es ≡ None) whole c.requires.new in
-    let d = left_beside e.key first last l w r p c.if-entry-first.true in
-    (omega (arith, c.split-left.ensures.height), (within, (c.requires.leaf, (c.split-left.ensures.balanced.left, (omega (arith, c.split-left.ensures.height, c.requires.limit), (p.head.left, sym (at_left e.key l w r d) ∙ new))))))
+    let d = left_beside e.key first last l w r p lies.lies in
+    (omega (arith, c.split-left.ensures.height), (within.0, (within.1, (c.requires.leaf, (c.split-left.ensures.balanced.left, (omega (arith, c.split-left.ensures.height, c.requires.limit), (p.head.left, sym (at_left e.key l w r d) ∙ new)))))))
 
 pub insert-right-requires : goal.insert-right-requires
 insert-right-requires g t c κs within =
-    let e : KeyValue g.row.T.Denot = c.args.entry in
+    let e : KeyValue g.row.T.Denot = keyed (g.K.Key.number c.args.key) c.args.value in
     let l = entries_in c.split-left.result.0 in
     let w = c.split-left.result.1.value.entries in
     let r = entries_in c.split-left.result.2 in
     let is : c.args.tree ≡ Some c.in-Some.tree = c.in-Some.is in
     let h : height_of c.args.tree ≡ c.in-Some.tree.value.height = ap height_of is in
     let whole : entries_in c.args.tree ≡ l ++ w ++ r = ap entries_in is ∙ c.split-left.ensures.entries in
-    let first = c.ends_of-first.result.0 in
-    let last = c.ends_of-first.result.1 in
-    let keys : HasEnds first last w = subst (λ (s : Shape g.row.T.Denot). HasEnds first last s.entries) c.deref.ensures c.ends_of-first.ensures in
+    let lies = c.in-Right.ensures in
+    let first = lies.first in
+    let last = lies.last in
+    let keys : HasEnds first last w = subst (λ (s : Shape g.row.T.Denot). HasEnds first last s.entries) c.deref.ensures lies.ends in
     let p : Parts first last l w r = parts first last l w r keys (subst (λ (es : List (KeyValue g.row.T.Denot)). KeysRise es) whole c.requires.rising) in
     let new : at_key e.key (l ++ w ++ r) ≡ None = subst (λ (es : List (KeyValue g.row.T.Denot)). at_key e.key es ≡ None) whole c.requires.new in
-    let d = right_beside e.key first last l w r p c.if-last-entry.true in
-    (omega (arith, c.split-left.ensures.height), (within, (c.requires.leaf, (c.split-left.ensures.balanced.right, (omega (arith, c.split-left.ensures.height, c.requires.limit), (p.foot.right, sym (at_right e.key l w r d) ∙ new))))))
+    let d = right_beside e.key first last l w r p lies.lies in
+    (omega (arith, c.split-left.ensures.height), (within.0, (within.1, (c.requires.leaf, (c.split-left.ensures.balanced.right, (omega (arith, c.split-left.ensures.height, c.requires.limit), (p.foot.right, sym (at_right e.key l w r d) ∙ new)))))))
 
 pub cut-lower-requires-clause-more : goal.cut-lower-requires-clause-more
 cut-lower-requires-clause-more g t c =
-    let e : KeyValue g.row.T.Denot = c.args.entry in
+    let e : KeyValue g.row.T.Denot = keyed (g.K.Key.number c.args.key) c.args.value in
     let l = entries_in c.split-left.result.0 in
     let w = c.split-left.result.1.value.entries in
     let r = entries_in c.split-left.result.2 in
     let is : c.args.tree ≡ Some c.in-Some.tree = c.in-Some.is in
     let h : height_of c.args.tree ≡ c.in-Some.tree.value.height = ap height_of is in
     let whole : entries_in c.args.tree ≡ l ++ w ++ r = ap entries_in is ∙ c.split-left.ensures.entries in
-    let first = c.ends_of-first.result.0 in
-    let last = c.ends_of-first.result.1 in
-    let keys : HasEnds first last w = subst (λ (s : Shape g.row.T.Denot). HasEnds first last s.entries) c.deref.ensures c.ends_of-first.ensures in
+    let lies = c.in-Here.ensures in
+    let first = lies.first in
+    let last = lies.last in
+    let keys : HasEnds first last w = subst (λ (s : Shape g.row.T.Denot). HasEnds first last s.entries) c.deref.ensures lies.ends in
     let p : Parts first last l w r = parts first last l w r keys (subst (λ (es : List (KeyValue g.row.T.Denot)). KeysRise es) whole c.requires.rising) in
     let new : at_key e.key (l ++ w ++ r) ≡ None = subst (λ (es : List (KeyValue g.row.T.Denot)). at_key e.key es ≡ None) whole c.requires.new in
-    let d = row_beside e.key first last l w r p c.if-entry-first.false c.if-last-entry.false in
-    two_ends first last w keys (omega (arith, not_first e.key first last w keys (sym (at_beside e.key l w r d) ∙ new) c.if-entry-first.false, c.if-last-entry.false))
+    let d = row_beside e.key first last l w r p lies.lies.0 lies.lies.1 in
+    two_ends first last w keys (omega (arith, not_first e.key first last w keys (sym (at_beside e.key l w r d) ∙ new) lies.lies.0, lies.lies.1))
 
 pub cut-lower-requires-clause-rising : goal.cut-lower-requires-clause-rising
 cut-lower-requires-clause-rising g t c =
-    let e : KeyValue g.row.T.Denot = c.args.entry in
+    let e : KeyValue g.row.T.Denot = keyed (g.K.Key.number c.args.key) c.args.value in
     let l = entries_in c.split-left.result.0 in
     let w = c.split-left.result.1.value.entries in
     let r = entries_in c.split-left.result.2 in
     let is : c.args.tree ≡ Some c.in-Some.tree = c.in-Some.is in
     let h : height_of c.args.tree ≡ c.in-Some.tree.value.height = ap height_of is in
     let whole : entries_in c.args.tree ≡ l ++ w ++ r = ap entries_in is ∙ c.split-left.ensures.entries in
-    let first = c.ends_of-first.result.0 in
-    let last = c.ends_of-first.result.1 in
-    let keys : HasEnds first last w = subst (λ (s : Shape g.row.T.Denot). HasEnds first last s.entries) c.deref.ensures c.ends_of-first.ensures in
+    let lies = c.in-Here.ensures in
+    let first = lies.first in
+    let last = lies.last in
+    let keys : HasEnds first last w = subst (λ (s : Shape g.row.T.Denot). HasEnds first last s.entries) c.deref.ensures lies.ends in
     let p : Parts first last l w r = parts first last l w r keys (subst (λ (es : List (KeyValue g.row.T.Denot)). KeysRise es) whole c.requires.rising) in
     let new : at_key e.key (l ++ w ++ r) ≡ None = subst (λ (es : List (KeyValue g.row.T.Denot)). at_key e.key es ≡ None) whole c.requires.new in
     p.rising
 
 pub cut-lower-requires-clause-new : goal.cut-lower-requires-clause-new
 cut-lower-requires-clause-new g t c =
-    let e : KeyValue g.row.T.Denot = c.args.entry in
+    let e : KeyValue g.row.T.Denot = keyed (g.K.Key.number c.args.key) c.args.value in
     let l = entries_in c.split-left.result.0 in
     let w = c.split-left.result.1.value.entries in
     let r = entries_in c.split-left.result.2 in
     let is : c.args.tree ≡ Some c.in-Some.tree = c.in-Some.is in
     let h : height_of c.args.tree ≡ c.in-Some.tree.value.height = ap height_of is in
     let whole : entries_in c.args.tree ≡ l ++ w ++ r = ap entries_in is ∙ c.split-left.ensures.entries in
-    let first = c.ends_of-first.result.0 in
-    let last = c.ends_of-first.result.1 in
-    let keys : HasEnds first last w = subst (λ (s : Shape g.row.T.Denot). HasEnds first last s.entries) c.deref.ensures c.ends_of-first.ensures in
+    let lies = c.in-Here.ensures in
+    let first = lies.first in
+    let last = lies.last in
+    let keys : HasEnds first last w = subst (λ (s : Shape g.row.T.Denot). HasEnds first last s.entries) c.deref.ensures lies.ends in
     let p : Parts first last l w r = parts first last l w r keys (subst (λ (es : List (KeyValue g.row.T.Denot)). KeysRise es) whole c.requires.rising) in
     let new : at_key e.key (l ++ w ++ r) ≡ None = subst (λ (es : List (KeyValue g.row.T.Denot)). at_key e.key es ≡ None) whole c.requires.new in
-    let d = row_beside e.key first last l w r p c.if-entry-first.false c.if-last-entry.false in
+    let d = row_beside e.key first last l w r p lies.lies.0 lies.lies.1 in
     sym (at_beside e.key l w r d) ∙ new
 
-pub returns-then-entry-first-clause-entries : goal.returns-then-entry-first-clause-entries
-returns-then-entry-first-clause-entries g t c =
-    let e : KeyValue g.row.T.Denot = c.args.entry in
+pub returns-in-Left-clause-entries : goal.returns-in-Left-clause-entries
+returns-in-Left-clause-entries g t c =
+    let e : KeyValue g.row.T.Denot = keyed (g.K.Key.number c.args.key) c.args.value in
     let l = entries_in c.split-left.result.0 in
     let w = c.split-left.result.1.value.entries in
     let r = entries_in c.split-left.result.2 in
     let is : c.args.tree ≡ Some c.in-Some.tree = c.in-Some.is in
     let h : height_of c.args.tree ≡ c.in-Some.tree.value.height = ap height_of is in
     let whole : entries_in c.args.tree ≡ l ++ w ++ r = ap entries_in is ∙ c.split-left.ensures.entries in
-    let first = c.ends_of-first.result.0 in
-    let last = c.ends_of-first.result.1 in
-    let keys : HasEnds first last w = subst (λ (s : Shape g.row.T.Denot). HasEnds first last s.entries) c.deref.ensures c.ends_of-first.ensures in
+    let lies = c.in-Left.ensures in
+    let first = lies.first in
+    let last = lies.last in
+    let keys : HasEnds first last w = subst (λ (s : Shape g.row.T.Denot). HasEnds first last s.entries) c.deref.ensures lies.ends in
     let p : Parts first last l w r = parts first last l w r keys (subst (λ (es : List (KeyValue g.row.T.Denot)). KeysRise es) whole c.requires.rising) in
     let new : at_key e.key (l ++ w ++ r) ≡ None = subst (λ (es : List (KeyValue g.row.T.Denot)). at_key e.key es ≡ None) whole c.requires.new in
-    let d = left_beside e.key first last l w r p c.if-entry-first.true in
+    let d = left_beside e.key first last l w r p lies.lies in
     c.balance.ensures.entries ∙ ap (λ (es : List (KeyValue g.row.T.Denot)). es ++ w ++ r) c.insert-left.ensures.entries ∙ sym (with_left_part e l w r d) ∙ sym (ap (with_entry e) whole)
 
-pub returns-then-last-entry-clause-entries : goal.returns-then-last-entry-clause-entries
-returns-then-last-entry-clause-entries g t c =
-    let e : KeyValue g.row.T.Denot = c.args.entry in
+pub returns-in-Right-clause-entries : goal.returns-in-Right-clause-entries
+returns-in-Right-clause-entries g t c =
+    let e : KeyValue g.row.T.Denot = keyed (g.K.Key.number c.args.key) c.args.value in
     let l = entries_in c.split-left.result.0 in
     let w = c.split-left.result.1.value.entries in
     let r = entries_in c.split-left.result.2 in
     let is : c.args.tree ≡ Some c.in-Some.tree = c.in-Some.is in
     let h : height_of c.args.tree ≡ c.in-Some.tree.value.height = ap height_of is in
     let whole : entries_in c.args.tree ≡ l ++ w ++ r = ap entries_in is ∙ c.split-left.ensures.entries in
-    let first = c.ends_of-first.result.0 in
-    let last = c.ends_of-first.result.1 in
-    let keys : HasEnds first last w = subst (λ (s : Shape g.row.T.Denot). HasEnds first last s.entries) c.deref.ensures c.ends_of-first.ensures in
+    let lies = c.in-Right.ensures in
+    let first = lies.first in
+    let last = lies.last in
+    let keys : HasEnds first last w = subst (λ (s : Shape g.row.T.Denot). HasEnds first last s.entries) c.deref.ensures lies.ends in
     let p : Parts first last l w r = parts first last l w r keys (subst (λ (es : List (KeyValue g.row.T.Denot)). KeysRise es) whole c.requires.rising) in
     let new : at_key e.key (l ++ w ++ r) ≡ None = subst (λ (es : List (KeyValue g.row.T.Denot)). at_key e.key es ≡ None) whole c.requires.new in
-    let d = right_beside e.key first last l w r p c.if-last-entry.true in
-    c.balance-then-last-entry.ensures.entries ∙ ap (λ (es : List (KeyValue g.row.T.Denot)). l ++ w ++ es) c.insert-right.ensures.entries ∙ sym (with_right_part e l w r d) ∙ sym (ap (with_entry e) whole)
+    let d = right_beside e.key first last l w r p lies.lies in
+    c.balance-in-Right.ensures.entries ∙ ap (λ (es : List (KeyValue g.row.T.Denot)). l ++ w ++ es) c.insert-right.ensures.entries ∙ sym (with_right_part e l w r d) ∙ sym (ap (with_entry e) whole)
 
-pub returns-else-last-entry-clause-entries : goal.returns-else-last-entry-clause-entries
-returns-else-last-entry-clause-entries g t c =
-    let e : KeyValue g.row.T.Denot = c.args.entry in
+pub returns-in-Here-clause-entries : goal.returns-in-Here-clause-entries
+returns-in-Here-clause-entries g t c =
+    let e : KeyValue g.row.T.Denot = keyed (g.K.Key.number c.args.key) c.args.value in
     let l = entries_in c.split-left.result.0 in
     let w = c.split-left.result.1.value.entries in
     let r = entries_in c.split-left.result.2 in
     let is : c.args.tree ≡ Some c.in-Some.tree = c.in-Some.is in
     let h : height_of c.args.tree ≡ c.in-Some.tree.value.height = ap height_of is in
     let whole : entries_in c.args.tree ≡ l ++ w ++ r = ap entries_in is ∙ c.split-left.ensures.entries in
-    let first = c.ends_of-first.result.0 in
-    let last = c.ends_of-first.result.1 in
-    let keys : HasEnds first last w = subst (λ (s : Shape g.row.T.Denot). HasEnds first last s.entries) c.deref.ensures c.ends_of-first.ensures in
+    let lies = c.in-Here.ensures in
+    let first = lies.first in
+    let last = lies.last in
+    let keys : HasEnds first last w = subst (λ (s : Shape g.row.T.Denot). HasEnds first last s.entries) c.deref.ensures lies.ends in
     let p : Parts first last l w r = parts first last l w r keys (subst (λ (es : List (KeyValue g.row.T.Denot)). KeysRise es) whole c.requires.rising) in
     let new : at_key e.key (l ++ w ++ r) ≡ None = subst (λ (es : List (KeyValue g.row.T.Denot)). at_key e.key es ≡ None) whole c.requires.new in
-    let d = row_beside e.key first last l w r p c.if-entry-first.false c.if-last-entry.false in
+    let d = row_beside e.key first last l w r p lies.lies.0 lies.lies.1 in
     let lower = c.cut-lower.result.0.value.entries in
     let upper = c.cut-lower.result.1.value.entries in
-    c.balance-else-last-entry.ensures.entries
+    c.balance-in-Here.ensures.entries
     ∙ ap (λ (es : List (KeyValue g.row.T.Denot)). l ++ lower ++ es) c.put_first-right.ensures.entries
     ∙ sym (append_assoc (l ++ lower) upper r)
     ∙ ap (λ (es : List (KeyValue g.row.T.Denot)). es ++ r) (append_assoc l lower upper)

@@ -1,6 +1,5 @@
 use Rattle.std.proofs.Common.{◌≡◌, ◌++◌, List, Option, Some, None, IsSome, arith, rules, refl, sym, ap, subst, ◌∙◌}
-use Rattle.acc_ordered.specs.declared.entries.KeyValue.{KeyValue}
-use Rattle.acc_ordered.specs.Listing.{KeysRise, at_key, without_key}
+use Rattle.acc_ordered.specs.Listing.{KeyValue, KeysRise, at_key, without_key}
 use Rattle.acc_ordered.specs.Shape.{Shape}
 use Rattle.acc_ordered.specs.Row.{HasEnds}
 use Rattle.acc_ordered.specs.Nodes.{entries_in, height_of}
@@ -14,14 +13,15 @@ unreachable-requires g t c =
     let w = c.split-left.result.1.value.entries in
     let r = entries_in c.split-left.result.2 in
     let whole = c.split-left.ensures.entries in
-    let first = c.ends_of-first.result.0 in
-    let last = c.ends_of-first.result.1 in
-    let keys : HasEnds first last w = subst (λ (s : Shape g.row.T.Denot). HasEnds first last s.entries) c.deref.ensures c.ends_of-first.ensures in
+    let lies = c.in-Left.ensures in
+    let first = lies.first in
+    let last = lies.last in
+    let keys : HasEnds first last w = subst (λ (s : Shape g.row.T.Denot). HasEnds first last s.entries) c.deref.ensures lies.ends in
     let p : Parts first last l w r = parts first last l w r keys (subst (λ (es : List (KeyValue g.row.T.Denot)). KeysRise es) whole c.requires.rising) in
-    let some : IsSome (at_key c.args.key (l ++ w ++ r)) = subst (λ (es : List (KeyValue g.row.T.Denot)). IsSome (at_key c.args.key es)) whole c.requires.there in
-    let d = left_beside c.args.key first last l w r p c.if-key-first.true in
-    let there : IsSome (at_key c.args.key l) = subst (λ (o : Option (KeyValue g.row.T.Denot)). IsSome o) (at_left c.args.key l w r d) some in
-    let none : at_key c.args.key l ≡ None = rw c.in_default.is refl in
+    let some : IsSome (at_key (g.K.Key.number c.args.key) (l ++ w ++ r)) = subst (λ (es : List (KeyValue g.row.T.Denot)). IsSome (at_key (g.K.Key.number c.args.key) es)) whole c.requires.there in
+    let d = left_beside (g.K.Key.number c.args.key) first last l w r p lies.lies in
+    let there : IsSome (at_key (g.K.Key.number c.args.key) l) = subst (λ (o : Option (KeyValue g.row.T.Denot)). IsSome o) (at_left (g.K.Key.number c.args.key) l w r d) some in
+    let none : at_key (g.K.Key.number c.args.key) l ≡ None = rw c.in_default.is refl in
     absurd (search (rules, rw none at there))
 
 pub unreachable-requires-in_default-right : goal.unreachable-requires-in_default-right
@@ -30,49 +30,52 @@ unreachable-requires-in_default-right g t c =
     let w = c.split-left.result.1.value.entries in
     let r = entries_in c.split-left.result.2 in
     let whole = c.split-left.ensures.entries in
-    let first = c.ends_of-first.result.0 in
-    let last = c.ends_of-first.result.1 in
-    let keys : HasEnds first last w = subst (λ (s : Shape g.row.T.Denot). HasEnds first last s.entries) c.deref.ensures c.ends_of-first.ensures in
+    let lies = c.in-Right.ensures in
+    let first = lies.first in
+    let last = lies.last in
+    let keys : HasEnds first last w = subst (λ (s : Shape g.row.T.Denot). HasEnds first last s.entries) c.deref.ensures lies.ends in
     let p : Parts first last l w r = parts first last l w r keys (subst (λ (es : List (KeyValue g.row.T.Denot)). KeysRise es) whole c.requires.rising) in
-    let some : IsSome (at_key c.args.key (l ++ w ++ r)) = subst (λ (es : List (KeyValue g.row.T.Denot)). IsSome (at_key c.args.key es)) whole c.requires.there in
-    let d = right_beside c.args.key first last l w r p c.if-last-key.true in
-    let there : IsSome (at_key c.args.key r) = subst (λ (o : Option (KeyValue g.row.T.Denot)). IsSome o) (at_right c.args.key l w r d) some in
-    let none : at_key c.args.key r ≡ None = rw c.in_default-right.is refl in
+    let some : IsSome (at_key (g.K.Key.number c.args.key) (l ++ w ++ r)) = subst (λ (es : List (KeyValue g.row.T.Denot)). IsSome (at_key (g.K.Key.number c.args.key) es)) whole c.requires.there in
+    let d = right_beside (g.K.Key.number c.args.key) first last l w r p lies.lies in
+    let there : IsSome (at_key (g.K.Key.number c.args.key) r) = subst (λ (o : Option (KeyValue g.row.T.Denot)). IsSome o) (at_right (g.K.Key.number c.args.key) l w r d) some in
+    let none : at_key (g.K.Key.number c.args.key) r ≡ None = rw c.in_default-right.is refl in
     absurd (search (rules, rw none at there))
 
-pub remove-entry-requires : goal.remove-entry-requires
-remove-entry-requires g t c κs within =
+pub remove-left-requires : goal.remove-left-requires
+remove-left-requires g t c κs within =
     let l = entries_in c.split-left.result.0 in
     let w = c.split-left.result.1.value.entries in
     let r = entries_in c.split-left.result.2 in
     let whole = c.split-left.ensures.entries in
-    let first = c.ends_of-first.result.0 in
-    let last = c.ends_of-first.result.1 in
-    let keys : HasEnds first last w = subst (λ (s : Shape g.row.T.Denot). HasEnds first last s.entries) c.deref.ensures c.ends_of-first.ensures in
+    let lies = c.in-Left.ensures in
+    let first = lies.first in
+    let last = lies.last in
+    let keys : HasEnds first last w = subst (λ (s : Shape g.row.T.Denot). HasEnds first last s.entries) c.deref.ensures lies.ends in
     let p : Parts first last l w r = parts first last l w r keys (subst (λ (es : List (KeyValue g.row.T.Denot)). KeysRise es) whole c.requires.rising) in
-    let some : IsSome (at_key c.args.key (l ++ w ++ r)) = subst (λ (es : List (KeyValue g.row.T.Denot)). IsSome (at_key c.args.key es)) whole c.requires.there in
-    let d = left_beside c.args.key first last l w r p c.if-key-first.true in
-    let there : IsSome (at_key c.args.key l) = subst (λ (o : Option (KeyValue g.row.T.Denot)). IsSome o) (at_left c.args.key l w r d) some in
+    let some : IsSome (at_key (g.K.Key.number c.args.key) (l ++ w ++ r)) = subst (λ (es : List (KeyValue g.row.T.Denot)). IsSome (at_key (g.K.Key.number c.args.key) es)) whole c.requires.there in
+    let d = left_beside (g.K.Key.number c.args.key) first last l w r p lies.lies in
+    let there : IsSome (at_key (g.K.Key.number c.args.key) l) = subst (λ (o : Option (KeyValue g.row.T.Denot)). IsSome o) (at_left (g.K.Key.number c.args.key) l w r d) some in
     let is : c.split-left.result.0 ≡ Some c.in-Some.left = c.in-Some.is in
     let h : height_of c.split-left.result.0 ≡ c.in-Some.left.value.height = ap height_of is in
-    (omega (arith, c.split-left.ensures.height), (within, (rw is at c.split-left.ensures.balanced.left, (omega (arith, c.split-left.ensures.height, c.requires.limit), (rw is at p.head.left, rw is at there)))))
+    (omega (arith, c.split-left.ensures.height), (within.0, (within.1, (rw is at c.split-left.ensures.balanced.left, (omega (arith, c.split-left.ensures.height, c.requires.limit), (rw is at p.head.left, rw is at there))))))
 
-pub remove-entry-requires-then-last-key : goal.remove-entry-requires-then-last-key
-remove-entry-requires-then-last-key g t c κs within =
+pub remove-right-requires : goal.remove-right-requires
+remove-right-requires g t c κs within =
     let l = entries_in c.split-left.result.0 in
     let w = c.split-left.result.1.value.entries in
     let r = entries_in c.split-left.result.2 in
     let whole = c.split-left.ensures.entries in
-    let first = c.ends_of-first.result.0 in
-    let last = c.ends_of-first.result.1 in
-    let keys : HasEnds first last w = subst (λ (s : Shape g.row.T.Denot). HasEnds first last s.entries) c.deref.ensures c.ends_of-first.ensures in
+    let lies = c.in-Right.ensures in
+    let first = lies.first in
+    let last = lies.last in
+    let keys : HasEnds first last w = subst (λ (s : Shape g.row.T.Denot). HasEnds first last s.entries) c.deref.ensures lies.ends in
     let p : Parts first last l w r = parts first last l w r keys (subst (λ (es : List (KeyValue g.row.T.Denot)). KeysRise es) whole c.requires.rising) in
-    let some : IsSome (at_key c.args.key (l ++ w ++ r)) = subst (λ (es : List (KeyValue g.row.T.Denot)). IsSome (at_key c.args.key es)) whole c.requires.there in
-    let d = right_beside c.args.key first last l w r p c.if-last-key.true in
-    let there : IsSome (at_key c.args.key r) = subst (λ (o : Option (KeyValue g.row.T.Denot)). IsSome o) (at_right c.args.key l w r d) some in
+    let some : IsSome (at_key (g.K.Key.number c.args.key) (l ++ w ++ r)) = subst (λ (es : List (KeyValue g.row.T.Denot)). IsSome (at_key (g.K.Key.number c.args.key) es)) whole c.requires.there in
+    let d = right_beside (g.K.Key.number c.args.key) first last l w r p lies.lies in
+    let there : IsSome (at_key (g.K.Key.number c.args.key) r) = subst (λ (o : Option (KeyValue g.row.T.Denot)). IsSome o) (at_right (g.K.Key.number c.args.key) l w r d) some in
     let is : c.split-left.result.2 ≡ Some c.in-Some-right.right = c.in-Some-right.is in
     let h : height_of c.split-left.result.2 ≡ c.in-Some-right.right.value.height = ap height_of is in
-    (omega (arith, c.split-left.ensures.height), (within, (rw is at c.split-left.ensures.balanced.right, (omega (arith, c.split-left.ensures.height, c.requires.limit), (rw is at p.foot.right, rw is at there)))))
+    (omega (arith, c.split-left.ensures.height), (within.0, (within.1, (rw is at c.split-left.ensures.balanced.right, (omega (arith, c.split-left.ensures.height, c.requires.limit), (rw is at p.foot.right, rw is at there))))))
 
 pub remove_here-requires-clause-rising : goal.remove_here-requires-clause-rising
 remove_here-requires-clause-rising g t c =
@@ -80,11 +83,12 @@ remove_here-requires-clause-rising g t c =
     let w = c.split-left.result.1.value.entries in
     let r = entries_in c.split-left.result.2 in
     let whole = c.split-left.ensures.entries in
-    let first = c.ends_of-first.result.0 in
-    let last = c.ends_of-first.result.1 in
-    let keys : HasEnds first last w = subst (λ (s : Shape g.row.T.Denot). HasEnds first last s.entries) c.deref.ensures c.ends_of-first.ensures in
+    let lies = c.in-Here.ensures in
+    let first = lies.first in
+    let last = lies.last in
+    let keys : HasEnds first last w = subst (λ (s : Shape g.row.T.Denot). HasEnds first last s.entries) c.deref.ensures lies.ends in
     let p : Parts first last l w r = parts first last l w r keys (subst (λ (es : List (KeyValue g.row.T.Denot)). KeysRise es) whole c.requires.rising) in
-    let some : IsSome (at_key c.args.key (l ++ w ++ r)) = subst (λ (es : List (KeyValue g.row.T.Denot)). IsSome (at_key c.args.key es)) whole c.requires.there in
+    let some : IsSome (at_key (g.K.Key.number c.args.key) (l ++ w ++ r)) = subst (λ (es : List (KeyValue g.row.T.Denot)). IsSome (at_key (g.K.Key.number c.args.key) es)) whole c.requires.there in
     p.rising
 
 pub remove_here-requires-clause-there : goal.remove_here-requires-clause-there
@@ -93,28 +97,14 @@ remove_here-requires-clause-there g t c =
     let w = c.split-left.result.1.value.entries in
     let r = entries_in c.split-left.result.2 in
     let whole = c.split-left.ensures.entries in
-    let first = c.ends_of-first.result.0 in
-    let last = c.ends_of-first.result.1 in
-    let keys : HasEnds first last w = subst (λ (s : Shape g.row.T.Denot). HasEnds first last s.entries) c.deref.ensures c.ends_of-first.ensures in
+    let lies = c.in-Here.ensures in
+    let first = lies.first in
+    let last = lies.last in
+    let keys : HasEnds first last w = subst (λ (s : Shape g.row.T.Denot). HasEnds first last s.entries) c.deref.ensures lies.ends in
     let p : Parts first last l w r = parts first last l w r keys (subst (λ (es : List (KeyValue g.row.T.Denot)). KeysRise es) whole c.requires.rising) in
-    let some : IsSome (at_key c.args.key (l ++ w ++ r)) = subst (λ (es : List (KeyValue g.row.T.Denot)). IsSome (at_key c.args.key es)) whole c.requires.there in
-    let d = row_beside c.args.key first last l w r p c.if-key-first.false c.if-last-key.false in
-    subst (λ (o : Option (KeyValue g.row.T.Denot)). IsSome o) (at_beside c.args.key l w r d) some
-
-pub returns-in-Some-clause-entry : goal.returns-in-Some-clause-entry
-returns-in-Some-clause-entry g t c =
-    let l = entries_in c.split-left.result.0 in
-    let w = c.split-left.result.1.value.entries in
-    let r = entries_in c.split-left.result.2 in
-    let whole = c.split-left.ensures.entries in
-    let first = c.ends_of-first.result.0 in
-    let last = c.ends_of-first.result.1 in
-    let keys : HasEnds first last w = subst (λ (s : Shape g.row.T.Denot). HasEnds first last s.entries) c.deref.ensures c.ends_of-first.ensures in
-    let p : Parts first last l w r = parts first last l w r keys (subst (λ (es : List (KeyValue g.row.T.Denot)). KeysRise es) whole c.requires.rising) in
-    let some : IsSome (at_key c.args.key (l ++ w ++ r)) = subst (λ (es : List (KeyValue g.row.T.Denot)). IsSome (at_key c.args.key es)) whole c.requires.there in
-    let d = left_beside c.args.key first last l w r p c.if-key-first.true in
-    let is : c.split-left.result.0 ≡ Some c.in-Some.left = c.in-Some.is in
-    ap (at_key c.args.key) whole ∙ at_left c.args.key l w r d ∙ ap (at_key c.args.key) (ap entries_in is) ∙ c.remove-entry.ensures.entry
+    let some : IsSome (at_key (g.K.Key.number c.args.key) (l ++ w ++ r)) = subst (λ (es : List (KeyValue g.row.T.Denot)). IsSome (at_key (g.K.Key.number c.args.key) es)) whole c.requires.there in
+    let d = row_beside (g.K.Key.number c.args.key) first last l w r p lies.lies.0 lies.lies.1 in
+    subst (λ (o : Option (KeyValue g.row.T.Denot)). IsSome o) (at_beside (g.K.Key.number c.args.key) l w r d) some
 
 pub returns-in-Some-clause-entries : goal.returns-in-Some-clause-entries
 returns-in-Some-clause-entries g t c =
@@ -122,29 +112,15 @@ returns-in-Some-clause-entries g t c =
     let w = c.split-left.result.1.value.entries in
     let r = entries_in c.split-left.result.2 in
     let whole = c.split-left.ensures.entries in
-    let first = c.ends_of-first.result.0 in
-    let last = c.ends_of-first.result.1 in
-    let keys : HasEnds first last w = subst (λ (s : Shape g.row.T.Denot). HasEnds first last s.entries) c.deref.ensures c.ends_of-first.ensures in
+    let lies = c.in-Left.ensures in
+    let first = lies.first in
+    let last = lies.last in
+    let keys : HasEnds first last w = subst (λ (s : Shape g.row.T.Denot). HasEnds first last s.entries) c.deref.ensures lies.ends in
     let p : Parts first last l w r = parts first last l w r keys (subst (λ (es : List (KeyValue g.row.T.Denot)). KeysRise es) whole c.requires.rising) in
-    let some : IsSome (at_key c.args.key (l ++ w ++ r)) = subst (λ (es : List (KeyValue g.row.T.Denot)). IsSome (at_key c.args.key es)) whole c.requires.there in
-    let d = left_beside c.args.key first last l w r p c.if-key-first.true in
+    let some : IsSome (at_key (g.K.Key.number c.args.key) (l ++ w ++ r)) = subst (λ (es : List (KeyValue g.row.T.Denot)). IsSome (at_key (g.K.Key.number c.args.key) es)) whole c.requires.there in
+    let d = left_beside (g.K.Key.number c.args.key) first last l w r p lies.lies in
     let is : c.split-left.result.0 ≡ Some c.in-Some.left = c.in-Some.is in
-    c.balance.ensures.entries ∙ ap (λ (es : List (KeyValue g.row.T.Denot)). es ++ w ++ r) (c.remove-entry.ensures.entries ∙ ap (without_key c.args.key) (sym (ap entries_in is))) ∙ sym (without_left_part c.args.key l w r d) ∙ sym (ap (without_key c.args.key) whole)
-
-pub returns-in-Some-right-clause-entry : goal.returns-in-Some-right-clause-entry
-returns-in-Some-right-clause-entry g t c =
-    let l = entries_in c.split-left.result.0 in
-    let w = c.split-left.result.1.value.entries in
-    let r = entries_in c.split-left.result.2 in
-    let whole = c.split-left.ensures.entries in
-    let first = c.ends_of-first.result.0 in
-    let last = c.ends_of-first.result.1 in
-    let keys : HasEnds first last w = subst (λ (s : Shape g.row.T.Denot). HasEnds first last s.entries) c.deref.ensures c.ends_of-first.ensures in
-    let p : Parts first last l w r = parts first last l w r keys (subst (λ (es : List (KeyValue g.row.T.Denot)). KeysRise es) whole c.requires.rising) in
-    let some : IsSome (at_key c.args.key (l ++ w ++ r)) = subst (λ (es : List (KeyValue g.row.T.Denot)). IsSome (at_key c.args.key es)) whole c.requires.there in
-    let d = right_beside c.args.key first last l w r p c.if-last-key.true in
-    let is : c.split-left.result.2 ≡ Some c.in-Some-right.right = c.in-Some-right.is in
-    ap (at_key c.args.key) whole ∙ at_right c.args.key l w r d ∙ ap (at_key c.args.key) (ap entries_in is) ∙ c.remove-entry-then-last-key.ensures.entry
+    c.balance.ensures.entries ∙ ap (λ (es : List (KeyValue g.row.T.Denot)). es ++ w ++ r) (c.remove-left.ensures.entries ∙ ap (without_key (g.K.Key.number c.args.key)) (sym (ap entries_in is))) ∙ sym (without_left_part (g.K.Key.number c.args.key) l w r d) ∙ sym (ap (without_key (g.K.Key.number c.args.key)) whole)
 
 pub returns-in-Some-right-clause-entries : goal.returns-in-Some-right-clause-entries
 returns-in-Some-right-clause-entries g t c =
@@ -152,39 +128,27 @@ returns-in-Some-right-clause-entries g t c =
     let w = c.split-left.result.1.value.entries in
     let r = entries_in c.split-left.result.2 in
     let whole = c.split-left.ensures.entries in
-    let first = c.ends_of-first.result.0 in
-    let last = c.ends_of-first.result.1 in
-    let keys : HasEnds first last w = subst (λ (s : Shape g.row.T.Denot). HasEnds first last s.entries) c.deref.ensures c.ends_of-first.ensures in
+    let lies = c.in-Right.ensures in
+    let first = lies.first in
+    let last = lies.last in
+    let keys : HasEnds first last w = subst (λ (s : Shape g.row.T.Denot). HasEnds first last s.entries) c.deref.ensures lies.ends in
     let p : Parts first last l w r = parts first last l w r keys (subst (λ (es : List (KeyValue g.row.T.Denot)). KeysRise es) whole c.requires.rising) in
-    let some : IsSome (at_key c.args.key (l ++ w ++ r)) = subst (λ (es : List (KeyValue g.row.T.Denot)). IsSome (at_key c.args.key es)) whole c.requires.there in
-    let d = right_beside c.args.key first last l w r p c.if-last-key.true in
+    let some : IsSome (at_key (g.K.Key.number c.args.key) (l ++ w ++ r)) = subst (λ (es : List (KeyValue g.row.T.Denot)). IsSome (at_key (g.K.Key.number c.args.key) es)) whole c.requires.there in
+    let d = right_beside (g.K.Key.number c.args.key) first last l w r p lies.lies in
     let is : c.split-left.result.2 ≡ Some c.in-Some-right.right = c.in-Some-right.is in
-    c.balance-then-last-key.ensures.entries ∙ ap (λ (es : List (KeyValue g.row.T.Denot)). l ++ w ++ es) (c.remove-entry-then-last-key.ensures.entries ∙ ap (without_key c.args.key) (sym (ap entries_in is))) ∙ sym (without_right_part c.args.key l w r d) ∙ sym (ap (without_key c.args.key) whole)
+    c.balance-in-Right.ensures.entries ∙ ap (λ (es : List (KeyValue g.row.T.Denot)). l ++ w ++ es) (c.remove-right.ensures.entries ∙ ap (without_key (g.K.Key.number c.args.key)) (sym (ap entries_in is))) ∙ sym (without_right_part (g.K.Key.number c.args.key) l w r d) ∙ sym (ap (without_key (g.K.Key.number c.args.key)) whole)
 
-pub returns-else-last-key-clause-entry : goal.returns-else-last-key-clause-entry
-returns-else-last-key-clause-entry g t c =
+pub returns-in-Here-clause-entries : goal.returns-in-Here-clause-entries
+returns-in-Here-clause-entries g t c =
     let l = entries_in c.split-left.result.0 in
     let w = c.split-left.result.1.value.entries in
     let r = entries_in c.split-left.result.2 in
     let whole = c.split-left.ensures.entries in
-    let first = c.ends_of-first.result.0 in
-    let last = c.ends_of-first.result.1 in
-    let keys : HasEnds first last w = subst (λ (s : Shape g.row.T.Denot). HasEnds first last s.entries) c.deref.ensures c.ends_of-first.ensures in
+    let lies = c.in-Here.ensures in
+    let first = lies.first in
+    let last = lies.last in
+    let keys : HasEnds first last w = subst (λ (s : Shape g.row.T.Denot). HasEnds first last s.entries) c.deref.ensures lies.ends in
     let p : Parts first last l w r = parts first last l w r keys (subst (λ (es : List (KeyValue g.row.T.Denot)). KeysRise es) whole c.requires.rising) in
-    let some : IsSome (at_key c.args.key (l ++ w ++ r)) = subst (λ (es : List (KeyValue g.row.T.Denot)). IsSome (at_key c.args.key es)) whole c.requires.there in
-    let d = row_beside c.args.key first last l w r p c.if-key-first.false c.if-last-key.false in
-    ap (at_key c.args.key) whole ∙ at_beside c.args.key l w r d ∙ c.remove_here.ensures.entry
-
-pub returns-else-last-key-clause-entries : goal.returns-else-last-key-clause-entries
-returns-else-last-key-clause-entries g t c =
-    let l = entries_in c.split-left.result.0 in
-    let w = c.split-left.result.1.value.entries in
-    let r = entries_in c.split-left.result.2 in
-    let whole = c.split-left.ensures.entries in
-    let first = c.ends_of-first.result.0 in
-    let last = c.ends_of-first.result.1 in
-    let keys : HasEnds first last w = subst (λ (s : Shape g.row.T.Denot). HasEnds first last s.entries) c.deref.ensures c.ends_of-first.ensures in
-    let p : Parts first last l w r = parts first last l w r keys (subst (λ (es : List (KeyValue g.row.T.Denot)). KeysRise es) whole c.requires.rising) in
-    let some : IsSome (at_key c.args.key (l ++ w ++ r)) = subst (λ (es : List (KeyValue g.row.T.Denot)). IsSome (at_key c.args.key es)) whole c.requires.there in
-    let d = row_beside c.args.key first last l w r p c.if-key-first.false c.if-last-key.false in
-    c.remove_here.ensures.entries ∙ sym (without_beside c.args.key l w r d) ∙ sym (ap (without_key c.args.key) whole)
+    let some : IsSome (at_key (g.K.Key.number c.args.key) (l ++ w ++ r)) = subst (λ (es : List (KeyValue g.row.T.Denot)). IsSome (at_key (g.K.Key.number c.args.key) es)) whole c.requires.there in
+    let d = row_beside (g.K.Key.number c.args.key) first last l w r p lies.lies.0 lies.lies.1 in
+    c.remove_here.ensures.entries ∙ sym (without_beside (g.K.Key.number c.args.key) l w r d) ∙ sym (ap (without_key (g.K.Key.number c.args.key)) whole)

@@ -1,5 +1,5 @@
 use Rattle.std.proofs.Common.{List, refl, sym, ap, subst, ◌∙◌}
-use Rattle.acc_ordered.specs.declared.entries.KeyValue.{KeyValue}
+use Rattle.acc_ordered.specs.Listing.{KeyValue, keyed}
 use Rattle.acc_ordered.specs.Shape.{Shape}
 use Rattle.acc_ordered.specs.Row.{HasEnds}
 use Rattle.acc_ordered.specs.Nodes.{entries_in}
@@ -9,8 +9,8 @@ use Rattle.acc_ordered.proofs.changes.fill.Goals as goal
 
 pub invariant_of-n : goal.invariant_of-n
 invariant_of-n g c =
-    let e : KeyValue g.row.T.Denot = c.args.entry in
-    avl_row c.n.inside e.key e.key c.reset.new.self c.n.invariant (subst (λ (es : List (KeyValue g.row.T.Denot)). HasEnds e.key e.key es) (sym c.reset.ensures) (ends_one e))
+    let e : KeyValue g.row.T.Denot = keyed (g.K.Key.number c.args.key) c.args.value in
+    avl_row g.K.Key.number c.n.inside c.args.key c.args.key c.reset.new.self c.n.invariant (subst (λ (es : List (KeyValue g.row.T.Denot)). HasEnds e.key e.key es) (sym c.reset.ensures) (ends_one e))
 
 pub returns-clause-entries : goal.returns-clause-entries
 returns-clause-entries g c =

@@ -6,7 +6,7 @@ use Rattle.acc_ordered.proofs.nodes.join.Goals as goal
 
 pub invariant_of-n : goal.invariant_of-n
 invariant_of-n g c =
-    avl_join c.n.inside c.args.left c.args.right _ c.n.invariant c.requires.balanced
+    avl_join g.K.Key.number c.n.inside c.args.left c.args.right _ c.n.invariant c.requires.balanced
     (subst (λ (h : ℕ). IsTall h (nodes_in c.args.left)) c.height.ensures.value c.height.ensures.tall)
     (subst (λ (h : ℕ). IsTall h (nodes_in c.args.right)) c.height-2.ensures.value c.height-2.ensures.tall)
     c.height.ensures.wide

@@ -21,10 +21,10 @@ returns-in-Ok-Some-clause-done c =
     let number : c.in-Ok-Some.number ≡ number_told d s = cc (told_number, c.in-Ok-Some.number-is) in
     let written : c.list_of-did.result ≡ in_written_order d dids = c.list_of-did.ensures ∙ (c.did.ensures ∙ e.planned.written) in
     let made : verdict_of k d s dids ≡ Makes (event_told k d (number_told d s) did) = told k d s dids busy ∙ ap (λ ds. Makes (event_told k d (number_told d s) ds)) (sym written) in
-    let event : c.event_told.result ≡ event_told k d (number_told d s) did = c.event_told.ensures ∙ (ap (λ m. event_told m d c.in-Ok-Some.number did) own ∙ ap (λ n. event_told k d n did) number) in
-    subst (λ (v : Verdict). IsCommitted v c.reply_told-reply.result c.args.store.now c.enact.new.store c.args.trace.now.items c.push_reserved.new.self.items) (sym made) (record {
+    let event : event_told c.number.result d c.in-Ok-Some.number did ≡ event_told k d (number_told d s) did = ap (λ m. event_told m d c.in-Ok-Some.number did) own ∙ ap (λ n. event_told k d n did) number in
+    subst (λ (v : Verdict). IsCommitted v c.reply_told-reply.result c.args.store.now c.enact.new.store c.args.trace.now.items c.store_event.new.trace.items) (sym made) (record {
       reply = c.reply_told-reply.ensures ∙ (ap (reply_told d) number ∙ replied k d (number_told d s) did s);
       limits = e.limits;
       state = e.state ∙ ap (λ (v : Verdict). state_by c.args.store.now.limits.full v s) made;
-      trace = c.push_reserved.ensures.items ∙ (ap (λ (es : List Event). es ++ c.event_told.result ∷ []) e.trace ∙ ap (λ (x : Event). c.args.trace.now.items ++ x ∷ []) event);
+      trace = c.store_event.ensures ∙ (ap (λ (es : List Event). es ++ event_told c.number.result d c.in-Ok-Some.number did ∷ []) e.trace ∙ ap (λ (x : Event). c.args.trace.now.items ++ x ∷ []) event);
     })

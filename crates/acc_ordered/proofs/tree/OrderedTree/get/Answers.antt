@@ -1,21 +1,22 @@
-use Rattle.std.proofs.Common.{◌≡◌, sym, ap, ◌∙◌, Some, None}
+use Rattle.std.proofs.Common.{◌≡◌, arith, sym, ap, ◌∙◌, Some, None}
 use Rattle.acc_ordered.specs.Listing.{seen, first_from, entry_in}
+use Rattle.acc_ordered.proofs.Order.{below, not_below}
 use Rattle.acc_ordered.proofs.Located.{absent_none, absent_other, found_own}
 use Rattle.acc_ordered.proofs.tree.OrderedTree.get.Goals as goal
 
 pub returns-in_err-found : goal.returns-in_err-found
 returns-in_err-found g c =
     let was : c.around.result.from ≡ None = c.in_err-found.was in
-    ap seen c.from_residual.ensures ∙ sym (absent_none c.args.key c.args.self.now.entries (sym c.around.ensures.from ∙ ap seen was))
+    ap (seen g.K.Key.number) c.from_residual.ensures ∙ sym (absent_none (g.K.Key.number c.args.key) c.args.self.now.entries (sym c.around.ensures.from ∙ ap (seen g.K.Key.number) was))
 
-pub returns-then-found-key : goal.returns-then-found-key
-returns-then-found-key g c =
+pub returns-else-is_below : goal.returns-else-is_below
+returns-else-is_below g c =
     let was : c.around.result.from ≡ Some c.in_ok-found.found = c.in_ok-found.was in
-    let first : first_from c.args.key c.args.self.now.entries ≡ Some (entry_in c.in_ok-found.found) = sym c.around.ensures.from ∙ ap seen was in
-    sym (found_own c.args.key c.args.self.now.entries (entry_in c.in_ok-found.found) c.laws.ensures first c.if-found-key.true)
+    let first : first_from (g.K.Key.number c.args.key) c.args.self.now.entries ≡ Some (entry_in g.K.Key.number c.in_ok-found.found) = sym c.around.ensures.from ∙ ap (seen g.K.Key.number) was in
+    sym (found_own (g.K.Key.number c.args.key) c.args.self.now.entries (entry_in g.K.Key.number c.in_ok-found.found) c.laws.ensures first (not_below (g.K.Key.number c.args.key) (g.K.Key.number c.in_ok-found.found.key) (sym c.is_below.ensures ∙ c.if-is_below.false)))
 
-pub returns-else-found-key : goal.returns-else-found-key
-returns-else-found-key g c =
+pub returns-then-is_below : goal.returns-then-is_below
+returns-then-is_below g c =
     let was : c.around.result.from ≡ Some c.in_ok-found.found = c.in_ok-found.was in
-    let first : first_from c.args.key c.args.self.now.entries ≡ Some (entry_in c.in_ok-found.found) = sym c.around.ensures.from ∙ ap seen was in
-    sym (absent_other c.args.key c.args.self.now.entries (entry_in c.in_ok-found.found) c.laws.ensures first c.if-found-key.false)
+    let first : first_from (g.K.Key.number c.args.key) c.args.self.now.entries ≡ Some (entry_in g.K.Key.number c.in_ok-found.found) = sym c.around.ensures.from ∙ ap (seen g.K.Key.number) was in
+    sym (absent_other (g.K.Key.number c.args.key) c.args.self.now.entries (entry_in g.K.Key.number c.in_ok-found.found) c.laws.ensures first (λ same. let less = below (g.K.Key.number c.args.key) (g.K.Key.number c.in_ok-found.found.key) (sym c.is_below.ensures ∙ c.if-is_below.true) in omega arith))

@@ -1,9 +1,10 @@
-use Rattle.std.proofs.Common.{List, ap, subst, ◌∙◌, ◌≡◌}
+use Rattle.std.proofs.Common.{◌≡◌, List, ap, subst, ◌∙◌}
 use Rattle.std.specs.Prelude.{IfOk}
 use Rattle.acc_base.specs.declared.mappings.Range.{Range}
+use Rattle.slab.specs.Slab.{get}
 use Rattle.acc_present.specs.Present.{PresentState}
-use Rattle.acc_present.proofs.Mapping.{all_values}
+use Rattle.acc_present.proofs.Mapping.{slots-ranges}
 use Rattle.acc_present.proofs.presence.Present.copy_ranges.Goals as goal
 
 pub returns-clause-ok : goal.returns-clause-ok
-returns-clause-ok c = subst (λ (rs : List Range). IfOk c.copy_values.result (λ copied. copied.items ≡ rs)) (all_values c.self.inside.ranges.entries c.self.invariant.2.keyed ∙ ap (λ (p : PresentState). p.table.ranges) c.self.view_is) c.copy_values.ensures.ok
+returns-clause-ok c = subst (λ (rs : List Range). IfOk c.copy_entries.result (λ copied. copied.items ≡ rs)) (slots-ranges c.self.inside.starts.entries (get c.self.inside.ranges) c.self.invariant.2.seated ∙ ap (λ (p : PresentState). p.table.ranges) c.self.view_is) c.copy_entries.ensures.ok

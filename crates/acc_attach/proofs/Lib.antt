@@ -2,4 +2,3 @@ pub mod Placed
 pub mod Keyed
 pub mod Keeping
 pub mod Crossing
-pub mod Following

@@ -15,11 +15,6 @@ pub record AttachedState : Type 0 where
   pub attached : List Attachment
   pub spare : ℕ
 
--- a block, and the counters among which those of its pointers are
-pub record PointersState : Type 0 where
-  pub block : ℕ
-  pub attached : List Attachment
-
 -- counters stand by rising block and pointer, each from one to a limit below 2^32
 pub record AreAttached (counter_max : ℕ) (attached : List Attachment) : Type 0 where
   pub some : 1 ≤ counter_max

@@ -2,7 +2,7 @@
 -- public clause cites this module.
 use Rattle.std.specs.Prelude.{ℕ, ◌+◌, ◌*◌, ◌/◌, ◌%◌, ◌^◌, Bool, not, ◌&&◌, ◌||◌, nat_lt, ◌==◌, List, map}
 use Rattle.acc_base.specs.declared.attachments.Attachment.{Attachment}
-use Rattle.acc_ordered.specs.Listing.{KeyValue}
+use Rattle.acc_tree.specs.declared.entries.Entry.{Entry}
 
 -- the counters, and how many more can be added without allocating
 pub record CountersState : Type 0 where
@@ -14,11 +14,11 @@ abbrev pub key_of : ℕ → ℕ → ℕ
 key_of block pointer = block * 2 ^ 64 + pointer
 
 -- the counter of an entry
-abbrev pub counter_in : KeyValue ℕ → Attachment
+abbrev pub counter_in : Entry ℕ → Attachment
 counter_in e = record { block = e.key / 2 ^ 64; pointer = e.key % 2 ^ 64; count = e.value }
 
 -- the counters of some entries
-abbrev pub counters_in : List (KeyValue ℕ) → List Attachment
+abbrev pub counters_in : List (Entry ℕ) → List Attachment
 counters_in entries = map counter_in entries
 
 -- ---- a search

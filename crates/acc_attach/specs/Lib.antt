@@ -1,3 +1,2 @@
 pub mod Attached
 pub mod Kept
-pub mod Counts

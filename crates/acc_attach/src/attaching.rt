@@ -1,14 +1,13 @@
 //! The attachment counters as one value.
 
-ghost use Rattle.std.specs.Prelude.{◌≡◌, ◌+◌, ◌^◌, ◌<◌, ◌≤◌, ◌↔◌, IsTrue, [], if◌then◌else◌, true, false, Ok, Err, IsOk, IfOk, OnOk, OnErr, IfErr, ◌⊎◌};
+ghost use Rattle.std.specs.Prelude.{◌≡◌, ◌+◌, ◌^◌, ◌<◌, ◌≤◌, ◌↔◌, IsTrue, [], true, false, Ok, Err, IsOk, IfOk, OnOk, OnErr, IfErr, ◌⊎◌};
 ghost use Rattle.acc_base.specs.Attachments.{count_at, with_count, attach, detach, attached_by, without_attachments, is_skipped, next_pointer};
 ghost use Rattle.acc_attach.specs.Attached.{AreAttached, left_of};
 
-use crate::counters::CounterTree;
+use crate::counters::{CounterRows, LocatedCounter};
 use crate::left::Left;
-use crate::pointers::Pointers;
-use crate::recounts::Recount;
 use acc_base::{Aim, Attachment, Fault};
+use acc_rows::Place;
 use std::alloc::Global;
 use std::marker::Model;
 
@@ -20,11 +19,13 @@ use std::marker::Model;
 /// Contracts see the counters above zero, and beside them for how many more of them there is room. A refused call
 /// leaves the counters as they were. Only `attach`, `reserve` and `copy_counters` allocate, the last for its result.
 ///
-/// Counters stand in an [`acc_ordered::OrderedTree`] by block and pointer. Each is mostly changed in one walk.
+/// Counters are searched for by their keys, and stand in rows of up to 64. One that becomes one or zero moves others of
+/// its row. The list of rows moves too where a full row is split, or a row becomes empty or is joined with the next.
+/// That grows with the number of counters.
 #[derive(Drop)]
 pub struct Attached {
     counter_max: u64,
-    counters: CounterTree,
+    counters: CounterRows,
 }
 
 impl Model for Attached {
@@ -41,46 +42,6 @@ impl Model for Attached {
     ghost invariant = { λ a. AreAttached a.counter_max a.counters.counters };
 }
 
-/// What becomes of the counter of a pointer that is attached, and is aimed at its target already or is not.
-#[inline]
-fn recount_for(again: bool) -> Recount
-    ensures { result ≡ (if again then Recount.Raise else Recount.Become 1) }
-{
-    if again {
-        Recount::Raise
-    } else {
-        Recount::Become(1)
-    }
-}
-
-/// Where a pointer is aimed at a target, which it was aimed at already or not.
-fn aim_at(block: u64, pointer: u64, target: u64, again: bool) -> Aim
-    ensures { result ≡ (if again then Aim.Again pointer block else Aim.New pointer block target) }
-{
-    if again {
-        Aim::Again { pointer, block }
-    } else {
-        Aim::New {
-            pointer,
-            block,
-            target,
-        }
-    }
-}
-
-/// What a detachment leaves of a counter.
-fn left_by(immediate: bool, count: u64) -> Left
-    ensures { result ≡ left_of immediate count }
-{
-    if count == 0 {
-        Left::Nothing
-    } else if immediate || count == 1 {
-        Left::Zero
-    } else {
-        Left::Less
-    }
-}
-
 impl Attached {
     /// No pointer is attached. `counter_max` is the greatest value of a counter, from 1 to 4,294,967,295. It allocates
     /// nothing.
@@ -92,7 +53,7 @@ impl Attached {
     {
         Attached {
             counter_max,
-            counters: CounterTree::new(alloc),
+            counters: CounterRows::new(alloc),
         }
     }
 
@@ -115,7 +76,7 @@ impl Attached {
     pub fn count(&self, block: u64, pointer: u64) -> u64
         ensures { result ≡ count_at block pointer self.now.attached }
     {
-        self.counters.count(block, pointer)
+        self.counters.find(block, pointer).count
     }
 
     /// Attaches a pointer of a block to a target (OpenACC 3.3, section 2.7.2). Where it is attached and aimed there
@@ -140,13 +101,13 @@ impl Attached {
         ensures taken { OnOk result (self.old.spare ≤ self.new.spare + 1) }
         ensures kept { OnErr result (self.old.spare ≤ self.new.spare) }
     {
-        let count = self.counters.count(block, pointer);
-        if count == 0 {
+        let found = self.counters.find(block, pointer);
+        if found.count == 0 {
             self.counters.reserve(1)?;
-        } else if now == target && self.counter_max <= count {
+        } else if now == target && self.counter_max <= found.count {
             return Err(Fault::CounterFull { item: 0 });
         }
-        Ok(self.attach_reserved(block, pointer, target, now))
+        Ok(self.attach_found(block, pointer, target, now, found))
     }
 
     /// As [`Attached::attach`], where the counter has not reached its limit and there is room for one more if it is
@@ -159,10 +120,57 @@ impl Attached {
         ensures counter_max { self.new.counter_max ≡ self.old.counter_max }
         ensures spare { self.old.spare ≤ self.new.spare + 1 }
     {
+        let found = self.counters.find(block, pointer);
+        self.attach_found(block, pointer, target, now, found)
+    }
+
+    /// As [`Attached::attach_reserved`], of a counter that was searched for.
+    fn attach_found(
+        &mut self,
+        block: u64,
+        pointer: u64,
+        target: u64,
+        now: u64,
+        found: LocatedCounter,
+    ) -> Aim
+        requires found { found.count ≡ count_at block pointer self.old.attached }
+        requires room { count_at block pointer self.old.attached ≡ 0 → 1 ≤ self.old.spare }
+        requires not_full { IsOk (attach self.old.counter_max 0 block pointer target now self.old.attached) }
+        ensures aim { attach self.old.counter_max 0 block pointer target now self.old.attached ≡ Ok result }
+        ensures attached { self.new.attached ≡ attached_by result self.old.attached }
+        ensures counter_max { self.new.counter_max ≡ self.old.counter_max }
+        ensures spare { self.old.spare ≤ self.new.spare + 1 }
+    {
         self.laws();
-        let again = now == target;
-        let count = self.counters.change(block, pointer, recount_for(again));
-        aim_at(block, pointer, target, again && count > 0)
+        if found.count > 0 && now == target {
+            let again = found.count + 1;
+            self.put(block, pointer, again, found);
+            return Aim::Again { pointer, block };
+        }
+        self.put(block, pointer, 1, found);
+        Aim::New {
+            pointer,
+            block,
+            target,
+        }
+    }
+
+    /// Sets a counter that was searched for to a number above zero, where there is room for it.
+    fn put(&mut self, block: u64, pointer: u64, count: u64, found: LocatedCounter)
+        requires some { 0 < count }
+        requires most { count ≤ self.old.counter_max }
+        requires found { found.count ≡ count_at block pointer self.old.attached }
+        requires room { count_at block pointer self.old.attached ≡ 0 → 1 ≤ self.old.spare }
+        ensures attached { self.new.attached ≡ with_count block pointer count self.old.attached }
+        ensures counter_max { self.new.counter_max ≡ self.old.counter_max }
+        ensures taken { self.old.spare ≤ self.new.spare + 1 }
+        ensures kept { 0 < found.count → self.old.spare ≤ self.new.spare }
+    {
+        if found.count == 0 {
+            self.counters.add(block, pointer, count, found.place);
+        } else {
+            self.counters.set(block, pointer, count, found.place);
+        }
     }
 
     /// Sets the counter of a pointer of a block to one, as where it is aimed at another target. There is room for one
@@ -173,7 +181,8 @@ impl Attached {
         ensures counter_max { self.new.counter_max ≡ self.old.counter_max }
         ensures spare { self.old.spare ≤ self.new.spare + 1 }
     {
-        self.counters.change(block, pointer, Recount::Become(1));
+        let found = self.counters.find(block, pointer);
+        self.put(block, pointer, 1, found);
     }
 
     /// Raises the counter of an attached pointer of a block by one. It has not reached its limit.
@@ -184,7 +193,8 @@ impl Attached {
         ensures counter_max { self.new.counter_max ≡ self.old.counter_max }
         ensures spare { self.old.spare ≤ self.new.spare }
     {
-        self.counters.change(block, pointer, Recount::Raise);
+        let found = self.counters.find(block, pointer);
+        self.put(block, pointer, found.count + 1, found);
     }
 
     /// Detaches a pointer of a block (OpenACC 3.3, section 2.7.2): its counter falls by one, or stays zero. `pointer`
@@ -195,7 +205,12 @@ impl Attached {
         ensures counter_max { self.new.counter_max ≡ self.old.counter_max }
         ensures spare { self.old.spare ≤ self.new.spare }
     {
-        left_by(false, self.counters.change(block, pointer, Recount::Lower))
+        let found = self.counters.find(block, pointer);
+        if found.count <= 1 {
+            return self.clear(block, pointer, found);
+        }
+        self.put(block, pointer, found.count - 1, found);
+        Left::Less
     }
 
     /// As [`Attached::detach`], but the counter is zero at once (OpenACC 3.3, the finalize clause).
@@ -205,10 +220,23 @@ impl Attached {
         ensures counter_max { self.new.counter_max ≡ self.old.counter_max }
         ensures spare { self.old.spare ≤ self.new.spare }
     {
-        left_by(
-            true,
-            self.counters.change(block, pointer, Recount::Become(0)),
-        )
+        let found = self.counters.find(block, pointer);
+        self.clear(block, pointer, found)
+    }
+
+    /// As [`Attached::detach_now`], of a counter that was searched for.
+    fn clear(&mut self, block: u64, pointer: u64, found: LocatedCounter) -> Left
+        requires found { found.count ≡ count_at block pointer self.old.attached }
+        ensures left { result ≡ left_of true (count_at block pointer self.old.attached) }
+        ensures attached { self.new.attached ≡ attached_by (detach true block pointer self.old.attached) self.old.attached }
+        ensures counter_max { self.new.counter_max ≡ self.old.counter_max }
+        ensures spare { self.old.spare ≤ self.new.spare }
+    {
+        if found.count == 0 {
+            return Left::Nothing;
+        }
+        self.counters.take_out(block, pointer, found.place);
+        Left::Zero
     }
 
     /// Sets the counters of all pointers of a block to zero, as where the block is freed.
@@ -239,13 +267,12 @@ impl Attached {
         self.counters.next(block, from)
     }
 
-    /// The attached pointers of a block, one after the other. So a transfer finds the next one mostly without a search.
-    #[inline]
-    pub fn pointers(&self, block: u64) -> Pointers<'_>
-        ensures block { result.block ≡ block }
-        ensures attached { result.attached ≡ self.now.attached }
+    /// As [`Attached::next_pointer`], and where its counter stands. It is looked for first at a place and right behind
+    /// it: by the place of one pointer the next one is found without a search. Any place may be handed in.
+    pub fn next_pointer_near(&self, block: u64, from: u64, near: Place) -> (Option<u64>, Place)
+        ensures { result.0 ≡ next_pointer block from self.now.attached }
     {
-        self.counters.pointers(block)
+        self.counters.next_near(block, from, near)
     }
 
     // ---- copies

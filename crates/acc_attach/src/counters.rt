@@ -1,19 +1,61 @@
-//! Attachment counters by block and pointer, in one ordered tree.
+//! The counters by rising block and pointer, each found by its key.
 
-ghost use Rattle.std.specs.Prelude.{◌≡◌, ◌+◌, ◌<◌, ◌≤◌, ◌↔◌, IsTrue, [], ◌==◌, ◌&&◌, nat_le, IfOk, IfErr, OnOk, OnErr, find};
+ghost use Rattle.std.specs.Prelude.{◌≡◌, ◌+◌, ◌<◌, ◌≤◌, ◌&&◌, ◌==◌, ◌↔◌, IsTrue, [], find, nat_le, None, IsSome, OnOk, OnErr, IfOk, IfErr};
 ghost use Rattle.acc_base.specs.Accounts.{EachPair};
-ghost use Rattle.acc_base.specs.Attachments.{IsBefore, count_at, with_count, without_attachments, is_skipped, next_pointer};
-ghost use Rattle.acc_ordered.specs.Listing.{keyed};
-ghost use Rattle.acc_attach.specs.Kept.{is_from, counter_in};
-ghost use Rattle.acc_attach.specs.Counts.{recounted};
+ghost use Rattle.acc_base.specs.Attachments.{IsBefore, is_of, count_at, with_count, without_attachment, without_attachments, is_skipped, next_pointer};
+ghost use Rattle.acc_tree.specs.Listing.{at_key, first_from};
+ghost use Rattle.acc_attach.specs.Kept.{is_from, counter_in, key_of as key_for};
 
-use crate::keys::{key_of, to_counter};
-use crate::pointers::Pointers;
-use crate::recounts::Recount;
+use crate::copying::copy_counters_of;
 use acc_base::{Attachment, Fault};
-use acc_ordered::{OrderedTree, Telling};
+use acc_rows::{Place, Rows};
+use acc_tree::Entry;
 use std::alloc::Global;
 use std::marker::Model;
+
+/// The keys of two blocks that follow one another lie so far apart: one for each host address.
+const ADDRESSES: u128 = 0x1_0000_0000_0000_0000;
+
+/// The key of the counter of a pointer in a block.
+fn key_of(block: u64, pointer: u64) -> u128
+    ensures { result ≡ key_for block pointer }
+{
+    u128::from(block) * ADDRESSES + u128::from(pointer)
+}
+
+/// The entry of a key, if there is one, and where it stands or would be put.
+fn entry_of(rows: &Rows<u64>, key: u128) -> (Option<Entry<u64>>, Place)
+    ensures { result.0 ≡ at_key key rows.now.entries }
+{
+    let (found, place) = rows.look_up(key);
+    (found.copied(), place)
+}
+
+/// The entry of least key from a key on, if there is one.
+fn entry_from(rows: &Rows<u64>, key: u128) -> Option<Entry<u64>>
+    ensures { result ≡ first_from key rows.now.entries }
+{
+    rows.next(key).copied()
+}
+
+/// As [`entry_from`], and where that entry stands. It is looked for first at a place and right behind it.
+fn entry_near(rows: &Rows<u64>, key: u128, near: Place) -> (Option<Entry<u64>>, Place)
+    ensures { result.0 ≡ first_from key rows.now.entries }
+{
+    let (found, place) = rows.next_near(key, near);
+    (found.copied(), place)
+}
+
+/// The counter that an entry stands for: its key is the block and the pointer, its value how often that is attached.
+pub fn to_counter(entry: Entry<u64>) -> Attachment
+    ensures { result ≡ counter_in entry }
+{
+    Attachment {
+        block: (entry.key / ADDRESSES) as u64,
+        pointer: (entry.key % ADDRESSES) as u64,
+        count: entry.value,
+    }
+}
 
 /// The counter is of a pointer of the block that begins at or below an address.
 fn begins_by(counter: Attachment, block: u64, address: u64) -> bool
@@ -22,40 +64,37 @@ fn begins_by(counter: Attachment, block: u64, address: u64) -> bool
     counter.block == block && counter.pointer <= address
 }
 
-/// The counter that an entry stands for.
+/// What a search finds of a counter.
 #[derive(Clone, Copy)]
-struct AsCounter;
-
-impl Telling<u128, u64, Attachment> for AsCounter {
-    ghost told = { λ as_counter key count. counter_in (keyed key count) };
-
-    fn tell(&self, key: u128, count: u64) -> Attachment {
-        to_counter(key, count)
-    }
+pub struct LocatedCounter {
+    /// How often the pointer is attached.
+    pub count: u64,
+    /// Where the counter stands, or would be put.
+    pub place: Place,
 }
 
 /// The counters above zero, and room for more of them.
 #[derive(Drop)]
-pub struct CounterTree {
+pub struct CounterRows {
     // Each count stands under the key of its pointer.
-    counts: OrderedTree<u128, u64>,
+    rows: Rows<u64>,
 }
 
-impl Model for CounterTree {
+impl Model for CounterRows {
     ghost use Rattle.acc_attach.specs.Kept.{CountersState, counters_in};
 
     ghost Value = { CountersState };
 
-    ghost view = { λ c. record { counters = counters_in c.counts.entries; room = c.counts.room } };
+    ghost view = { λ c. record { counters = counters_in c.rows.entries; room = c.rows.room } };
 }
 
-impl CounterTree {
+impl CounterRows {
     /// No counter. It needs no memory.
-    pub fn new(alloc: Global) -> CounterTree
+    pub fn new(alloc: Global) -> CounterRows
         ensures { result.counters ≡ [] }
     {
-        CounterTree {
-            counts: OrderedTree::new(alloc, 0, 0),
+        CounterRows {
+            rows: Rows::new(alloc),
         }
     }
 
@@ -67,7 +106,7 @@ impl CounterTree {
         ensures needed { OnErr result (self.old.room < count) }
         ensures room { self.old.room ≤ self.new.room }
     {
-        self.counts.reserve(count)
+        self.rows.reserve(count)
     }
 
     /// The counters above zero by rising block and pointer, in a vector of their own.
@@ -75,39 +114,28 @@ impl CounterTree {
         ensures ok { IfOk result (λ counters. counters.items ≡ self.now.counters) }
         ensures only { IfErr result (λ fault. fault ≡ Fault.Memory) }
     {
-        self.counts.copy_entries(alloc, &AsCounter)
+        copy_counters_of(&self.rows, alloc)
     }
 
     /// Whether there is no counter.
     pub fn is_empty(&self) -> bool
         ensures { IsTrue result ↔ (self.now.counters ≡ []) }
     {
-        self.counts.next(0).is_none()
+        self.rows.is_empty()
     }
 
-    /// How often a pointer of a block is attached.
-    pub fn count(&self, block: u64, pointer: u64) -> u64
-        ensures { result ≡ count_at block pointer self.now.counters }
+    /// How often a pointer of a block is attached, and where its counter stands.
+    pub fn find(&self, block: u64, pointer: u64) -> LocatedCounter
+        ensures { result.count ≡ count_at block pointer self.now.counters }
     {
-        match self.counts.get(key_of(block, pointer)) {
-            Some(found) => *found.value,
-            None => 0,
+        let (entry, place) = entry_of(&self.rows, key_of(block, pointer));
+        match entry {
+            Some(entry) => LocatedCounter {
+                count: entry.value,
+                place,
+            },
+            None => LocatedCounter { count: 0, place },
         }
-    }
-
-    /// Changes the counter of a pointer of a block, mostly in one walk. It answers how often that was attached.
-    pub fn change(&mut self, block: u64, pointer: u64, recount: Recount) -> u64
-        requires room { count_at block pointer self.old.counters ≡ 0 → 0 < recounted recount 0 → 1 ≤ self.old.room }
-        ensures found { result ≡ count_at block pointer self.old.counters }
-        ensures counters { self.new.counters ≡ with_count block pointer (recounted recount result) self.old.counters }
-        ensures taken { self.old.room ≤ self.new.room + 1 }
-        ensures kept { 0 < result → self.old.room ≤ self.new.room }
-        ensures zero { recounted recount result ≡ 0 → self.old.room ≤ self.new.room }
-    {
-        self.counts.laws();
-        self.counts
-            .change(key_of(block, pointer), &recount)
-            .unwrap_or(0)
     }
 
     /// The counter of the first pointer of a block at or above an address, or else the first counter of a later block.
@@ -115,27 +143,52 @@ impl CounterTree {
         ensures found { result ≡ find (is_from block pointer) self.now.counters }
         ensures rising { EachPair IsBefore self.now.counters }
     {
-        self.counts.laws();
-        match self.counts.next(key_of(block, pointer)) {
-            Some(found) => Some(to_counter(found.key, *found.value)),
+        self.rows.laws();
+        match entry_from(&self.rows, key_of(block, pointer)) {
+            Some(entry) => Some(to_counter(entry)),
             None => None,
         }
-    }
-
-    /// The attached pointers of a block.
-    #[inline]
-    pub fn pointers(&self, block: u64) -> Pointers<'_>
-        ensures block { result.block ≡ block }
-        ensures attached { result.attached ≡ self.now.counters }
-    {
-        Pointers::new(&self.counts, block)
     }
 
     /// The least address at or above `from` at which an attached pointer of a block begins.
     pub fn next(&self, block: u64, from: u64) -> Option<u64>
         ensures { result ≡ next_pointer block from self.now.counters }
     {
-        self.pointers(block).next(from)
+        let counter = self.first_from(block, from)?;
+        if counter.block == block {
+            Some(counter.pointer)
+        } else {
+            None
+        }
+    }
+
+    /// As [`CounterRows::first_from`], and where that counter stands. It is looked for first at a place and right behind
+    /// it.
+    fn first_near(&self, block: u64, pointer: u64, near: Place) -> (Option<Attachment>, Place)
+        ensures found { result.0 ≡ find (is_from block pointer) self.now.counters }
+        ensures rising { EachPair IsBefore self.now.counters }
+    {
+        self.rows.laws();
+        let (entry, place) = entry_near(&self.rows, key_of(block, pointer), near);
+        match entry {
+            Some(entry) => (Some(to_counter(entry)), place),
+            None => (None, place),
+        }
+    }
+
+    /// As [`CounterRows::next`], and where the counter stands. It is looked for first at a place and right behind it.
+    pub fn next_near(&self, block: u64, from: u64, near: Place) -> (Option<u64>, Place)
+        ensures { result.0 ≡ next_pointer block from self.now.counters }
+    {
+        let (first, place) = self.first_near(block, from, near);
+        let Some(counter) = first else {
+            return (None, place);
+        };
+        if counter.block == block {
+            (Some(counter.pointer), place)
+        } else {
+            (None, place)
+        }
     }
 
     /// The address is one of the eight bytes of an attached pointer of the block.
@@ -149,13 +202,56 @@ impl CounterTree {
         }
     }
 
+    /// Gives a counter that is zero another value, where there is room for it. It is put near a place.
+    pub fn add(&mut self, block: u64, pointer: u64, count: u64, near: Place)
+        requires some { 0 < count }
+        requires new { find (is_of block pointer) self.old.counters ≡ None }
+        requires room { 1 ≤ self.old.room }
+        ensures counters { self.new.counters ≡ with_count block pointer count self.old.counters }
+        ensures room { self.old.room ≤ self.new.room + 1 }
+    {
+        let entry = Entry {
+            key: key_of(block, pointer),
+            size: 0,
+            value: count,
+        };
+        self.rows.insert(entry, near);
+    }
+
+    /// Gives a counter that is not zero another value, which is not zero. It is looked for first near a place.
+    pub fn set(&mut self, block: u64, pointer: u64, count: u64, near: Place)
+        requires some { 0 < count }
+        requires there { IsSome (find (is_of block pointer) self.old.counters) }
+        ensures counters { self.new.counters ≡ with_count block pointer count self.old.counters }
+        ensures room { self.old.room ≤ self.new.room }
+    {
+        self.rows.laws();
+        self.rows.set(key_of(block, pointer), count, near);
+    }
+
+    /// Takes out a counter, which then is zero. It is looked for first near a place.
+    pub fn take_out(&mut self, block: u64, pointer: u64, near: Place)
+        requires { IsSome (find (is_of block pointer) self.old.counters) }
+        ensures counters { self.new.counters ≡ without_attachment block pointer self.old.counters }
+        ensures room { self.old.room ≤ self.new.room }
+    {
+        self.rows.remove(key_of(block, pointer), near);
+    }
+
     /// Takes out the counters of a block.
     pub fn take_out_all(&mut self, block: u64)
         ensures counters { self.new.counters ≡ without_attachments block self.old.counters }
         ensures room { self.old.room ≤ self.new.room }
     {
-        while let Some(pointer) = self.next(block, 0) {
-            self.change(block, pointer, Recount::Become(0));
+        let mut near = Place::default();
+        loop {
+            let (next, place) = self.next_near(block, 0, near);
+            let Some(pointer) = next else {
+                return;
+            };
+            self.take_out(block, pointer, place);
+            // The next one moves up to there.
+            near = place;
         }
     }
 }

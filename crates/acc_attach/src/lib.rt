@@ -4,12 +4,10 @@
 #![tactic(auto)]
 
 mod attaching;
+mod copying;
 mod counters;
-mod keys;
 mod left;
-mod pointers;
-mod recounts;
 
+pub use acc_rows::Place;
 pub use attaching::Attached;
 pub use left::Left;
-pub use pointers::Pointers;

@@ -1,7 +1,7 @@
 //! Copies between host memory and a block: one slice over another, with no buffer between.
 
-ghost use Rattle.std.specs.Prelude.{◌≡◌, ◌-◌, ◌^◌, ◌<◌, ◌≤◌, length, map, true, false};
-ghost use Rattle.acc_base.specs.Section.{covers, end_of, is_within, host_memory};
+ghost use Rattle.std.specs.Prelude.{◌≡◌, ◌-◌, ◌<◌, length, map, true, false};
+ghost use Rattle.acc_base.specs.Section.{covers, is_within, host_memory};
 ghost use Rattle.acc_base.specs.Ranges.{start_of};
 ghost use Rattle.acc_base.specs.Bytes.{bytes_of, is_moved, bytes_moved_in, bytes_moved_out, memory_changed};
 ghost use Rattle.acc_base.specs.Loans.{is_lent};
@@ -12,7 +12,7 @@ ghost use Rattle.acc_clauses.specs.Copies.{IsRunEnd};
 
 use crate::environments::Environment;
 use crate::sections::POINTER_LEN;
-use acc_attach::Pointers;
+use acc_attach::{Attached, Place};
 use acc_base::Section;
 use acc_dev::Device;
 use acc_host::HostMem;
@@ -58,17 +58,18 @@ pub(crate) fn start_of(present: &Present, block: u64) -> u64
 }
 
 /// The end of the run of bytes, from the host address `at` on, that are of no attached pointer of the block. It is
-/// `end`, or where the next attached pointer begins, which may be up to seven bytes below `at`.
-fn run_end(pointers: &mut Pointers<'_>, at: u64, end: u64) -> u64
+/// `end`, or where the next attached pointer begins, which may be up to seven bytes below `at`. That pointer is looked
+/// for first near a place, and its own place is answered too.
+fn run_end(attached: &Attached, block: u64, at: u64, end: u64, near: Place) -> (u64, Place)
     requires { at < end }
-    ensures end { IsRunEnd pointers.old.block pointers.old.attached at end result }
-    ensures same { pointers.new ≡ pointers.old }
+    ensures { IsRunEnd block attached.now.attached at end result.0 }
 {
-    pointers.laws();
+    attached.laws();
     let from = at.saturating_sub(POINTER_LEN - 1);
-    match pointers.next(from) {
-        Some(pointer) => pointer.min(end),
-        None => end,
+    let (pointer, place) = attached.next_pointer_near(block, from, near);
+    match pointer {
+        Some(pointer) => (pointer.min(end), place),
+        None => (end, place),
     }
 }
 
@@ -97,38 +98,12 @@ pub(crate) fn copy_out(
 {
     let end = section.start + section.len;
     let mut at = section.start;
-    let mut pointers = environment.attached.pointers(block);
+    let mut near = Place::default();
     while at < end {
-        let stop = run_end(&mut pointers, at, end);
+        let (stop, place) = run_end(&environment.attached, block, at, end, near);
         run_out(&environment.device, host, run_from(at, stop), block, start);
         at = stop + POINTER_LEN;
-    }
-}
-
-/// Copies a section of host memory to a block that is not lent, and whose bytes are those from the host address `start`
-/// on. The bytes of these pointers of the block are left out.
-fn runs_in(
-    device: &mut Device,
-    host: &HostMem,
-    section: Section,
-    start: u64,
-    block: u64,
-    mut pointers: Pointers<'_>,
-)
-    requires in_host { is_within section (host_memory (length host.now)) ≡ true }
-    requires end { end_of section ≤ 2 ^ 40 }
-    requires there { HasBlock device.old block }
-    requires free { is_lent block device.old.loans ≡ false }
-    requires within { is_within section (record { start = start; len = length (bytes_of block device.old.memories) }) ≡ true }
-    requires pointers { pointers.block ≡ block }
-    ensures { device.new ≡ record device.old { memories = map (memory_changed block (bytes_moved_in (is_moved section block pointers.entry.attached) host.now start)) device.old.memories } }
-{
-    let end = section.start + section.len;
-    let mut at = section.start;
-    while at < end {
-        let stop = run_end(&mut pointers, at, end);
-        run_in(device, host, run_from(at, stop), block, start);
-        at = stop + POINTER_LEN;
+        near = place;
     }
 }
 
@@ -144,13 +119,19 @@ pub(crate) fn copy_in(
     requires can { CanCopy section block start (bare_state (beside environment.old host.now)) }
     ensures { let s = bare_state (beside environment.old host.now) in environment.new ≡ record environment.old { device = record environment.old.device { memories = map (memory_changed block (bytes_moved_in (is_moved section block s.records.attached) s.host start)) s.memories } } }
 {
-    let pointers = environment.attached.pointers(block);
-    runs_in(
-        &mut environment.device,
-        host,
-        section,
-        start,
-        block,
-        pointers,
-    );
+    let end = section.start + section.len;
+    let mut at = section.start;
+    let mut near = Place::default();
+    while at < end {
+        let (stop, place) = run_end(&environment.attached, block, at, end, near);
+        run_in(
+            &mut environment.device,
+            host,
+            run_from(at, stop),
+            block,
+            start,
+        );
+        at = stop + POINTER_LEN;
+        near = place;
+    }
 }

@@ -7,8 +7,6 @@ abbrev pub invariant-loop-at : goal.invariant-loop-at
 invariant-loop-at l = record {
   low : l.fn.section.start ≤ l.at;
   most : l.at ≤ l.end + 8;
-  block_is : l.pointers.block ≡ l.fn.block;
-  attached_is : l.pointers.attached ≡ l.fn.environment.attached.attached;
   swept : l.host ≡ swept_out l.fn.section l.fn.block l.fn.start l.at (beside l.fn.environment l.fn.host);
 }
 

@@ -1,5 +1,0 @@
-use Rattle.acc_attach.proofs.Keeping.{kept_with}
-use Rattle.acc_attach.proofs.attaching.Attached.aim_reserved.Goals as goal
-
-pub invariant_of-self : goal.invariant_of-self
-invariant_of-self c = rw c.change.ensures.counters (kept_with c.self.inside.counter_max c.args.block c.args.pointer 1 c.self.inside.counters.counters c.self.invariant c.self.invariant.some)

@@ -1,0 +1,11 @@
+pub mod Halving
+pub mod Laying
+pub mod Searched
+pub mod Placing
+pub mod Reading
+pub mod Changing
+pub mod Passing
+pub mod NoRows
+pub mod Starting
+pub mod Answering
+pub mod Joining

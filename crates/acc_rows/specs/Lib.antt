@@ -1,0 +1,3 @@
+pub mod Laid
+pub mod Spots
+pub mod Sound

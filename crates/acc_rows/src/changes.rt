@@ -1,0 +1,301 @@
+//! How rows change.
+ghost use Rattle.std.specs.Bool.{OnTrue};
+ghost use Rattle.std.specs.Prelude.{◌≡◌, ◌+◌, ◌<◌, ◌≤◌, [], ◌∷◌, OnOk, OnErr, IfErr, Some, vec_len, vec_capacity, slice_get, slice_set as set, ℕ, List, length};
+ghost use Rattle.std.specs.List.{AllByRecursion, insert, remove};
+ghost use Rattle.acc_tree.specs.Listing.{KeysRise};
+ghost use Rattle.acc_tree.specs.declared.entries.Entry.{Entry};
+ghost use Rattle.acc_rows.specs.Laid.{side_by_side, IsRow, IsWaiting, AreInRows, AreRows};
+ghost use Rattle.acc_rows.specs.Spots.{index_of, IsTaken, IsInRow, HasPlace, IsCutInTwo, HasEntries, IsAmongOthers, FitTogether};
+
+use crate::places::Place;
+use acc_base::Fault;
+use acc_tree::Entry;
+use std::alloc::Global;
+
+/// How many entries a row has place for.
+const WIDTH: usize = 64;
+
+/// Makes rows until `count` wait. There is place for them.
+fn make_waiting<T: Copy>(
+    alloc: Global,
+    spare: &mut Vec<Vec<Entry<T>>>,
+    count: usize,
+) -> Result<(), Fault>
+    requires waiting { AllByRecursion IsWaiting spare.old.items }
+    requires fewer { vec_len spare.old ≤ count }
+    requires places { count ≤ vec_capacity spare.old }
+    ensures waiting { AllByRecursion IsWaiting spare.new.items }
+    ensures ok { OnOk result (count ≤ vec_len spare.new) }
+    ensures only { IfErr result (λ fault. fault ≡ Fault.Memory) }
+    ensures not_fewer { vec_len spare.old ≤ vec_len spare.new }
+    ensures not_more { vec_len spare.new ≤ count }
+    ensures capacity { vec_capacity spare.new ≡ vec_capacity spare.old }
+{
+    while spare.len() < count {
+        let row = Vec::with_capacity(alloc, WIDTH)?;
+        spare.push_reserved(row);
+    }
+    Ok(())
+}
+
+/// Makes rows until `count` wait, and place for them among the others.
+pub fn make_rows<T: Copy>(
+    alloc: Global,
+    firsts: &mut Vec<u128>,
+    rows: &mut Vec<Vec<Entry<T>>>,
+    spare: &mut Vec<Vec<Entry<T>>>,
+    count: usize,
+) -> Result<(), Fault>
+    requires rows { AreRows firsts.old rows.old spare.old }
+    ensures rows { AreRows firsts.new rows.new spare.new }
+    ensures entries { side_by_side rows.new.items ≡ side_by_side rows.old.items }
+    ensures ok { OnOk result (count ≤ vec_len spare.new) }
+    ensures spare { vec_len spare.old ≤ vec_len spare.new }
+    ensures only { IfErr result (λ fault. fault ≡ Fault.Memory) }
+    ensures memory { OnErr result (vec_len spare.old < count) }
+{
+    if count <= spare.len() {
+        return Ok(());
+    }
+    firsts.reserve(count)?;
+    rows.reserve(count)?;
+    spare.reserve(rows.len() + (count - spare.len()))?;
+    make_waiting(alloc, spare, count)
+}
+
+/// The first entry, in a row that waited.
+pub fn start<T: Copy>(
+    firsts: &mut Vec<u128>,
+    rows: &mut Vec<Vec<Entry<T>>>,
+    spare: &mut Vec<Vec<Entry<T>>>,
+    entry: Entry<T>,
+)
+    requires rows { AreRows firsts.old rows.old spare.old }
+    requires none { rows.old.items ≡ [] }
+    requires room { 1 ≤ vec_len spare.old }
+    ensures rows { AreRows firsts.new rows.new spare.new }
+    ensures entries { side_by_side rows.new.items ≡ entry ∷ [] }
+    ensures spare { vec_len spare.old ≤ vec_len spare.new + 1 }
+{
+    let mut row = spare.take_last();
+    row.push_reserved(entry);
+    rows.push_reserved(row);
+    firsts.push_reserved(entry.key);
+}
+
+/// Where to split a full row to which an entry comes at `at`. Where it comes before or behind all entries, nearly all
+/// stay together. So rows are full after entries that come by rising or falling keys.
+fn cut_for(at: usize) -> usize
+    ensures some { 0 < result }
+    ensures not_all { result < 64 }
+{
+    if at == 0 {
+        1
+    } else if at == WIDTH {
+        WIDTH - 1
+    } else {
+        WIDTH / 2
+    }
+}
+
+/// Moves the entries of a full row from `cut` on to a row that waited, which comes behind it.
+fn split<T: Copy>(
+    firsts: &mut Vec<u128>,
+    rows: &mut Vec<Vec<Entry<T>>>,
+    spare: &mut Vec<Vec<Entry<T>>>,
+    row: usize,
+    cut: usize,
+)
+    requires rows { AreRows firsts.old rows.old spare.old }
+    requires full { HasEntries rows.old.items row 64 }
+    requires room { 1 ≤ vec_len spare.old }
+    requires some { 0 < cut }
+    requires not_all { cut < 64 }
+    ensures rows { AreRows firsts.new rows.new spare.new }
+    ensures entries { side_by_side rows.new.items ≡ side_by_side rows.old.items }
+    ensures cut { IsCutInTwo rows.old.items rows.new.items row cut }
+    ensures spare { vec_len spare.old ≡ vec_len spare.new + 1 }
+{
+    let mut upper = spare.take_last();
+    let lower = &mut rows[row];
+    let _ = upper.extend_from_slice(&lower[cut..]);
+    lower.truncate(cut);
+    let _ = firsts.insert(row + 1, upper[0].key);
+    let _ = rows.insert(row + 1, upper);
+}
+
+/// Splits the row of a place where it is full, and returns where the place is then.
+pub fn make_place<T: Copy>(
+    firsts: &mut Vec<u128>,
+    rows: &mut Vec<Vec<Entry<T>>>,
+    spare: &mut Vec<Vec<Entry<T>>>,
+    place: Place,
+) -> Place
+    requires rows { AreRows firsts.old rows.old spare.old }
+    requires within { IsInRow rows.old.items place }
+    requires room { 1 ≤ vec_len spare.old }
+    ensures rows { AreRows firsts.new rows.new spare.new }
+    ensures entries { side_by_side rows.new.items ≡ side_by_side rows.old.items }
+    ensures number { index_of rows.new.items result ≡ index_of rows.old.items place }
+    ensures place { HasPlace rows.new.items result }
+    ensures spare { vec_len spare.old ≤ vec_len spare.new + 1 }
+{
+    if rows[place.row].len() < WIDTH {
+        return place;
+    }
+    let cut = cut_for(place.at);
+    split(firsts, rows, spare, place.row, cut);
+    if place.at <= cut {
+        place
+    } else {
+        Place {
+            row: place.row + 1,
+            at: place.at - cut,
+        }
+    }
+}
+
+/// Puts an entry at a place in a row that is not full.
+pub fn put<T: Copy>(
+    firsts: &mut Vec<u128>,
+    rows: &mut Vec<Vec<Entry<T>>>,
+    place: Place,
+    entry: Entry<T>,
+)
+    requires in_rows { AreInRows firsts.old.items rows.old.items }
+    requires place { HasPlace rows.old.items place }
+    requires rising { KeysRise (insert (side_by_side rows.old.items) (index_of rows.old.items place) entry) }
+    ensures in_rows { AreInRows firsts.new.items rows.new.items }
+    ensures entries { side_by_side rows.new.items ≡ insert (side_by_side rows.old.items) (index_of rows.old.items place) entry }
+    ensures len { vec_len rows.new ≡ vec_len rows.old }
+    ensures capacity { vec_capacity rows.new ≡ vec_capacity rows.old }
+    ensures capacity_firsts { vec_capacity firsts.new ≡ vec_capacity firsts.old }
+{
+    let row = &mut rows[place.row];
+    let _ = row.insert(place.at, entry);
+    firsts[place.row] = row[0].key;
+}
+
+/// Takes out the only entry of a row, which waits then, and returns it.
+fn take_row<T: Copy>(
+    firsts: &mut Vec<u128>,
+    rows: &mut Vec<Vec<Entry<T>>>,
+    spare: &mut Vec<Vec<Entry<T>>>,
+    row: usize,
+) -> Entry<T>
+    requires rows { AreRows firsts.old rows.old spare.old }
+    requires alone { HasEntries rows.old.items row 1 }
+    ensures rows { AreRows firsts.new rows.new spare.new }
+    ensures entry { slice_get (side_by_side rows.old.items) (index_of rows.old.items (record { row = row; at = 0 })) ≡ Some result }
+    ensures entries { side_by_side rows.new.items ≡ remove (side_by_side rows.old.items) (index_of rows.old.items (record { row = row; at = 0 })) }
+    ensures spare { vec_len spare.old ≤ vec_len spare.new }
+{
+    firsts.remove(row);
+    let mut empty = rows.remove(row);
+    let entry = empty.take_last();
+    spare.push_reserved(empty);
+    entry
+}
+
+/// Takes out one of several entries of a row, and returns it.
+fn shorten<T: Copy>(firsts: &mut Vec<u128>, rows: &mut Vec<Vec<Entry<T>>>, place: Place) -> Entry<T>
+    requires in_rows { AreInRows firsts.old.items rows.old.items }
+    requires among { IsAmongOthers rows.old.items place }
+    ensures in_rows { AreInRows firsts.new.items rows.new.items }
+    ensures entry { slice_get (side_by_side rows.old.items) (index_of rows.old.items place) ≡ Some result }
+    ensures entries { side_by_side rows.new.items ≡ remove (side_by_side rows.old.items) (index_of rows.old.items place) }
+    ensures len { vec_len rows.new ≡ vec_len rows.old }
+    ensures capacity { vec_capacity rows.new ≡ vec_capacity rows.old }
+    ensures capacity_firsts { vec_capacity firsts.new ≡ vec_capacity firsts.old }
+{
+    let row = &mut rows[place.row];
+    let entry = row.remove(place.at);
+    firsts[place.row] = row[0].key;
+    entry
+}
+
+/// Whether a row and the next have at most half as many entries as one has place for.
+fn are_few<T: Copy>(rows: &[Vec<Entry<T>>], row: usize) -> bool
+    requires each { AllByRecursion IsRow rows.now }
+    requires within { row < length rows.now }
+    ensures { OnTrue result (FitTogether rows.now row) }
+{
+    row + 1 < rows.len() && rows[row].len() + rows[row + 1].len() <= WIDTH / 2
+}
+
+/// Moves the entries of the next row to the end of a row. The next row waits then.
+fn join<T: Copy>(
+    firsts: &mut Vec<u128>,
+    rows: &mut Vec<Vec<Entry<T>>>,
+    spare: &mut Vec<Vec<Entry<T>>>,
+    row: usize,
+)
+    requires rows { AreRows firsts.old rows.old spare.old }
+    requires few { FitTogether rows.old.items row }
+    ensures rows { AreRows firsts.new rows.new spare.new }
+    ensures entries { side_by_side rows.new.items ≡ side_by_side rows.old.items }
+    ensures spare { vec_len spare.old ≤ vec_len spare.new }
+{
+    firsts.remove(row + 1);
+    let mut upper = rows.remove(row + 1);
+    let lower = &mut rows[row];
+    let _ = lower.extend_from_slice(&upper);
+    upper.clear();
+    spare.push_reserved(upper);
+}
+
+/// Joins a row with one beside it, where both have few entries.
+fn join_few<T: Copy>(
+    firsts: &mut Vec<u128>,
+    rows: &mut Vec<Vec<Entry<T>>>,
+    spare: &mut Vec<Vec<Entry<T>>>,
+    row: usize,
+)
+    requires rows { AreRows firsts.old rows.old spare.old }
+    requires within { row < vec_len rows.old }
+    ensures rows { AreRows firsts.new rows.new spare.new }
+    ensures entries { side_by_side rows.new.items ≡ side_by_side rows.old.items }
+    ensures spare { vec_len spare.old ≤ vec_len spare.new }
+{
+    if are_few(rows, row) {
+        join(firsts, rows, spare, row);
+    } else if row > 0 && are_few(rows, row - 1) {
+        join(firsts, rows, spare, row - 1);
+    }
+}
+
+/// Takes out the entry at a place, and returns it. Its row is joined with one beside it where both have few entries
+/// then.
+pub fn take_out<T: Copy>(
+    firsts: &mut Vec<u128>,
+    rows: &mut Vec<Vec<Entry<T>>>,
+    spare: &mut Vec<Vec<Entry<T>>>,
+    place: Place,
+) -> Entry<T>
+    requires rows { AreRows firsts.old rows.old spare.old }
+    requires taken { IsTaken rows.old.items place }
+    ensures rows { AreRows firsts.new rows.new spare.new }
+    ensures entry { slice_get (side_by_side rows.old.items) (index_of rows.old.items place) ≡ Some result }
+    ensures entries { side_by_side rows.new.items ≡ remove (side_by_side rows.old.items) (index_of rows.old.items place) }
+    ensures spare { vec_len spare.old ≤ vec_len spare.new }
+{
+    if rows[place.row].len() == 1 {
+        take_row(firsts, rows, spare, place.row)
+    } else {
+        let entry = shorten(firsts, rows, place);
+        join_few(firsts, rows, spare, place.row);
+        entry
+    }
+}
+
+/// Gives the entry at a place another value. Its key stays, so no entry moves.
+pub fn write<T: Copy>(rows: &mut Vec<Vec<Entry<T>>>, place: Place, value: T)
+    requires { IsTaken rows.old.items place }
+    ensures entries { (entry : Entry T) → slice_get (side_by_side rows.old.items) (index_of rows.old.items place) ≡ Some entry → side_by_side rows.new.items ≡ set (side_by_side rows.old.items) (index_of rows.old.items place) (record entry { value = value }) }
+    ensures in_rows { (firsts : List ℕ) → AreInRows firsts rows.old.items → KeysRise (side_by_side rows.new.items) → AreInRows firsts rows.new.items }
+    ensures len { vec_len rows.new ≡ vec_len rows.old }
+    ensures capacity { vec_capacity rows.new ≡ vec_capacity rows.old }
+{
+    let row = &mut rows[place.row];
+    row[place.at].value = value;
+}

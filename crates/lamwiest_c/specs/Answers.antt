@@ -4,9 +4,8 @@ use Rattle.std.specs.Prelude.{ℕ, ◌≡◌, ◌⊎◌, ◌==◌, Bool, List, �
 use Rattle.std.specs.List.{remove, position_or_len}
 use Rattle.acc_base.specs.declared.items.Section.{Section}
 use Rattle.acc_base.specs.declared.calls.Call.{Call}
-use Rattle.acc_base.specs.declared.directives.Directive.{Directive}
 use Rattle.acc_base.specs.declared.faults.Fault.{Fault}
-use Rattle.acc_base.specs.declared.calls.Call.TheVariants.{Do, Lend, Gather}
+use Rattle.acc_base.specs.declared.calls.Call.TheVariants.{Lend, Gather}
 use Rattle.acc_base.specs.declared.faults.Fault.TheVariants.{Memory, NoLease}
 use Rattle.acc_base.specs.Loans.{Leased}
 use Rattle.acc_base.specs.Calls.{World, judge, world_after, rebased}
@@ -55,11 +54,6 @@ IsMadeIn e call T v = IsMade e.world call T v.world × (v.leases ≡ e.leases)
 abbrev pub IsAsked : DataEnvironment → Result (Call Leased) Refusal → Told → DataEnvironment → Type 0
 IsAsked e (Err refusal) T v = T (Err refusal) × (v ≡ e)
 IsAsked e (Ok call) T v = (T (Err (OfTable Memory)) × (v ≡ e)) ⊎ IsMadeIn e call T v
-
--- the same of a directive
-abbrev pub IsDirected : DataEnvironment → Result Directive Refusal → Told → DataEnvironment → Type 0
-IsDirected e (Err refusal) T v = IsAsked e (Err refusal) T v
-IsDirected e (Ok directive) T v = IsAsked e (Ok (Do directive)) T v
 
 -- the world's base is what it had, and the caller gets how many events that folded; or memory was lacking
 abbrev pub IsRebased : DataEnvironment → Told → DataEnvironment → Type 0

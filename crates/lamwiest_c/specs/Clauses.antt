@@ -12,6 +12,9 @@ use Rattle.acc_base.specs.declared.items.ExitClause.TheVariants as exits
 use Rattle.acc_base.specs.declared.items.RegionClause.TheVariants as regions
 use Rattle.acc_base.specs.declared.items.UpdateClause.TheVariants as updates
 use Rattle.acc_base.specs.declared.directives.Directive.TheVariants.{Enter, EnterData, ExitData, Update}
+use Rattle.acc_base.specs.declared.calls.Call.{Call}
+use Rattle.acc_base.specs.declared.calls.Call.TheVariants.{Do}
+use Rattle.acc_base.specs.Loans.{Leased}
 use Rattle.lamwiest_c.specs.declared.items.RawItem.{RawItem}
 use Rattle.lamwiest_c.specs.declared.items.TheConstants.{COPY, COPYIN, COPYOUT, COPYOUT_ZERO, CREATE, CREATE_ZERO, NO_CREATE, PRESENT, ATTACH, DELETE, DETACH, SELF, DEVICE, NO_QUEUE_GIVEN}
 use Rattle.lamwiest_c.specs.declared.statuses.Refusal.{Refusal}
@@ -85,19 +88,19 @@ IsRead (Ok items) result = (result ≡ Ok items) ⊎ (result ≡ Err (OfTable Me
 
 -- ---- the directives of arrays, all on the one device that a table of C has
 
--- a directive with its items, where these were read
-abbrev pub directive_with : {A B : Type 0} → (A → B) → Result A Refusal → Result B Refusal
-directive_with f (Ok items) = Ok (f items)
-directive_with f (Err refusal) = Err refusal
+-- what is asked with some items, where these were read
+abbrev pub asked_with : {A : Type 0} → (A → Directive) → Result A Refusal → Result (Call Leased) Refusal
+asked_with f (Ok items) = Ok (Do (f items))
+asked_with f (Err refusal) = Err refusal
 
-abbrev pub enter_of : List RawItem → Result Directive Refusal
-enter_of items = directive_with (Enter 0) (items_from region_clause 0 items)
+abbrev pub enter_of : List RawItem → Result (Call Leased) Refusal
+enter_of items = asked_with (Enter 0) (items_from region_clause 0 items)
 
-abbrev pub enter_data_of : List RawItem → ℕ → Result Directive Refusal
-enter_data_of items queue = directive_with (λ read. EnterData 0 read (queue_of queue)) (items_from enter_clause 0 items)
+abbrev pub enter_data_of : List RawItem → ℕ → Result (Call Leased) Refusal
+enter_data_of items queue = asked_with (λ read. EnterData 0 read (queue_of queue)) (items_from enter_clause 0 items)
 
-abbrev pub exit_data_of : List RawItem → Bool → ℕ → Result Directive Refusal
-exit_data_of items finalize queue = directive_with (λ read. ExitData 0 read finalize (queue_of queue)) (items_from exit_clause 0 items)
+abbrev pub exit_data_of : List RawItem → Bool → ℕ → Result (Call Leased) Refusal
+exit_data_of items finalize queue = asked_with (λ read. ExitData 0 read finalize (queue_of queue)) (items_from exit_clause 0 items)
 
-abbrev pub update_of : List RawItem → Bool → ℕ → Result Directive Refusal
-update_of items if_present queue = directive_with (λ read. Update 0 read if_present (queue_of queue)) (items_from update_clause 0 items)
+abbrev pub update_of : List RawItem → Bool → ℕ → Result (Call Leased) Refusal
+update_of items if_present queue = asked_with (λ read. Update 0 read if_present (queue_of queue)) (items_from update_clause 0 items)

@@ -5,7 +5,7 @@ ghost use Rattle.acc_base.specs.declared.calls.Call.TheVariants.{Do};
 ghost use Rattle.acc_base.specs.declared.directives.Directive.TheVariants.{Exit, Wait, Step};
 ghost use Rattle.lamwiest_c.specs.Clauses.{queue_of, is_given, enter_of, enter_data_of, exit_data_of, update_of};
 ghost use Rattle.lamwiest_c.specs.Statuses.{IsAnswered, IsNumberAnswered};
-ghost use Rattle.lamwiest_c.specs.Answers.{IsMadeIn, IsDirected, IsOf};
+ghost use Rattle.lamwiest_c.specs.Answers.{IsMadeIn, IsAsked, IsOf};
 
 use crate::handles::{Handle, put_back, take_out};
 use crate::items::{RawItem, queue_of};
@@ -31,7 +31,7 @@ pub extern "C" fn lw_enter(
     fault: &mut FaultFields,
 ) -> u32
     ensures { IsOf table.old.value table.new.value (IsNumberAnswered result fault.new region.old region.new)
-        (λ e v. IsDirected e (enter_of items.now) (IsNumberAnswered result fault.new region.old region.new) v) }
+        (λ e v. IsAsked e (enter_of items.now) (IsNumberAnswered result fault.new region.old region.new) v) }
 {
     let Some(mut environment) = take_out(alloc, table) else {
         return tell_number(Err(Refusal::Ended), region, fault);
@@ -71,7 +71,7 @@ pub extern "C" fn lw_enter_data(
     fault: &mut FaultFields,
 ) -> u32
     ensures { IsOf table.old.value table.new.value (IsAnswered result fault.new)
-        (λ e v. IsDirected e (enter_data_of items.now queue) (IsAnswered result fault.new) v) }
+        (λ e v. IsAsked e (enter_data_of items.now queue) (IsAnswered result fault.new) v) }
 {
     let Some(mut environment) = take_out(alloc, table) else {
         return tell(Err(Refusal::Ended), fault);
@@ -93,7 +93,7 @@ pub extern "C" fn lw_exit_data(
     fault: &mut FaultFields,
 ) -> u32
     ensures { IsOf table.old.value table.new.value (IsAnswered result fault.new)
-        (λ e v. IsDirected e (exit_data_of items.now (is_given finalize) queue) (IsAnswered result fault.new) v) }
+        (λ e v. IsAsked e (exit_data_of items.now (is_given finalize) queue) (IsAnswered result fault.new) v) }
 {
     let Some(mut environment) = take_out(alloc, table) else {
         return tell(Err(Refusal::Ended), fault);
@@ -115,7 +115,7 @@ pub extern "C" fn lw_update(
     fault: &mut FaultFields,
 ) -> u32
     ensures { IsOf table.old.value table.new.value (IsAnswered result fault.new)
-        (λ e v. IsDirected e (update_of items.now (is_given if_present) queue) (IsAnswered result fault.new) v) }
+        (λ e v. IsAsked e (update_of items.now (is_given if_present) queue) (IsAnswered result fault.new) v) }
 {
     let Some(mut environment) = take_out(alloc, table) else {
         return tell(Err(Refusal::Ended), fault);

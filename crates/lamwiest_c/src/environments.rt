@@ -6,7 +6,7 @@ ghost use Rattle.acc_base.specs.declared.faults.Fault.TheVariants.{Memory};
 ghost use Rattle.lamwiest_c.specs.declared.statuses.Refusal.TheVariants.{OfTable};
 ghost use Rattle.lamwiest_c.specs.Begins.{new_environment};
 ghost use Rattle.lamwiest_c.specs.Clauses.{enter_of, enter_data_of, exit_data_of, update_of};
-ghost use Rattle.lamwiest_c.specs.Answers.{number_in, IsMadeIn, IsAsked, IsDirected, IsRebased};
+ghost use Rattle.lamwiest_c.specs.Answers.{number_in, IsMadeIn, IsAsked, IsRebased};
 
 use crate::items::{RawItem, items_of, queue_of};
 use crate::statuses::Refusal;
@@ -117,7 +117,7 @@ impl TableWithLeases {
     ///
     /// Those of `items_of` and of the table.
     pub fn enter(&mut self, alloc: Global, items: &[RawItem]) -> Result<u64, Refusal>
-        ensures { IsDirected self.old (enter_of items.now) (λ r. result ≡ r) self.new }
+        ensures { IsAsked self.old (enter_of items.now) (λ r. result ≡ r) self.new }
     {
         let items = items_of(alloc, items)?;
         self.direct(Directive::Enter { device: 0, items })
@@ -131,7 +131,7 @@ impl TableWithLeases {
         items: &[RawItem],
         queue: u64,
     ) -> Result<u64, Refusal>
-        ensures { IsDirected self.old (enter_data_of items.now queue) (λ r. result ≡ r) self.new }
+        ensures { IsAsked self.old (enter_data_of items.now queue) (λ r. result ≡ r) self.new }
     {
         let items = items_of(alloc, items)?;
         let (device, queue) = (0, queue_of(queue));
@@ -151,7 +151,7 @@ impl TableWithLeases {
         finalize: bool,
         queue: u64,
     ) -> Result<u64, Refusal>
-        ensures { IsDirected self.old (exit_data_of items.now finalize queue) (λ r. result ≡ r) self.new }
+        ensures { IsAsked self.old (exit_data_of items.now finalize queue) (λ r. result ≡ r) self.new }
     {
         let items = items_of(alloc, items)?;
         let queue = queue_of(queue);
@@ -172,7 +172,7 @@ impl TableWithLeases {
         if_present: bool,
         queue: u64,
     ) -> Result<u64, Refusal>
-        ensures { IsDirected self.old (update_of items.now if_present queue) (λ r. result ≡ r) self.new }
+        ensures { IsAsked self.old (update_of items.now if_present queue) (λ r. result ≡ r) self.new }
     {
         let items = items_of(alloc, items)?;
         let queue = queue_of(queue);

@@ -5,7 +5,7 @@ use Rattle.std.specs.Prelude.{nat_lt, IsSome, ⊤}
 use Rattle.std.proofs.lemmas.Bool.{true≢false}
 use Rattle.std.proofs.lemmas.Bool.Decides.{nat_tests}
 use Rattle.acc_base.specs.Words.{Transfer, Directive, Call, Did, Event, Fault, Loan}
-use Rattle.acc_base.specs.declared.directives.Directive.TheVariants.{Enter, Exit, EnterData, ExitData, Update, Wait}
+use Rattle.acc_base.specs.declared.directives.Directive.TheVariants.{Enter}
 use Rattle.acc_base.specs.declared.directives.Directive.TheVariants as directives
 use Rattle.acc_base.specs.declared.calls.Call.TheVariants.{Do, HostWrite, Lend, Gather}
 use Rattle.acc_base.specs.declared.events.Event.TheVariants.{Entered, Lent}

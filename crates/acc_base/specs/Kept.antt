@@ -1,5 +1,5 @@
 -- What a list has.
-use Rattle.std.specs.Prelude.{List, [], ◌∷◌}
+use Rattle.std.specs.Prelude.{List, []}
 use Rattle.acc_base.specs.declared.lists.Kept.{Kept}
 use Rattle.acc_base.specs.declared.lists.Kept.TheVariants.{One, Many}
 

@@ -6,7 +6,7 @@ use Rattle.std.specs.List.{AllByRecursion, remove}
 use Rattle.acc_base.proofs.Splitting.{all_at}
 use Rattle.acc_base.proofs.Lookups.{at-own}
 use Rattle.acc_base.proofs.Keyed as keyed
-use Rattle.acc_base.proofs.Keyed.{all_from, rise_distinct}
+use Rattle.acc_base.proofs.Keyed.{rise_distinct}
 use Rattle.acc_index.specs.Indexed.{IsIndexRising, value_at, without_number}
 use Rattle.acc_dev.specs.Slots.{IsSlotOf, IsEntryLost}
 

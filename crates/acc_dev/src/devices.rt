@@ -9,7 +9,7 @@ ghost use Rattle.acc_base.specs.Blocks.{rounded as rounded_of, place_for, block_
 ghost use Rattle.acc_base.specs.Holes.{IsDevice, IsLeft, IsNextHole};
 ghost use Rattle.acc_base.specs.Bytes.{bytes_of, fill_byte};
 ghost use Rattle.acc_base.specs.Accounts.{IsMemoryOf};
-ghost use Rattle.acc_base.specs.Loans.{loan_of, is_lent};
+ghost use Rattle.acc_base.specs.Loans.{is_lent};
 ghost use Rattle.acc_placement.specs.Ranges.{IsTakeBelow};
 ghost use Rattle.acc_dev.specs.Marks.{Mark, pins_at, is_ended_at, lowest_ended as lowest_ended_of, IsMarkOf, IsSoundMark};
 ghost use Rattle.acc_dev.specs.Device.{number_at, HasBlock, IsNew, IsUnchanged, IsBorn, IsBornWith, IsNextRoom, IsBlockWritten, IsMarked, IsPinned, IsUnpinned, IsEnded, IsRetired, IsLoanOn, AreLoansRising, HasBlocksApart, birth_place, planned_blocks};

@@ -1,6 +1,6 @@
 //! The slots of blocks, and the index by which a number finds its slot.
 
-ghost use Rattle.std.specs.Prelude.{◌≡◌, ℕ, ◌+◌, ◌^◌, ◌<◌, ◌≤◌, ◌≢◌, List, [], ◌∷◌, ◌++◌, ◌&&◌, ◌==◌, length, is_some, IfSome, IfNone, IfErr, OnOk, IsOk, IsSome, Some, None, slice_index_or, true, IfOk};
+ghost use Rattle.std.specs.Prelude.{◌≡◌, ℕ, ◌+◌, ◌^◌, ◌<◌, ◌≤◌, [], ◌∷◌, ◌++◌, length, IfSome, IfNone, IfErr, OnOk, IsOk, IsSome, Some, None, slice_index_or, true, IfOk};
 ghost use Rattle.std.specs.List.{AllByRecursion};
 ghost use Rattle.slab.specs.Slab.{get, slab_len, HasRoomFor};
 ghost use Rattle.acc_base.specs.Limits.{IsFromOne, recorded};
@@ -11,7 +11,7 @@ ghost use Rattle.acc_base.specs.Overwriting.{overwritten};
 ghost use Rattle.acc_dev.specs.Marks.{new_mark};
 ghost use Rattle.acc_index.specs.Indexed.{IsIndexRising};
 ghost use Rattle.acc_dev.specs.Slots.{IsEntry, IsSlotOf, IsEntryLost};
-ghost use Rattle.acc_dev.specs.Kept.{memory_of, stored_place, stored_len, stored_bytes, stored_pins, stored_ended, stored_loan, slot_of, blocks_in, memories_in, marks_in, loans_in, IsBlockLost, IsBacked, AreSlotsKept, IsRewritten, IsRemarked, IsRelent};
+ghost use Rattle.acc_dev.specs.Kept.{memory_of, stored_bytes, stored_loan, slot_of, blocks_in, memories_in, marks_in, loans_in, IsBlockLost, AreSlotsKept, IsRewritten, IsRemarked, IsRelent};
 
 use crate::ended::EndedBlocks;
 use acc_base::{Fault, Loan, MEMORY_MAX};

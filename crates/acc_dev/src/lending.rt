@@ -1,6 +1,6 @@
 //! The loans of a device: a block is taken out by a lease, which is put back.
 
-ghost use Rattle.std.specs.Prelude.{◌≡◌, ◌+◌, ◌≤◌, ◌↔◌, IfOk, IfErr, OnOk, OnErr, IsOk, IsErr, true, false};
+ghost use Rattle.std.specs.Prelude.{◌≡◌, ◌+◌, ◌≤◌, ◌↔◌, IfOk, IfErr, OnOk, OnErr, IsOk, true, false};
 ghost use Rattle.acc_base.specs.Bytes.{bytes_of};
 ghost use Rattle.acc_base.specs.Loans.{loan_of, is_lent, len_of};
 ghost use Rattle.acc_base.specs.Leases.{is_returnable};

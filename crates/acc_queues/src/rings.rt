@@ -1,8 +1,7 @@
 //! The rings that keep the queues: one each, by the queue's number.
 
-ghost use Rattle.std.specs.Prelude.{◌≡◌, ◌<◌, ◌≤◌, length, map, vec_len, IfOk, IfErr, OnOk, OnErr};
+ghost use Rattle.std.specs.Prelude.{◌≡◌, ◌<◌, ◌≤◌, map, vec_len, IfOk, IfErr, OnOk, OnErr};
 ghost use Rattle.std.specs.Vec.{vec_items};
-ghost use Rattle.std.specs.Option.{option_copied};
 ghost use Rattle.acc_base.specs.Queues.{new_queues, head_of, put, popped};
 ghost use Rattle.acc_queues.specs.Queued.{spare_at, AreRoomsKept, IsRoomTaken};
 ghost use Rattle.acc_queues.specs.Kept.{queues_in, spares_in};

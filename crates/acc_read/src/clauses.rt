@@ -3,7 +3,7 @@
 ghost use Rattle.std.specs.Prelude.{List, MatchResult, IsOk, ◌≡◌};
 ghost use Rattle.acc_base.specs.declared.items.Item.{Item};
 ghost use Rattle.acc_read.specs.Reading.{MatchTrouble};
-ghost use Rattle.acc_read.specs.Clauses.{item_at, items_at, modifier_at, modified_at, group_at, ClausesRead, nothing_read, queued, clause_at, all_clauses_at, with_clause, clauses_at};
+ghost use Rattle.acc_read.specs.Clauses.{item_at, items_at, modifier_at, modified_at, group_at, ClausesRead, queued, clause_at, all_clauses_at, with_clause, clauses_at};
 ghost use Rattle.acc_read.specs.Meanings.{IsKept, IsRead, clauses_read};
 
 use crate::arrays::Arrays;

@@ -1,7 +1,7 @@
 //! The ten calls that make events, as the table behind the lock and a runtime both make them.
 
 ghost use Rattle.std.specs.Prelude.{◌≡◌};
-ghost use Rattle.acc_base.specs.declared.calls.Call.TheVariants.{Do, HostWrite, Lend, Gather};
+ghost use Rattle.acc_base.specs.declared.calls.Call.TheVariants.{Do, HostWrite, Lend};
 ghost use Rattle.acc_base.specs.declared.directives.Directive.TheVariants.{Enter, Exit, EnterData, ExitData, Update, Wait, Step};
 
 use crate::regions::Region;

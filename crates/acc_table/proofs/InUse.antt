@@ -5,7 +5,7 @@ use Rattle.acc_base.specs.declared.calls.Call.TheVariants.{Gather}
 use Rattle.acc_base.specs.Loans.{Leased}
 use Rattle.acc_base.specs.Limits.{Limits, limits_on}
 use Rattle.acc_base.specs.Records.{State}
-use Rattle.acc_base.specs.Devices.{Whole, view, with_view, device_in, after_on}
+use Rattle.acc_base.specs.Devices.{view, with_view, device_in, after_on}
 use Rattle.acc_base.specs.Acting.{after}
 use Rattle.acc_base.specs.Judge.{Makes, gathered}
 use Rattle.acc_base.specs.Calls.{Base, World, event_count, judge, bytes_brought, world_after}

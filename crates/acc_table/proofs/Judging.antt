@@ -1,5 +1,5 @@
 -- Loans and leases that are judged on their device, which is the one in use.
-use Rattle.std.proofs.Common.{ℕ, ◌≡◌, ◌≤◌, refl, sym, ◌∙◌, ap, subst, List, length, Result, Ok, Err}
+use Rattle.std.proofs.Common.{ℕ, ◌≡◌, ◌≤◌, refl, ◌∙◌, ap, List, length, Result, Ok, Err}
 use Rattle.std.specs.Prelude.{⊤, MatchResult}
 use Rattle.acc_clauses.specs.Words.{Section, Loan, Event, Fault}
 use Rattle.acc_base.specs.declared.calls.Call.TheVariants.{Lend, Gather}

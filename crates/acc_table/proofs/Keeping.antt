@@ -1,5 +1,5 @@
 -- Each accepted call keeps what a table keeps.
-use Rattle.std.proofs.Common.{ℕ, zero, suc, replicate, ◌≡◌, ◌+◌, ◌*◌, ◌^◌, ◌≤◌, ◌<◌, refl, sym, ◌∙◌, ap, subst, Bool, true, false, List, [], ◌∷◌, ◌++◌, length, Result, Ok, Err, arith, length-append}
+use Rattle.std.proofs.Common.{ℕ, zero, suc, replicate, ◌≡◌, ◌+◌, ◌*◌, ◌≤◌, refl, sym, ◌∙◌, ap, subst, Bool, true, false, List, [], ◌∷◌, ◌++◌, length, Result, Ok, Err, arith, length-append}
 use Rattle.std.specs.Prelude.{◌==◌, slice_index_or, IfOk, OnOk, OnErr}
 use Rattle.acc_clauses.specs.Words.{Section, Fault, Directive, Call, Task, Did, Event}
 use Rattle.acc_base.specs.declared.calls.Call.TheVariants.{Do, HostWrite}

@@ -1,5 +1,5 @@
 -- One turn after the other.
-use Rattle.std.proofs.Common.{ℕ, ◌≡◌, ◌≤◌, ◌∙◌, arith, false, cond, refl, sym, ap, subst, List, [], ◌∷◌, ◌++◌, length, Result, Ok, Err, inl}
+use Rattle.std.proofs.Common.{ℕ, ◌≡◌, ◌≤◌, ◌∙◌, arith, false, cond, refl, sym, ap, subst, List, [], ◌∷◌, ◌++◌, length, Result, Ok, Err}
 use Rattle.std.specs.Prelude.{MatchResult, Bool, true, find, filter, ◌+◌, slice_get, slice_index_or, nat_lt, ◌==◌, ◌&&◌, Option, Some, None}
 use Rattle.std.specs.List.{position, position_or_len, remove}
 use Rattle.std.proofs.lemmas.List.Folds.{find_at}
@@ -20,10 +20,9 @@ use Rattle.acc_table.specs.declared.calls.Turn.TheVariants.{Back}
 use Rattle.acc_lend.specs.Loans.{IsLoan, section, with_section}
 use Rattle.acc_lend.proofs.Writing.{section_written}
 use Rattle.acc_table.specs.declared.calls.Answer.{Answer}
-use Rattle.acc_table.specs.declared.calls.Answer.TheVariants.{Refused}
 use Rattle.acc_table.specs.declared.calls.Reply.{Reply}
 use Rattle.acc_table.specs.declared.calls.Reply.TheVariants as replies
-use Rattle.acc_table.specs.Calls.{reply_of, IsCarriedOut, IsDone, MayWantMemory}
+use Rattle.acc_table.specs.Calls.{reply_of, IsCarriedOut, IsDone}
 use Rattle.acc_clauses.specs.Contents.{Contents}
 use Rattle.acc_base.specs.Limits.{Limits, limits_on}
 use Rattle.acc_base.specs.Devices.{view, device_in}
@@ -31,8 +30,8 @@ use Rattle.acc_table.specs.declared.devices.Devices.{Devices}
 use Rattle.acc_table.specs.Devices.{AreSet}
 use Rattle.acc_table.specs.Tables.{IsTableSound}
 use Rattle.acc_table.specs.Making.{is_loan, IsLeaseJudged, IsMadeInto}
-use Rattle.acc_table.specs.Turns.{is_meant, brought_back, asked_by, kept_by, lent_by, refuse_back, StaysRefused, MayCome, MayAnswer, IsRun}
-use Rattle.acc_table.specs.Turning.{is_lend, lends_in, IsTurnMade, IsRefusalOf, IsTurnRefused}
+use Rattle.acc_table.specs.Turns.{is_meant, brought_back, asked_by, kept_by, lent_by, refuse_back, MayAnswer, IsRun}
+use Rattle.acc_table.specs.Turning.{is_lend, lends_in, IsTurnMade, IsRefusalOf}
 use Rattle.acc_table.proofs.InUse.{with_store, world_in, AreDevicesOf, of_view, gathers_in}
 use Rattle.acc_table.proofs.Verdicts.{directive_no_loan, write_no_loan, gather_rewritten, judged_rewritten, refused_rewritten, judged_refused, made_wanted, made_done}
 use Rattle.acc_table.proofs.Keeping.{kept_alone, kept_called}

@@ -16,7 +16,7 @@ use Rattle.acc_base.specs.Loans.{Leased}
 use Rattle.acc_base.specs.Walk.{loaned}
 use Rattle.acc_base.specs.Limits.{Limits, limits_on}
 use Rattle.acc_base.specs.Records.{State}
-use Rattle.acc_base.specs.Devices.{OneDevice, Whole, view, with_view, device_in, after_on}
+use Rattle.acc_base.specs.Devices.{OneDevice, Whole, view, with_view, device_in}
 use Rattle.acc_base.specs.Queues.{head_of}
 use Rattle.acc_base.specs.Bytes.{host_after_write}
 use Rattle.acc_base.specs.Waits.{drained}
@@ -31,14 +31,13 @@ use Rattle.acc_base.specs.Leases.{is_returnable}
 use Rattle.acc_lend.specs.Loans.{IsLoan, with_section, written_over}
 use Rattle.acc_lend.proofs.Writing.{kept_outside}
 use Rattle.acc_table.specs.declared.calls.Reply.{Reply}
-use Rattle.acc_table.specs.declared.calls.Reply.TheVariants.{Done}
 use Rattle.acc_table.specs.Calls.{reply_of, IsCarriedOut, IsDone, IsRefusal}
 use Rattle.acc_table.specs.declared.devices.Devices.{Devices}
 use Rattle.acc_table.specs.Devices.{whole_with, whole_of}
 use Rattle.acc_table.specs.Tables.{world_of}
 use Rattle.acc_table.proofs.DeviceLists.{set_own}
 use Rattle.acc_table.proofs.InUse.{with_store, world_in, AreDevicesOf, number_used, in_view, seen_in, event_made, unchanged}
-use Rattle.acc_table.specs.Making.{is_idle, number_told, event_told, reply_told, is_loan, admitted, write_admitted, planned_verdict, MayBeToldOf, IsMadeInto, IsCommitted, IsAsBefore}
+use Rattle.acc_table.specs.Making.{is_idle, number_told, event_told, reply_told, is_loan, admitted, write_admitted, planned_verdict, MayBeToldOf, IsMadeInto, IsCommitted}
 
 -- ---- the event
 

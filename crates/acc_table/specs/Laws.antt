@@ -1,22 +1,14 @@
 -- What holds of every table, law by law.
-use Rattle.std.specs.Prelude.{ℕ, ◌≡◌, ◌<◌, false, if◌then◌else◌, length, None}
-use Rattle.acc_clauses.specs.Words.{Section}
-use Rattle.acc_base.specs.declared.mappings.Found.TheVariants.{Empty, Absent}
+use Rattle.std.specs.Prelude.{ℕ, ◌≡◌, ◌<◌, length}
 use Rattle.std.specs.List.{AllByRecursion}
 use Rattle.acc_base.specs.Limits.{IsWithinBounds, limits_on}
-use Rattle.acc_base.specs.Section.{is_empty, device_memory}
-use Rattle.acc_base.specs.Ranges.{where_is}
-use Rattle.acc_base.specs.Blocks.{used_bytes}
-use Rattle.acc_base.specs.Pointers.{device_address_of, attachment_of}
-use Rattle.acc_base.specs.Queues.{queue_at}
-use Rattle.acc_base.specs.Waits.{ended_from}
-use Rattle.acc_base.specs.Register.{newest_region}
+use Rattle.acc_base.specs.Section.{device_memory}
 use Rattle.acc_base.specs.Holes.{IsDevice}
 use Rattle.acc_base.specs.Records.{layout_of}
 use Rattle.acc_base.specs.Devices.{view, device_at, device_of_region, device_layout_of, whole_layout_of, events_on, device_layout_alone}
 use Rattle.acc_base.specs.Accounts.{AreRangesApart, AreBlocksApart, HasOneBlockEach, IsCounted, IsTraced, AreHeld, AreEntriesHeld, IsRegisterSound, AreAttachmentsSound, AreAttachmentsTraced, AreQueuesSound, AreLoansSound, AreMemoriesSized, IsHistoryLegal, IsReplayed, AreBooksCounted, past_on}
 use Rattle.acc_base.specs.Calls.{World}
-use Rattle.acc_table.specs.Queries.{is_inside, first_attached, counters_of_section, mapped_from, device_read_of, IsOpenOn}
+use Rattle.acc_table.specs.Queries.{IsOpenOn}
 
 -- what holds of a device
 pub record IsLawfulOn (w : World) (d : ℕ) : Type 0 where

@@ -1,6 +1,5 @@
 //! What holds of every table, law by law.
 
-ghost use Rattle.std.specs.Prelude.{◌≤◌};
 ghost use Rattle.acc_table.specs.Laws.{IsLawful};
 
 use crate::tables::Table;

@@ -5,7 +5,6 @@ ghost use Rattle.acc_base.specs.declared.faults.Fault.TheVariants.{Memory};
 ghost use Rattle.acc_base.specs.Limits.{recorded};
 ghost use Rattle.acc_base.specs.Bytes.{host_after_write};
 ghost use Rattle.acc_base.specs.Judge.{plan_of, written};
-ghost use Rattle.acc_base.specs.Records.{State};
 ghost use Rattle.acc_clauses.specs.Acts.{CanWrite, HasPlanRoom, lens_born};
 ghost use Rattle.acc_clauses.specs.Planned.{IsPlanOf, state_by};
 ghost use Rattle.acc_table.specs.Making.{is_idle, number_told, event_told, reply_told, apart_of, planned_verdict, MayBeToldOf, IsCommitted, IsAsBefore};

@@ -1,16 +1,15 @@
 //! A table, and one call on it.
 
-ghost use Rattle.std.specs.Prelude.{ℕ, ◌≡◌, ◌<◌, Ok, Err, IfOk, IfErr, OnOk, OnErr, MatchResult};
+ghost use Rattle.std.specs.Prelude.{◌≡◌, ◌<◌, Ok, Err, IfOk, IfErr, OnOk, OnErr, MatchResult};
 ghost use Rattle.acc_base.specs.declared.calls.Call.TheVariants.{Do, HostWrite, Lend, Gather};
 ghost use Rattle.acc_base.specs.declared.events.Event.TheVariants.{Lent};
 ghost use Rattle.acc_base.specs.declared.faults.Fault.TheVariants.{Memory};
-ghost use Rattle.acc_base.specs.Judge.{Makes, gather_event};
+ghost use Rattle.acc_base.specs.Judge.{Makes};
 ghost use Rattle.acc_base.specs.Limits.{IsWithinBounds};
 ghost use Rattle.acc_base.specs.Devices.{device_of_region};
 ghost use Rattle.acc_base.specs.Calls.{ticket, allowance, trace_room, device_for, device_there, new_world, judge};
 ghost use Rattle.acc_base.specs.Accounts.{IsAccounted};
 ghost use Rattle.acc_table.specs.Calls.{IsDone, IsRefusal};
-ghost use Rattle.acc_clauses.specs.Lending.{IsLoanPlanned};
 ghost use Rattle.acc_table.specs.Devices.{whole_of, AreSet};
 ghost use Rattle.acc_table.specs.Tables.{IsTableSound, world_of};
 ghost use Rattle.acc_table.specs.Making.{admitted, write_admitted, IsLoanJudged, IsLeaseJudged};

@@ -1,7 +1,7 @@
 //! Readers and writers of std as sources and sinks.
 
 ghost use Rattle.std.specs.Prelude.{◌≡◌, ◌≤◌, [], length, IfSome};
-ghost use Rattle.acc_script.specs.Told.{Took, Becomes, after_read};
+ghost use Rattle.acc_script.specs.Told.{Becomes, after_read};
 ghost use Rattle.acc_script.specs.Streams.{offered_at_first, taken_of, given_by, HandsOut, EndsEmpty};
 
 use crate::{Sink, Source};

@@ -1,4 +1,4 @@
-use Rattle.std.proofs.Common.{rules, ◌≡◌, true, Ok}
+use Rattle.std.proofs.Common.{rules, ◌≡◌, Ok}
 use Rattle.acc_read.specs.Meanings.{meaning_of}
 use Rattle.std.specs.Prelude.{IsOkAnd, IsTrue}
 use Rattle.acc_read.specs.Statements.{takes_memory}

@@ -1,4 +1,4 @@
-use Rattle.std.proofs.Common.{◌<◌, ◌≤◌, arith, below_more, subst}
+use Rattle.std.proofs.Common.{◌≤◌, arith, below_more, subst}
 use Rattle.acc_base.specs.Section.{device_memory}
 use Rattle.acc_base.specs.Holes.{IsDevice}
 use Rattle.acc_clauses.specs.Devices.{Seen}

@@ -1,6 +1,5 @@
 use Rattle.std.proofs.Common.{◌↔◌, subst}
-use Rattle.std.specs.Prelude.{IfSome, IfNone, IsTrue}
-use Rattle.std.specs.List.{AllByRecursion}
+use Rattle.std.specs.Prelude.{IsTrue}
 use Rattle.acc_dev.specs.Device.{DeviceState, HasBlock}
 use Rattle.acc_dev.proofs.Keeping.{found_there}
 use Rattle.acc_dev.proofs.devices.Device.has.Goals as goal

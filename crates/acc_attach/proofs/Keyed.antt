@@ -10,8 +10,7 @@ use Rattle.acc_base.proofs.Results.{equal}
 use Rattle.acc_base.proofs.Elements.{AllByRecursion-weaker, AllByRecursion-map, filter-kept, filter-map, find-map, find_none, found_has}
 use Rattle.acc_base.proofs.Options.{from_none, from_some}
 use Rattle.acc_base.proofs.Attached.{before}
-use Rattle.acc_tree.specs.declared.entries.Entry.{Entry}
-use Rattle.acc_tree.specs.Listing.{KeysRise, at_key, first_from, with_entry, without_key, with_value}
+use Rattle.acc_ordered.specs.Listing.{KeyValue, KeysRise, keyed, at_key, first_from, with_entry, without_key, with_value}
 use Rattle.acc_attach.specs.Kept.{key_of, counter_in, counters_in, is_below, is_from}
 
 -- ---- keys
@@ -55,7 +54,7 @@ pointer_bound key = omega arith
 
 -- ---- tests of a counter are tests of its key
 
-below_test : (block pointer : ℕ) (e : Entry ℕ) → pointer < 2 ^ 64 → is_below block pointer (counter_in e) ≡ nat_lt e.key (key_of block pointer)
+below_test : (block pointer : ℕ) (e : KeyValue ℕ) → pointer < 2 ^ 64 → is_below block pointer (counter_in e) ≡ nat_lt e.key (key_of block pointer)
 below_test block pointer e lt = order_tests (e.key / 2 ^ 64) (e.key % 2 ^ 64) block pointer (pointer_bound e.key) lt ∙ ap (λ k. nat_lt k (key_of block pointer)) (whole_key e.key)
 
 not_lt : (a b : ℕ) → nat_le b a ≡ not (nat_lt a b)
@@ -67,53 +66,53 @@ not_lt a b = go (nat_le b a) refl (nat_lt a b) refl
     go false f true g = refl
     go false f false g = absurd (grind (arith, nat_tests))
 
-from_test : (block pointer : ℕ) (e : Entry ℕ) → pointer < 2 ^ 64 → is_from block pointer (counter_in e) ≡ nat_le (key_of block pointer) e.key
+from_test : (block pointer : ℕ) (e : KeyValue ℕ) → pointer < 2 ^ 64 → is_from block pointer (counter_in e) ≡ nat_le (key_of block pointer) e.key
 from_test block pointer e lt = ap not (below_test block pointer e lt) ∙ sym (not_lt e.key (key_of block pointer))
 
-of_test : (block pointer : ℕ) (e : Entry ℕ) → pointer < 2 ^ 64 → is_of block pointer (counter_in e) ≡ (e.key == key_of block pointer)
+of_test : (block pointer : ℕ) (e : KeyValue ℕ) → pointer < 2 ^ 64 → is_of block pointer (counter_in e) ≡ (e.key == key_of block pointer)
 of_test block pointer e lt = equal_tests (e.key / 2 ^ 64) (e.key % 2 ^ 64) block pointer (pointer_bound e.key) lt ∙ ap (λ k. k == key_of block pointer) (whole_key e.key)
 
-before_test : (e f : Entry ℕ) → is_before (counter_in e) (counter_in f) ≡ nat_lt e.key f.key
+before_test : (e f : KeyValue ℕ) → is_before (counter_in e) (counter_in f) ≡ nat_lt e.key f.key
 before_test e f =
     order_tests (e.key / 2 ^ 64) (e.key % 2 ^ 64) (f.key / 2 ^ 64) (f.key % 2 ^ 64) (pointer_bound e.key) (pointer_bound f.key)
     ∙ ap (λ k. nat_lt k (key_of (f.key / 2 ^ 64) (f.key % 2 ^ 64))) (whole_key e.key) ∙ ap (nat_lt e.key) (whole_key f.key)
 
 -- counters stand by rising block and pointer where their keys rise
-pub rising_counters : (es : List (Entry ℕ)) → KeysRise es → EachPair IsBefore (counters_in es)
+pub rising_counters : (es : List (KeyValue ℕ)) → KeysRise es → EachPair IsBefore (counters_in es)
 rising_counters [] rise = tt
 rising_counters (e ∷ es) rise = (
-  AllByRecursion-map (IsBefore (counter_in e)) counter_in es (AllByRecursion-weaker (λ (f : Entry ℕ). e.key < f.key) (λ f. IsBefore (counter_in e) (counter_in f)) es (λ f less. first e f less) rise.0),
+  AllByRecursion-map (IsBefore (counter_in e)) counter_in es (AllByRecursion-weaker (λ (f : KeyValue ℕ). e.key < f.key) (λ f. IsBefore (counter_in e) (counter_in f)) es (λ f less. first e f less) rise.0),
   rising_counters es rise.1,
 )
   where
-    first : (x f : Entry ℕ) → x.key < f.key → IsBefore (counter_in x) (counter_in f)
+    first : (x f : KeyValue ℕ) → x.key < f.key → IsBefore (counter_in x) (counter_in f)
     first x f less = let t : nat_lt x.key f.key ≡ true = grind (arith, nat_tests) in before (counter_in x) (counter_in f) (before_test x f ∙ t)
 
 -- ---- searches
 
-pub first-counters : (block pointer : ℕ) (es : List (Entry ℕ)) → pointer < 2 ^ 64 → option_map counter_in (first_from (key_of block pointer) es) ≡ find (is_from block pointer) (counters_in es)
+pub first-counters : (block pointer : ℕ) (es : List (KeyValue ℕ)) → pointer < 2 ^ 64 → option_map counter_in (first_from (key_of block pointer) es) ≡ find (is_from block pointer) (counters_in es)
 first-counters block pointer es lt = sym (find-map counter_in (λ e. nat_le (key_of block pointer) e.key) (is_from block pointer) es (λ e. from_test block pointer e lt))
 
-pub own-counters : (block pointer : ℕ) (es : List (Entry ℕ)) → pointer < 2 ^ 64 → find (is_of block pointer) (counters_in es) ≡ option_map counter_in (at_key (key_of block pointer) es)
+pub own-counters : (block pointer : ℕ) (es : List (KeyValue ℕ)) → pointer < 2 ^ 64 → find (is_of block pointer) (counters_in es) ≡ option_map counter_in (at_key (key_of block pointer) es)
 own-counters block pointer es lt = find-map counter_in (λ e. e.key == key_of block pointer) (is_of block pointer) es (λ e. of_test block pointer e lt)
 
-pub count_found : (block pointer : ℕ) (es : List (Entry ℕ)) (e : Entry ℕ) → pointer < 2 ^ 64 → Some e ≡ at_key (key_of block pointer) es → e.value ≡ count_at block pointer (counters_in es)
+pub count_found : (block pointer : ℕ) (es : List (KeyValue ℕ)) (e : KeyValue ℕ) → pointer < 2 ^ 64 → Some e ≡ at_key (key_of block pointer) es → e.value ≡ count_at block pointer (counters_in es)
 count_found block pointer es e lt found = sym (ap (λ (o : Option Attachment). unwrap_or (option_map (λ a. a.count) o) 0) (own-counters block pointer es lt ∙ ap (option_map counter_in) (sym found)))
 
-pub count_missing : (block pointer : ℕ) (es : List (Entry ℕ)) → pointer < 2 ^ 64 → None ≡ at_key (key_of block pointer) es → 0 ≡ count_at block pointer (counters_in es)
+pub count_missing : (block pointer : ℕ) (es : List (KeyValue ℕ)) → pointer < 2 ^ 64 → None ≡ at_key (key_of block pointer) es → 0 ≡ count_at block pointer (counters_in es)
 count_missing block pointer es lt found = sym (ap (λ (o : Option Attachment). unwrap_or (option_map (λ a. a.count) o) 0) (own-counters block pointer es lt ∙ ap (option_map counter_in) (sym found)))
 
 -- an entry is there where its counter is
-pub key_there : (block pointer : ℕ) (es : List (Entry ℕ)) → pointer < 2 ^ 64 → IsSome (find (is_of block pointer) (counters_in es)) → IsSome (at_key (key_of block pointer) es)
+pub key_there : (block pointer : ℕ) (es : List (KeyValue ℕ)) → pointer < 2 ^ 64 → IsSome (find (is_of block pointer) (counters_in es)) → IsSome (at_key (key_of block pointer) es)
 key_there block pointer es lt there = from_some counter_in (at_key (key_of block pointer) es) (subst IsSome (own-counters block pointer es lt) there)
 
 -- and none where it is not
-pub key_missing : (block pointer : ℕ) (es : List (Entry ℕ)) → pointer < 2 ^ 64 → find (is_of block pointer) (counters_in es) ≡ None → at_key (key_of block pointer) es ≡ None
+pub key_missing : (block pointer : ℕ) (es : List (KeyValue ℕ)) → pointer < 2 ^ 64 → find (is_of block pointer) (counters_in es) ≡ None → at_key (key_of block pointer) es ≡ None
 key_missing block pointer es lt none = from_none counter_in (at_key (key_of block pointer) es) (sym (own-counters block pointer es lt) ∙ none)
 
 -- ---- changes
 
-with_entry-counters : (new : Entry ℕ) (es : List (Entry ℕ)) → counters_in (with_entry new es) ≡ with_attachment (counter_in new) (counters_in es)
+with_entry-counters : (new : KeyValue ℕ) (es : List (KeyValue ℕ)) → counters_in (with_entry new es) ≡ with_attachment (counter_in new) (counters_in es)
 with_entry-counters new [] = refl
 with_entry-counters new (e ∷ es) = rw (before_test new e) (go (with_entry-counters new es) (nat_lt new.key e.key))
   where
@@ -121,72 +120,68 @@ with_entry-counters new (e ∷ es) = rw (before_test new e) (go (with_entry-coun
     go rest true = refl
     go rest false = ap (λ cs. counter_in e ∷ cs) rest
 
-pub without_key-counters : (block pointer : ℕ) (es : List (Entry ℕ)) → pointer < 2 ^ 64 → counters_in (without_key (key_of block pointer) es) ≡ without_attachment block pointer (counters_in es)
+pub without_key-counters : (block pointer : ℕ) (es : List (KeyValue ℕ)) → pointer < 2 ^ 64 → counters_in (without_key (key_of block pointer) es) ≡ without_attachment block pointer (counters_in es)
 without_key-counters block pointer es lt = sym (filter-map counter_in (λ e. not (e.key == key_of block pointer)) (λ a. not (is_of block pointer a)) es (λ e. ap not (of_test block pointer e lt)))
 
--- the entry of a counter
-abbrev pub entry_of : ℕ → ℕ → ℕ → Entry ℕ
-entry_of block pointer count = record { key = key_of block pointer; size = 0; value = count }
-
-counter_made : (block pointer count : ℕ) → pointer < 2 ^ 64 → counter_in (entry_of block pointer count) ≡ record { block = block; pointer = pointer; count = count }
+counter_made : (block pointer count : ℕ) → pointer < 2 ^ 64 → counter_in (keyed (key_of block pointer) count) ≡ record { block = block; pointer = pointer; count = count }
 counter_made block pointer count lt = let parted = parted_key block pointer lt in rw (parted.0, parted.1) refl
 
 -- a count above zero is put where the other was taken out
-put_count : (block pointer count : ℕ) (es : List (Entry ℕ)) → pointer < 2 ^ 64 → 0 < count → counters_in (with_entry (entry_of block pointer count) (without_key (key_of block pointer) es)) ≡ with_count block pointer count (counters_in es)
+put_count : (block pointer count : ℕ) (es : List (KeyValue ℕ)) → pointer < 2 ^ 64 → 0 < count → counters_in (with_entry (keyed (key_of block pointer) count) (without_key (key_of block pointer) es)) ≡ with_count block pointer count (counters_in es)
 put_count block pointer count es lt some =
     let t : (count == 0) ≡ false = grind (arith, nat_tests) in
-    rw t (with_entry-counters (entry_of block pointer count) (without_key (key_of block pointer) es)
+    rw t (with_entry-counters (keyed (key_of block pointer) count) (without_key (key_of block pointer) es)
     ∙ ap (λ (a : Attachment). with_attachment a (counters_in (without_key (key_of block pointer) es))) (counter_made block pointer count lt)
     ∙ ap (with_attachment (record { block = block; pointer = pointer; count = count })) (without_key-counters block pointer es lt))
 
 -- taking out what is not there leaves all
-none_without : (key : ℕ) (es : List (Entry ℕ)) → AllByRecursion (λ e. (e.key == key) ≡ false) es → without_key key es ≡ es
-none_without key es h = filter-kept (λ e. not (e.key == key)) es (AllByRecursion-weaker (λ (e : Entry ℕ). (e.key == key) ≡ false) (λ e. not (e.key == key) ≡ true) es (λ e off. rw off refl) h)
+none_without : (key : ℕ) (es : List (KeyValue ℕ)) → AllByRecursion (λ e. (e.key == key) ≡ false) es → without_key key es ≡ es
+none_without key es h = filter-kept (λ e. not (e.key == key)) es (AllByRecursion-weaker (λ (e : KeyValue ℕ). (e.key == key) ≡ false) (λ e. not (e.key == key) ≡ true) es (λ e off. rw off refl) h)
 
-pub added-counters : (block pointer count : ℕ) (es : List (Entry ℕ)) → pointer < 2 ^ 64 → 0 < count → find (is_of block pointer) (counters_in es) ≡ None → counters_in (with_entry (entry_of block pointer count) es) ≡ with_count block pointer count (counters_in es)
+pub added-counters : (block pointer count : ℕ) (es : List (KeyValue ℕ)) → pointer < 2 ^ 64 → 0 < count → find (is_of block pointer) (counters_in es) ≡ None → counters_in (with_entry (keyed (key_of block pointer) count) es) ≡ with_count block pointer count (counters_in es)
 added-counters block pointer count es lt some none =
     let off = none_without (key_of block pointer) es (find_none (λ e. e.key == key_of block pointer) es (key_missing block pointer es lt none)) in
-    ap (λ (xs : List (Entry ℕ)). counters_in (with_entry (entry_of block pointer count) xs)) (sym off) ∙ put_count block pointer count es lt some
+    ap (λ (xs : List (KeyValue ℕ)). counters_in (with_entry (keyed (key_of block pointer) count) xs)) (sym off) ∙ put_count block pointer count es lt some
 
 -- a value that is written is one put in the place of the old one
-written_put : (block pointer count : ℕ) (es : List (Entry ℕ)) → KeysRise es → IsSome (at_key (key_of block pointer) es) → counters_in (with_value (key_of block pointer) count es) ≡ counters_in (with_entry (entry_of block pointer count) (without_key (key_of block pointer) es))
+written_put : (block pointer count : ℕ) (es : List (KeyValue ℕ)) → KeysRise es → IsSome (at_key (key_of block pointer) es) → counters_in (with_value (key_of block pointer) count es) ≡ counters_in (with_entry (keyed (key_of block pointer) count) (without_key (key_of block pointer) es))
 written_put block pointer count [] rise there = cc
 written_put block pointer count (e ∷ es) rise there = go (λ h. written_put block pointer count es rise.1 h) (e.key == key_of block pointer) refl there
   where
-    off : (xs : List (Entry ℕ)) → e.key ≡ key_of block pointer → AllByRecursion (λ x. e.key < x.key) xs → AllByRecursion (λ x. (x.key == key_of block pointer) ≡ false) xs
-    off xs same above = AllByRecursion-weaker (λ (x : Entry ℕ). e.key < x.key) (λ x. (x.key == key_of block pointer) ≡ false) xs (λ x less. let t : (x.key == key_of block pointer) ≡ false = grind (arith, nat_tests) in t) above
+    off : (xs : List (KeyValue ℕ)) → e.key ≡ key_of block pointer → AllByRecursion (λ x. e.key < x.key) xs → AllByRecursion (λ x. (x.key == key_of block pointer) ≡ false) xs
+    off xs same above = AllByRecursion-weaker (λ (x : KeyValue ℕ). e.key < x.key) (λ x. (x.key == key_of block pointer) ≡ false) xs (λ x less. let t : (x.key == key_of block pointer) ≡ false = grind (arith, nat_tests) in t) above
 
-    unwritten : (xs : List (Entry ℕ)) → AllByRecursion (λ x. (x.key == key_of block pointer) ≡ false) xs → with_value (key_of block pointer) count xs ≡ xs
+    unwritten : (xs : List (KeyValue ℕ)) → AllByRecursion (λ x. (x.key == key_of block pointer) ≡ false) xs → with_value (key_of block pointer) count xs ≡ xs
     unwritten [] h = refl
     unwritten (x ∷ xs) h = rw h.0 (ap (λ ys. x ∷ ys) (unwritten xs h.1))
 
-    front : (xs : List (Entry ℕ)) → e.key ≡ key_of block pointer → AllByRecursion (λ x. e.key < x.key) xs → with_entry (entry_of block pointer count) xs ≡ entry_of block pointer count ∷ xs
+    front : (xs : List (KeyValue ℕ)) → e.key ≡ key_of block pointer → AllByRecursion (λ x. e.key < x.key) xs → with_entry (keyed (key_of block pointer) count) xs ≡ keyed (key_of block pointer) count ∷ xs
     front [] same above = refl
     front (x ∷ xs) same above = let less = above.0 in let t : nat_lt (key_of block pointer) x.key ≡ true = grind (arith, nat_tests) in rw t refl
 
-    go : (IsSome (at_key (key_of block pointer) es) → counters_in (with_value (key_of block pointer) count es) ≡ counters_in (with_entry (entry_of block pointer count) (without_key (key_of block pointer) es)))
+    go : (IsSome (at_key (key_of block pointer) es) → counters_in (with_value (key_of block pointer) count es) ≡ counters_in (with_entry (keyed (key_of block pointer) count) (without_key (key_of block pointer) es)))
         → (b : Bool) → (e.key == key_of block pointer) ≡ b → IsSome (cond b (Some e) (at_key (key_of block pointer) es))
-        → counters_in (cond b (record e { value = count }) e ∷ with_value (key_of block pointer) count es) ≡ counters_in (with_entry (entry_of block pointer count) (cond (not b) (e ∷ without_key (key_of block pointer) es) (without_key (key_of block pointer) es)))
+        → counters_in (cond b (record e { value = count }) e ∷ with_value (key_of block pointer) count es) ≡ counters_in (with_entry (keyed (key_of block pointer) count) (cond (not b) (e ∷ without_key (key_of block pointer) es) (without_key (key_of block pointer) es)))
     go rest true t h =
         let same : e.key ≡ key_of block pointer = equal e.key (key_of block pointer) t in
         let others = off es same rise.0 in
-        let here : counter_in (record e { value = count }) ≡ counter_in (entry_of block pointer count) = ap (λ (k : ℕ). counter_in (record { key = k; size = 0; value = count })) same in
-        ap (λ (xs : List (Entry ℕ)). counter_in (record e { value = count }) ∷ counters_in xs) (unwritten es others)
+        let here : counter_in (record e { value = count }) ≡ counter_in (keyed (key_of block pointer) count) = ap (λ (k : ℕ). counter_in (keyed k count)) same in
+        ap (λ (xs : List (KeyValue ℕ)). counter_in (record e { value = count }) ∷ counters_in xs) (unwritten es others)
         ∙ ap (λ (a : Attachment). a ∷ counters_in es) here
-        ∙ sym (ap counters_in (ap (with_entry (entry_of block pointer count)) (none_without (key_of block pointer) es others) ∙ front es same rise.0))
+        ∙ sym (ap counters_in (ap (with_entry (keyed (key_of block pointer) count)) (none_without (key_of block pointer) es others) ∙ front es same rise.0))
     go rest false t h =
         let above : e.key < key_of block pointer = later (at_key (key_of block pointer) es) refl h in
         let u : nat_lt (key_of block pointer) e.key ≡ false = grind (arith, nat_tests) in
         rw u (ap (λ cs. counter_in e ∷ cs) (rest h))
       where
-        later : (o : Option (Entry ℕ)) → at_key (key_of block pointer) es ≡ o → IsSome o → e.key < key_of block pointer
+        later : (o : Option (KeyValue ℕ)) → at_key (key_of block pointer) es ≡ o → IsSome o → e.key < key_of block pointer
         later None found some = cc
         later (Some f) found some =
-            let has = found_has (λ (x : Entry ℕ). e.key < x.key) (λ x. x.key == key_of block pointer) es f rise.0 found in
+            let has = found_has (λ (x : KeyValue ℕ). e.key < x.key) (λ x. x.key == key_of block pointer) es f rise.0 found in
             let same : f.key ≡ key_of block pointer = equal f.key (key_of block pointer) has.1 in
             omega (arith, has.0)
 
-pub written-counters : (block pointer count : ℕ) (es : List (Entry ℕ)) → pointer < 2 ^ 64 → 0 < count → KeysRise es → IsSome (find (is_of block pointer) (counters_in es)) → counters_in (with_value (key_of block pointer) count es) ≡ with_count block pointer count (counters_in es)
+pub written-counters : (block pointer count : ℕ) (es : List (KeyValue ℕ)) → pointer < 2 ^ 64 → 0 < count → KeysRise es → IsSome (find (is_of block pointer) (counters_in es)) → counters_in (with_value (key_of block pointer) count es) ≡ with_count block pointer count (counters_in es)
 written-counters block pointer count es lt some rise there = written_put block pointer count es rise (key_there block pointer es lt there) ∙ put_count block pointer count es lt some
 
 -- ---- a block forgotten

@@ -1,4 +1,5 @@
 pub mod Placed
 pub mod Keyed
+pub mod Bounded
 pub mod Keeping
 pub mod Crossing

@@ -4,10 +4,10 @@ ghost use Rattle.std.specs.Prelude.{◌≡◌, ◌+◌, ◌^◌, ◌<◌, ◌≤
 ghost use Rattle.acc_base.specs.Attachments.{count_at, with_count, attach, detach, attached_by, without_attachments, is_skipped, next_pointer};
 ghost use Rattle.acc_attach.specs.Attached.{AreAttached, left_of};
 
-use crate::counters::{CounterRows, LocatedCounter};
+use crate::counters::{CounterList, LocatedCounter};
 use crate::left::Left;
 use acc_base::{Aim, Attachment, Fault};
-use acc_rows::Place;
+use acc_ordered::Place;
 use std::alloc::Global;
 use std::marker::Model;
 
@@ -25,7 +25,7 @@ use std::marker::Model;
 #[derive(Drop)]
 pub struct Attached {
     counter_max: u64,
-    counters: CounterRows,
+    counters: CounterList,
 }
 
 impl Model for Attached {
@@ -53,7 +53,7 @@ impl Attached {
     {
         Attached {
             counter_max,
-            counters: CounterRows::new(alloc),
+            counters: CounterList::new(alloc),
         }
     }
 

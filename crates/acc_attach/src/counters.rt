@@ -3,13 +3,11 @@
 ghost use Rattle.std.specs.Prelude.{◌≡◌, ◌+◌, ◌<◌, ◌≤◌, ◌&&◌, ◌==◌, ◌↔◌, IsTrue, [], find, nat_le, None, IsSome, OnOk, OnErr, IfOk, IfErr};
 ghost use Rattle.acc_base.specs.Accounts.{EachPair};
 ghost use Rattle.acc_base.specs.Attachments.{IsBefore, is_of, count_at, with_count, without_attachment, without_attachments, is_skipped, next_pointer};
-ghost use Rattle.acc_tree.specs.Listing.{at_key, first_from};
+ghost use Rattle.acc_ordered.specs.Listing.{keyed};
 ghost use Rattle.acc_attach.specs.Kept.{is_from, counter_in, key_of as key_for};
 
-use crate::copying::copy_counters_of;
 use acc_base::{Attachment, Fault};
-use acc_rows::{Place, Rows};
-use acc_tree::Entry;
+use acc_ordered::{OrderedList, Place, Telling};
 use std::alloc::Global;
 use std::marker::Model;
 
@@ -23,37 +21,26 @@ fn key_of(block: u64, pointer: u64) -> u128
     u128::from(block) * ADDRESSES + u128::from(pointer)
 }
 
-/// The entry of a key, if there is one, and where it stands or would be put.
-fn entry_of(rows: &Rows<u64>, key: u128) -> (Option<Entry<u64>>, Place)
-    ensures { result.0 ≡ at_key key rows.now.entries }
-{
-    let (found, place) = rows.look_up(key);
-    (found.copied(), place)
-}
-
-/// The entry of least key from a key on, if there is one.
-fn entry_from(rows: &Rows<u64>, key: u128) -> Option<Entry<u64>>
-    ensures { result ≡ first_from key rows.now.entries }
-{
-    rows.next(key).copied()
-}
-
-/// As [`entry_from`], and where that entry stands. It is looked for first at a place and right behind it.
-fn entry_near(rows: &Rows<u64>, key: u128, near: Place) -> (Option<Entry<u64>>, Place)
-    ensures { result.0 ≡ first_from key rows.now.entries }
-{
-    let (found, place) = rows.next_near(key, near);
-    (found.copied(), place)
-}
-
-/// The counter that an entry stands for: its key is the block and the pointer, its value how often that is attached.
-pub fn to_counter(entry: Entry<u64>) -> Attachment
-    ensures { result ≡ counter_in entry }
+/// The counter under a key: its block and its pointer are in the key. `count` is how often that is attached.
+fn to_counter(key: u128, count: u64) -> Attachment
+    ensures { result ≡ counter_in (keyed key count) }
 {
     Attachment {
-        block: (entry.key / ADDRESSES) as u64,
-        pointer: (entry.key % ADDRESSES) as u64,
-        count: entry.value,
+        block: (key / ADDRESSES) as u64,
+        pointer: (key % ADDRESSES) as u64,
+        count,
+    }
+}
+
+/// Copies each entry as the counter that it stands for.
+#[derive(Clone, Copy)]
+struct AsCounter;
+
+impl Telling<u128, u64, Attachment> for AsCounter {
+    ghost told = { λ as_counter key count. counter_in (keyed key count) };
+
+    fn tell(&self, key: u128, count: u64) -> Attachment {
+        to_counter(key, count)
     }
 }
 
@@ -75,26 +62,31 @@ pub struct LocatedCounter {
 
 /// The counters above zero, and room for more of them.
 #[derive(Drop)]
-pub struct CounterRows {
+pub struct CounterList {
     // Each count stands under the key of its pointer.
-    rows: Rows<u64>,
+    counts: OrderedList<u128, u64>,
+    // No counter is of a block above this one. Most blocks have none, and a block above needs no search. It never falls.
+    highest: u64,
 }
 
-impl Model for CounterRows {
-    ghost use Rattle.acc_attach.specs.Kept.{CountersState, counters_in};
+impl Model for CounterList {
+    ghost use Rattle.acc_attach.specs.Kept.{CountersState, counters_in, AreUpTo};
 
     ghost Value = { CountersState };
 
-    ghost view = { λ c. record { counters = counters_in c.rows.entries; room = c.rows.room } };
+    ghost view = { λ c. record { counters = counters_in c.counts.entries; room = c.counts.room } };
+
+    ghost invariant = { λ c. AreUpTo c.highest c.counts.entries };
 }
 
-impl CounterRows {
+impl CounterList {
     /// No counter. It needs no memory.
-    pub fn new(alloc: Global) -> CounterRows
+    pub fn new(alloc: Global) -> CounterList
         ensures { result.counters ≡ [] }
     {
-        CounterRows {
-            rows: Rows::new(alloc),
+        CounterList {
+            counts: OrderedList::new(alloc),
+            highest: 0,
         }
     }
 
@@ -106,7 +98,7 @@ impl CounterRows {
         ensures needed { OnErr result (self.old.room < count) }
         ensures room { self.old.room ≤ self.new.room }
     {
-        self.rows.reserve(count)
+        self.counts.reserve(count)
     }
 
     /// The counters above zero by rising block and pointer, in a vector of their own.
@@ -114,24 +106,30 @@ impl CounterRows {
         ensures ok { IfOk result (λ counters. counters.items ≡ self.now.counters) }
         ensures only { IfErr result (λ fault. fault ≡ Fault.Memory) }
     {
-        copy_counters_of(&self.rows, alloc)
+        self.counts.copy_entries(alloc, &AsCounter)
     }
 
     /// Whether there is no counter.
     pub fn is_empty(&self) -> bool
         ensures { IsTrue result ↔ (self.now.counters ≡ []) }
     {
-        self.rows.is_empty()
+        self.counts.is_empty()
     }
 
     /// How often a pointer of a block is attached, and where its counter stands.
     pub fn find(&self, block: u64, pointer: u64) -> LocatedCounter
         ensures { result.count ≡ count_at block pointer self.now.counters }
     {
-        let (entry, place) = entry_of(&self.rows, key_of(block, pointer));
-        match entry {
-            Some(entry) => LocatedCounter {
-                count: entry.value,
+        if self.highest < block {
+            return LocatedCounter {
+                count: 0,
+                place: Place::default(),
+            };
+        }
+        let (found, place) = self.counts.look_up(key_of(block, pointer));
+        match found {
+            Some(found) => LocatedCounter {
+                count: *found.value,
                 place,
             },
             None => LocatedCounter { count: 0, place },
@@ -143,9 +141,12 @@ impl CounterRows {
         ensures found { result ≡ find (is_from block pointer) self.now.counters }
         ensures rising { EachPair IsBefore self.now.counters }
     {
-        self.rows.laws();
-        match entry_from(&self.rows, key_of(block, pointer)) {
-            Some(entry) => Some(to_counter(entry)),
+        self.counts.laws();
+        if self.highest < block {
+            return None;
+        }
+        match self.counts.next(key_of(block, pointer)) {
+            Some(found) => Some(to_counter(found.key, *found.value)),
             None => None,
         }
     }
@@ -162,21 +163,24 @@ impl CounterRows {
         }
     }
 
-    /// As [`CounterRows::first_from`], and where that counter stands. It is looked for first at a place and right behind
+    /// As [`CounterList::first_from`], and where that counter stands. It is looked for first at a place and right behind
     /// it.
     fn first_near(&self, block: u64, pointer: u64, near: Place) -> (Option<Attachment>, Place)
         ensures found { result.0 ≡ find (is_from block pointer) self.now.counters }
         ensures rising { EachPair IsBefore self.now.counters }
     {
-        self.rows.laws();
-        let (entry, place) = entry_near(&self.rows, key_of(block, pointer), near);
-        match entry {
-            Some(entry) => (Some(to_counter(entry)), place),
+        self.counts.laws();
+        if self.highest < block {
+            return (None, near);
+        }
+        let (found, place) = self.counts.next_near(key_of(block, pointer), near);
+        match found {
+            Some(found) => (Some(to_counter(found.key, *found.value)), place),
             None => (None, place),
         }
     }
 
-    /// As [`CounterRows::next`], and where the counter stands. It is looked for first at a place and right behind it.
+    /// As [`CounterList::next`], and where the counter stands. It is looked for first at a place and right behind it.
     pub fn next_near(&self, block: u64, from: u64, near: Place) -> (Option<u64>, Place)
         ensures { result.0 ≡ next_pointer block from self.now.counters }
     {
@@ -210,12 +214,8 @@ impl CounterRows {
         ensures counters { self.new.counters ≡ with_count block pointer count self.old.counters }
         ensures room { self.old.room ≤ self.new.room + 1 }
     {
-        let entry = Entry {
-            key: key_of(block, pointer),
-            size: 0,
-            value: count,
-        };
-        self.rows.insert(entry, near);
+        self.highest = self.highest.max(block);
+        self.counts.insert(key_of(block, pointer), count, near);
     }
 
     /// Gives a counter that is not zero another value, which is not zero. It is looked for first near a place.
@@ -225,8 +225,8 @@ impl CounterRows {
         ensures counters { self.new.counters ≡ with_count block pointer count self.old.counters }
         ensures room { self.old.room ≤ self.new.room }
     {
-        self.rows.laws();
-        self.rows.set(key_of(block, pointer), count, near);
+        self.counts.laws();
+        self.counts.set(key_of(block, pointer), count, near);
     }
 
     /// Takes out a counter, which then is zero. It is looked for first near a place.
@@ -235,7 +235,7 @@ impl CounterRows {
         ensures counters { self.new.counters ≡ without_attachment block pointer self.old.counters }
         ensures room { self.old.room ≤ self.new.room }
     {
-        self.rows.remove(key_of(block, pointer), near);
+        self.counts.remove(key_of(block, pointer), near);
     }
 
     /// Takes out the counters of a block.

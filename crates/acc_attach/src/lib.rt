@@ -4,10 +4,9 @@
 #![tactic(auto)]
 
 mod attaching;
-mod copying;
 mod counters;
 mod left;
 
-pub use acc_rows::Place;
+pub use acc_ordered::Place;
 pub use attaching::Attached;
 pub use left::Left;

@@ -1,10 +1,6 @@
-pub mod Row
-pub mod Paired
-pub mod Shape
-pub mod Nodes
-pub mod NodeFalls
-pub mod Seen
-pub mod Changes
-pub mod Rewritten
-pub mod Trees
 pub mod Listing
+pub mod Pairs
+pub mod Paired
+pub mod Laid
+pub mod Spots
+pub mod Sound

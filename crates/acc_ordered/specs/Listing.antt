@@ -2,8 +2,12 @@
 use Rattle.std.specs.Prelude.{ℕ, ◌<◌, ◌==◌, not, if◌then◌else◌, nat_lt, nat_le, List, [], ◌∷◌, Option, Some, None, find, filter, map, option_map}
 use Rattle.std.specs.Option.{option_or}
 use Rattle.acc_base.specs.Accounts.{EachPair}
-use Rattle.acc_ordered.specs.declared.entries.KeyValue.{KeyValue}
 use Rattle.acc_ordered.specs.declared.entries.KeyValueRef.{KeyValueRef}
+
+-- a value under the number of its key
+pub record KeyValue (T : Type 0) : Type 0 where
+  pub key : ℕ
+  pub value : T
 
 -- what a tree is seen as
 pub record Listing (T : Type 0) : Type 0 where
@@ -17,9 +21,12 @@ module _ {T : Type 0} where
   abbrev pub KeysRise : List (KeyValue T) → Type 0
   KeysRise entries = EachPair (λ (e : KeyValue T) (f : KeyValue T). e.key < f.key) entries
 
-  -- the values of the entries
-  abbrev pub values_in : List (KeyValue T) → List T
-  values_in entries = map (λ e. e.value) entries
+  abbrev pub keyed : ℕ → T → KeyValue T
+  keyed key value = record { key = key; value = value }
+
+  -- what is told of each entry
+  abbrev pub told_in : {U : Type 0} → (ℕ → T → U) → List (KeyValue T) → List U
+  told_in told entries = map (λ e. told e.key e.value) entries
 
   -- ---- searches
 
@@ -27,17 +34,25 @@ module _ {T : Type 0} where
   abbrev pub at_key : ℕ → List (KeyValue T) → Option (KeyValue T)
   at_key key entries = find (λ e. e.key == key) entries
 
+  -- the value of a key
+  abbrev pub value_at : ℕ → List (KeyValue T) → Option T
+  value_at key entries = option_map (λ e. e.value) (at_key key entries)
+
   -- the first entry from a key on
   abbrev pub first_from : ℕ → List (KeyValue T) → Option (KeyValue T)
   first_from key entries = find (λ e. nat_le key e.key) entries
 
+  -- the first key from a key on
+  abbrev pub key_from : ℕ → List (KeyValue T) → Option ℕ
+  key_from key entries = option_map (λ e. e.key) (first_from key entries)
+
   -- an entry that was found
-  abbrev pub entry_in : KeyValueRef T → KeyValue T
-  entry_in found = record { key = found.key; value = found.value.now }
+  abbrev pub entry_in : {K : Type 0} → (K → ℕ) → KeyValueRef K T → KeyValue T
+  entry_in number found = record { key = number found.key; value = found.value.now }
 
   -- the entry that was found, if there is one
-  abbrev pub seen : Option (KeyValueRef T) → Option (KeyValue T)
-  seen found = option_map entry_in found
+  abbrev pub seen : {K : Type 0} → (K → ℕ) → Option (KeyValueRef K T) → Option (KeyValue T)
+  seen number found = option_map (entry_in number) found
 
   -- the last entry before a key
   abbrev pub last_before : ℕ → List (KeyValue T) → Option (KeyValue T)
@@ -62,3 +77,16 @@ module _ {T : Type 0} where
   -- the entries with another value at a key
   abbrev pub with_value : ℕ → T → List (KeyValue T) → List (KeyValue T)
   with_value key value entries = map (value_written key value) entries
+
+  -- the entries once the value of a key, if there was one, became another, or none
+  abbrev pub changed : ℕ → Option T → Option T → List (KeyValue T) → List (KeyValue T)
+  changed key None None entries = entries
+  changed key None (Some value) entries = with_entry (keyed key value) entries
+  changed key (Some old) None entries = without_key key entries
+  changed key (Some old) (Some value) entries = with_value key value entries
+
+  -- how many entries come by that
+  abbrev pub coming : Option T → Option T → ℕ
+  coming None None = 0
+  coming None (Some value) = 1
+  coming (Some old) becomes = 0

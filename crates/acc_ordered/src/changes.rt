@@ -1,393 +1,289 @@
-//! Entries put into a tree and taken out of it, where nodes come or go.
-ghost use Rattle.std.specs.Prelude.{◌≡◌, ◌+◌, ◌^◌, ◌<◌, ◌≤◌, ◌++◌, [], ◌∷◌, max, length, true, Some, None, IsSome, IfSome, IfNone};
-ghost use Rattle.acc_ordered.specs.Listing.{KeysRise, at_key, with_entry, without_key};
-ghost use Rattle.acc_ordered.specs.Row.{HasEnds};
-ghost use Rattle.acc_ordered.specs.Nodes.{entries_in, height_of, nodes_in, IsAlone, IsLeaf, IsFreed, IsBalanced, IsLowered};
+//! How rows change.
+ghost use Rattle.std.specs.Bool.{OnTrue};
+ghost use Rattle.std.specs.Prelude.{◌≡◌, ◌+◌, ◌<◌, ◌≤◌, [], ◌∷◌, OnOk, OnErr, IfErr, Some, vec_len, vec_capacity, slice_get, slice_set as set, ℕ, List, length, map};
+ghost use Rattle.std.specs.List.{AllByRecursion, insert, remove};
+ghost use Rattle.acc_ordered.specs.Listing.{KeyValue, KeysRise, keyed};
+ghost use Rattle.acc_ordered.specs.Laid.{side_by_side, IsRow, IsWaiting, AreInRows, AreRows};
+ghost use Rattle.acc_ordered.specs.Spots.{index_of, IsTaken, IsInRow, HasPlace, IsCutInTwo, HasEntries, IsAmongOthers, FitTogether};
 
-use crate::balances::{balance, merge};
-use crate::entries::KeyValue;
-use crate::nodes::{Link, Node, join, split};
+use crate::keys::Key;
+use crate::places::Place;
 use crate::rows::{Row, WIDTH};
+use acc_base::Fault;
+use std::alloc::Global;
 
-/// The keys of the first and the last entry of a node without subtrees.
-fn ends_of<T: Copy>(node: &Node<T>) -> (u64, u64)
-    requires { IsLeaf node.now }
-    ensures { HasEnds result.0 result.1 node.now.entries }
+/// Makes rows until `count` wait. There is place for them.
+fn make_waiting<K: Key, T: Copy>(
+    alloc: Global,
+    spare: &mut Vec<Row<K, T>>,
+    count: usize,
+) -> Result<(), Fault>
+    requires waiting { AllByRecursion IsWaiting spare.old.items }
+    requires fewer { vec_len spare.old ≤ count }
+    requires places { count ≤ vec_capacity spare.old }
+    ensures waiting { AllByRecursion IsWaiting spare.new.items }
+    ensures ok { OnOk result (count ≤ vec_len spare.new) }
+    ensures only { IfErr result (λ fault. fault ≡ Fault.Memory) }
+    ensures not_fewer { vec_len spare.old ≤ vec_len spare.new }
+    ensures not_more { vec_len spare.new ≤ count }
+    ensures capacity { vec_capacity spare.new ≡ vec_capacity spare.old }
 {
-    (node.first, node.last)
+    while spare.len() < count {
+        let row = Row::new(alloc)?;
+        spare.push_reserved(row);
+    }
+    Ok(())
 }
 
-/// Writes a row of one entry into a node without subtrees.
-fn fill<T: Copy>(mut node: Box<Node<T>>, entry: KeyValue<T>) -> Box<Node<T>>
-    requires leaf { IsLeaf node.value }
-    ensures entries { result.value.entries ≡ entry ∷ [] }
-    ensures leaf { IsLeaf result.value }
+/// Makes rows until `count` wait, and place for them among the others.
+pub fn make_rows<K: Key, T: Copy>(
+    alloc: Global,
+    firsts: &mut Vec<K>,
+    rows: &mut Vec<Row<K, T>>,
+    spare: &mut Vec<Row<K, T>>,
+    count: usize,
+) -> Result<(), Fault>
+    requires rows { AreRows K.number firsts.old rows.old spare.old }
+    ensures rows { AreRows K.number firsts.new rows.new spare.new }
+    ensures entries { side_by_side rows.new.items ≡ side_by_side rows.old.items }
+    ensures ok { OnOk result (count ≤ vec_len spare.new) }
+    ensures spare { vec_len spare.old ≤ vec_len spare.new }
+    ensures only { IfErr result (λ fault. fault ≡ Fault.Memory) }
+    ensures memory { OnErr result (vec_len spare.old < count) }
 {
-    let n = &mut *node;
-    n.row.reset(entry);
-    n.first = entry.key;
-    n.last = entry.key;
-    node
+    if count <= spare.len() {
+        return Ok(());
+    }
+    firsts.reserve(count)?;
+    rows.reserve(count)?;
+    spare.reserve(rows.len() + (count - spare.len()))?;
+    make_waiting(alloc, spare, count)
 }
 
-/// Moves the upper half of a row to another, and puts an entry into one of them.
-fn share<T: Copy>(lower: &mut Row<T>, upper: &mut Row<T>, entry: KeyValue<T>)
-    requires more { 1 < length lower.old }
-    requires rising { KeysRise lower.old }
-    requires new { at_key entry.key lower.old ≡ None }
-    ensures entries { with_entry entry lower.old ≡ lower.new ++ upper.new }
-    ensures lower { 0 < length lower.new }
-    ensures upper { 0 < length upper.new }
+/// The first entry, in a row that waited.
+pub fn start<K: Key, T: Copy>(
+    firsts: &mut Vec<K>,
+    rows: &mut Vec<Row<K, T>>,
+    spare: &mut Vec<Row<K, T>>,
+    key: K,
+    value: T,
+)
+    requires rows { AreRows K.number firsts.old rows.old spare.old }
+    requires none { rows.old.items ≡ [] }
+    requires room { 1 ≤ vec_len spare.old }
+    ensures rows { AreRows K.number firsts.new rows.new spare.new }
+    ensures entries { side_by_side rows.new.items ≡ keyed (K.number key) value ∷ [] }
+    ensures spare { vec_len spare.old ≤ vec_len spare.new + 1 }
 {
-    lower.halve(upper);
-    if entry.key < upper.at(0).key {
-        lower.put(entry);
+    let mut row = spare.take_last();
+    row.insert_at(0, key, value);
+    rows.push_reserved(row);
+    firsts.push_reserved(key);
+}
+
+/// Where to split a full row to which an entry comes at `at`. Where it comes before or behind all entries, nearly all
+/// stay together. So rows are full after entries that come by rising or falling keys.
+fn cut_for(at: usize) -> usize
+    ensures some { 0 < result }
+    ensures not_all { result < 64 }
+{
+    if at == 0 {
+        1
+    } else if at == WIDTH {
+        WIDTH - 1
     } else {
-        upper.put(entry);
+        WIDTH / 2
     }
 }
 
-/// Cuts the row of a node in two, the upper one in a node that waits, and puts an entry into one of them.
-fn cut<T: Copy>(
-    mut node: Box<Node<T>>,
-    mut spare: Box<Node<T>>,
-    entry: KeyValue<T>,
-) -> (Box<Node<T>>, Box<Node<T>>)
-    requires leaf { IsLeaf node.value }
-    requires spare { IsLeaf spare.value }
-    requires more { 1 < length node.value.entries }
-    requires rising { KeysRise node.value.entries }
-    requires new { at_key entry.key node.value.entries ≡ None }
-    ensures entries { with_entry entry node.value.entries ≡ result.0.value.entries ++ result.1.value.entries }
-    ensures leaf { IsLeaf result.0.value }
-    ensures upper { IsLeaf result.1.value }
+/// Moves the entries of a full row from `cut` on to a row that waited, which comes behind it.
+fn split<K: Key, T: Copy>(
+    firsts: &mut Vec<K>,
+    rows: &mut Vec<Row<K, T>>,
+    spare: &mut Vec<Row<K, T>>,
+    row: usize,
+    cut: usize,
+)
+    requires rows { AreRows K.number firsts.old rows.old spare.old }
+    requires full { HasEntries rows.old.items row 64 }
+    requires room { 1 ≤ vec_len spare.old }
+    requires some { 0 < cut }
+    requires not_all { cut < 64 }
+    ensures rows { AreRows K.number firsts.new rows.new spare.new }
+    ensures entries { side_by_side rows.new.items ≡ side_by_side rows.old.items }
+    ensures cut { IsCutInTwo rows.old.items rows.new.items row cut }
+    ensures spare { vec_len spare.old ≡ vec_len spare.new + 1 }
 {
-    let lower = &mut *node;
-    let upper = &mut *spare;
-    share(&mut lower.row, &mut upper.row, entry);
-    let (first, last) = upper.row.ends();
-    upper.first = first;
-    upper.last = last;
-    let (first, last) = lower.row.ends();
-    lower.first = first;
-    lower.last = last;
-    (node, spare)
+    let mut upper = spare.take_last();
+    rows[row].cut(cut, &mut upper);
+    let _ = firsts.insert(row + 1, upper.at(0).key);
+    let _ = rows.insert(row + 1, upper);
 }
 
-/// Puts a node before all others of a tree.
-fn put_first<T: Copy>(tree: Link<T>, node: Box<Node<T>>) -> Box<Node<T>>
-    requires leaf { IsLeaf node.value }
-    requires alone { IsAlone tree }
-    requires limit { height_of tree < 2 ^ 61 }
-    ensures entries { result.value.entries ≡ node.value.entries ++ entries_in tree }
-    ensures nodes { result.value.nodes ≡ nodes_in tree + 1 }
-    ensures alone { result.value.behind ≡ 0 }
-    ensures not_lower { height_of tree ≤ result.value.height }
-    ensures not_higher { result.value.height ≤ height_of tree + 1 }
+/// Splits the row of a place where it is full, and returns where the place is then.
+pub fn make_place<K: Key, T: Copy>(
+    firsts: &mut Vec<K>,
+    rows: &mut Vec<Row<K, T>>,
+    spare: &mut Vec<Row<K, T>>,
+    place: Place,
+) -> Place
+    requires rows { AreRows K.number firsts.old rows.old spare.old }
+    requires within { IsInRow rows.old.items place }
+    requires room { 1 ≤ vec_len spare.old }
+    ensures rows { AreRows K.number firsts.new rows.new spare.new }
+    ensures entries { side_by_side rows.new.items ≡ side_by_side rows.old.items }
+    ensures number { index_of rows.new.items result ≡ index_of rows.old.items place }
+    ensures place { HasPlace rows.new.items result }
+    ensures spare { vec_len spare.old ≤ vec_len spare.new + 1 }
 {
-    let Some(tree) = tree else { return node };
-    let (left, top, right) = split(tree);
-    let left = put_first(left, node);
-    balance(Some(left), top, right)
-}
-
-/// Puts an entry whose key is not there yet into a tree, with a node that waits.
-pub fn insert<T: Copy>(tree: Link<T>, node: Box<Node<T>>, entry: KeyValue<T>) -> Box<Node<T>>
-    requires leaf { IsLeaf node.value }
-    requires alone { IsAlone tree }
-    requires limit { height_of tree < 2 ^ 61 }
-    requires rising { KeysRise (entries_in tree) }
-    requires new { at_key entry.key (entries_in tree) ≡ None }
-    ensures entries { result.value.entries ≡ with_entry entry (entries_in tree) }
-    ensures nodes { result.value.nodes ≡ nodes_in tree + 1 }
-    ensures alone { result.value.behind ≡ 0 }
-    ensures not_lower { height_of tree ≤ result.value.height }
-    ensures not_higher { result.value.height ≤ height_of tree + 1 }
-{
-    let Some(tree) = tree else {
-        return fill(node, entry);
-    };
-    let (left, top, right) = split(tree);
-    let (first, last) = ends_of(&top);
-    if entry.key < first {
-        let left = insert(left, node, entry);
-        balance(Some(left), top, right)
-    } else if last < entry.key {
-        let right = insert(right, node, entry);
-        balance(left, top, Some(right))
+    if rows[place.row].len() < WIDTH {
+        return place;
+    }
+    let cut = cut_for(place.at);
+    split(firsts, rows, spare, place.row, cut);
+    if place.at <= cut {
+        place
     } else {
-        let (lower, upper) = cut(top, node, entry);
-        let right = put_first(right, upper);
-        balance(left, lower, Some(right))
+        Place {
+            row: place.row + 1,
+            at: place.at - cut,
+        }
     }
 }
 
-/// How many entries a node without subtrees has.
-fn count_in<T: Copy>(node: &Node<T>) -> usize
-    requires leaf { IsLeaf node.now }
-    ensures { result ≡ length node.now.entries }
+/// Puts an entry at a place in a row that is not full.
+pub fn put<K: Key, T: Copy>(
+    firsts: &mut Vec<K>,
+    rows: &mut Vec<Row<K, T>>,
+    place: Place,
+    key: K,
+    value: T,
+)
+    requires in_rows { AreInRows (map K.number firsts.old.items) rows.old.items }
+    requires place { HasPlace rows.old.items place }
+    requires rising { KeysRise (insert (side_by_side rows.old.items) (index_of rows.old.items place) (keyed (K.number key) value)) }
+    ensures in_rows { AreInRows (map K.number firsts.new.items) rows.new.items }
+    ensures entries { side_by_side rows.new.items ≡ insert (side_by_side rows.old.items) (index_of rows.old.items place) (keyed (K.number key) value) }
+    ensures len { vec_len rows.new ≡ vec_len rows.old }
+    ensures capacity { vec_capacity rows.new ≡ vec_capacity rows.old }
+    ensures capacity_firsts { vec_capacity firsts.new ≡ vec_capacity firsts.old }
 {
-    node.row.len()
+    let row = &mut rows[place.row];
+    row.insert_at(place.at, key, value);
+    firsts[place.row] = row.at(0).key;
 }
 
-/// Moves the entries of a node to the end of the row of another. The first of the answer has them all.
-fn append<T: Copy>(mut lower: Box<Node<T>>, upper: Box<Node<T>>) -> (Box<Node<T>>, Box<Node<T>>)
-    requires leaf { IsLeaf lower.value }
-    requires upper { IsLeaf upper.value }
-    requires few { length lower.value.entries + length upper.value.entries ≤ 64 }
-    ensures entries { result.0.value.entries ≡ lower.value.entries ++ upper.value.entries }
-    ensures leaf { IsLeaf result.0.value }
-    ensures freed { IsLeaf result.1.value }
+/// Takes out the only entry of a row, which waits then.
+fn take_row<K: Key, T: Copy>(
+    firsts: &mut Vec<K>,
+    rows: &mut Vec<Row<K, T>>,
+    spare: &mut Vec<Row<K, T>>,
+    row: usize,
+)
+    requires rows { AreRows K.number firsts.old rows.old spare.old }
+    requires alone { HasEntries rows.old.items row 1 }
+    ensures rows { AreRows K.number firsts.new rows.new spare.new }
+    ensures entries { side_by_side rows.new.items ≡ remove (side_by_side rows.old.items) (index_of rows.old.items (record { row = row; at = 0 })) }
+    ensures spare { vec_len spare.old ≤ vec_len spare.new }
 {
-    let n = &mut *lower;
-    n.row.append(&upper.row);
-    n.last = upper.last;
-    (lower, upper)
+    firsts.remove(row);
+    let mut empty = rows.remove(row);
+    empty.clear();
+    spare.push_reserved(empty);
 }
 
-/// Takes the entry of a key out of the row of a node, where it is not alone.
-fn shorten<T: Copy>(mut node: Box<Node<T>>, key: u64) -> (KeyValue<T>, Box<Node<T>>)
-    requires leaf { IsLeaf node.value }
-    requires rising { KeysRise node.value.entries }
-    requires there { IsSome (at_key key node.value.entries) }
-    requires more { 1 < length node.value.entries }
-    ensures entry { at_key key node.value.entries ≡ Some result.0 }
-    ensures entries { result.1.value.entries ≡ without_key key node.value.entries }
-    ensures leaf { IsLeaf result.1.value }
+/// Takes out one of several entries of a row.
+fn shorten<K: Key, T: Copy>(firsts: &mut Vec<K>, rows: &mut Vec<Row<K, T>>, place: Place)
+    requires in_rows { AreInRows (map K.number firsts.old.items) rows.old.items }
+    requires among { IsAmongOthers rows.old.items place }
+    ensures in_rows { AreInRows (map K.number firsts.new.items) rows.new.items }
+    ensures entries { side_by_side rows.new.items ≡ remove (side_by_side rows.old.items) (index_of rows.old.items place) }
+    ensures len { vec_len rows.new ≡ vec_len rows.old }
+    ensures capacity { vec_capacity rows.new ≡ vec_capacity rows.old }
+    ensures capacity_firsts { vec_capacity firsts.new ≡ vec_capacity firsts.old }
 {
-    let n = &mut *node;
-    let entry = n.row.take(key);
-    let (first, last) = n.row.ends();
-    n.first = first;
-    n.last = last;
-    (entry, node)
+    let row = &mut rows[place.row];
+    row.remove_at(place.at);
+    firsts[place.row] = row.at(0).key;
 }
 
-/// The entry of a node without subtrees that has no other.
-fn only_entry<T: Copy>(node: &Node<T>) -> Option<KeyValue<T>>
-    requires leaf { IsLeaf node.now }
-    ensures one { IfSome result (λ entry. node.now.entries ≡ entry ∷ []) }
-    ensures more { IfNone result (1 < length node.now.entries) }
+/// Whether a row and the next have at most half as many entries as one has place for.
+fn are_few<K: Key, T: Copy>(rows: &[Row<K, T>], row: usize) -> bool
+    requires each { AllByRecursion IsRow rows.now }
+    requires within { row < length rows.now }
+    ensures { OnTrue result (FitTogether rows.now row) }
 {
-    if node.row.len() > 1 {
-        return None;
+    row + 1 < rows.len() && rows[row].len() + rows[row + 1].len() <= WIDTH / 2
+}
+
+/// Moves the entries of the next row to the end of a row. The next row waits then.
+fn join<K: Key, T: Copy>(
+    firsts: &mut Vec<K>,
+    rows: &mut Vec<Row<K, T>>,
+    spare: &mut Vec<Row<K, T>>,
+    row: usize,
+)
+    requires rows { AreRows K.number firsts.old rows.old spare.old }
+    requires few { FitTogether rows.old.items row }
+    ensures rows { AreRows K.number firsts.new rows.new spare.new }
+    ensures entries { side_by_side rows.new.items ≡ side_by_side rows.old.items }
+    ensures spare { vec_len spare.old ≤ vec_len spare.new }
+{
+    firsts.remove(row + 1);
+    let mut upper = rows.remove(row + 1);
+    rows[row].append(&upper);
+    upper.clear();
+    spare.push_reserved(upper);
+}
+
+/// Joins a row with one beside it, where both have few entries.
+fn join_few<K: Key, T: Copy>(
+    firsts: &mut Vec<K>,
+    rows: &mut Vec<Row<K, T>>,
+    spare: &mut Vec<Row<K, T>>,
+    row: usize,
+)
+    requires rows { AreRows K.number firsts.old rows.old spare.old }
+    requires within { row < vec_len rows.old }
+    ensures rows { AreRows K.number firsts.new rows.new spare.new }
+    ensures entries { side_by_side rows.new.items ≡ side_by_side rows.old.items }
+    ensures spare { vec_len spare.old ≤ vec_len spare.new }
+{
+    if are_few(rows, row) {
+        join(firsts, rows, spare, row);
+    } else if row > 0 && are_few(rows, row - 1) {
+        join(firsts, rows, spare, row - 1);
     }
-    let found = node.row.at(0);
-    Some(KeyValue {
-        key: found.key,
-        value: *found.value,
-    })
 }
 
-/// Takes the first node off a tree, if its row has at most so many entries.
-fn take_first_few<T: Copy>(tree: Link<T>, most: usize) -> (Link<T>, Link<T>)
-    requires alone { IsAlone tree }
-    requires limit { height_of tree < 2 ^ 62 }
-    ensures freed { IsFreed result.0 }
-    ensures few { length (entries_in result.0) ≤ most }
-    ensures entries { entries_in tree ≡ entries_in result.0 ++ entries_in result.1 }
-    ensures alone { IsAlone result.1 }
-    ensures nodes { nodes_in tree ≡ nodes_in result.0 + nodes_in result.1 }
-    ensures height { IsLowered (height_of tree) (height_of result.1) }
-    ensures kept { nodes_in result.0 ≡ 0 → height_of result.1 ≡ height_of tree }
+/// Takes out the entry at a place. Its row is joined with one beside it where both have few entries then.
+pub fn take_out<K: Key, T: Copy>(
+    firsts: &mut Vec<K>,
+    rows: &mut Vec<Row<K, T>>,
+    spare: &mut Vec<Row<K, T>>,
+    place: Place,
+)
+    requires rows { AreRows K.number firsts.old rows.old spare.old }
+    requires taken { IsTaken rows.old.items place }
+    ensures rows { AreRows K.number firsts.new rows.new spare.new }
+    ensures entries { side_by_side rows.new.items ≡ remove (side_by_side rows.old.items) (index_of rows.old.items place) }
+    ensures spare { vec_len spare.old ≤ vec_len spare.new }
 {
-    let Some(tree) = tree else {
-        return (None, None)
-    };
-    let (left, node, right) = split(tree);
-    if left.is_some() {
-        let (first, left) = take_first_few(left, most);
-        return (first, Some(balance(left, node, right)));
-    }
-    if count_in(&node) <= most {
-        (Some(node), right)
+    if rows[place.row].len() == 1 {
+        take_row(firsts, rows, spare, place.row);
     } else {
-        (None, Some(join(left, node, right)))
+        shorten(firsts, rows, place);
+        join_few(firsts, rows, spare, place.row);
     }
 }
 
-/// Takes the last node off a tree, if its row has at most so many entries.
-fn take_last_few<T: Copy>(tree: Link<T>, most: usize) -> (Link<T>, Link<T>)
-    requires alone { IsAlone tree }
-    requires limit { height_of tree < 2 ^ 62 }
-    ensures freed { IsFreed result.1 }
-    ensures few { length (entries_in result.1) ≤ most }
-    ensures entries { entries_in tree ≡ entries_in result.0 ++ entries_in result.1 }
-    ensures alone { IsAlone result.0 }
-    ensures nodes { nodes_in tree ≡ nodes_in result.0 + nodes_in result.1 }
-    ensures height { IsLowered (height_of tree) (height_of result.0) }
-    ensures kept { nodes_in result.1 ≡ 0 → height_of result.0 ≡ height_of tree }
+/// Gives the entry at a place another value. Its key stays, so no entry moves.
+pub fn write<K: Key, T: Copy>(rows: &mut Vec<Row<K, T>>, place: Place, value: T)
+    requires { IsTaken rows.old.items place }
+    ensures entries { (entry : KeyValue T) → slice_get (side_by_side rows.old.items) (index_of rows.old.items place) ≡ Some entry → side_by_side rows.new.items ≡ set (side_by_side rows.old.items) (index_of rows.old.items place) (record entry { value = value }) }
+    ensures in_rows { (firsts : List ℕ) → AreInRows firsts rows.old.items → KeysRise (side_by_side rows.new.items) → AreInRows firsts rows.new.items }
+    ensures len { vec_len rows.new ≡ vec_len rows.old }
+    ensures capacity { vec_capacity rows.new ≡ vec_capacity rows.old }
 {
-    let Some(tree) = tree else {
-        return (None, None)
-    };
-    let (left, node, right) = split(tree);
-    if right.is_some() {
-        let (right, last) = take_last_few(right, most);
-        return (Some(balance(left, node, right)), last);
-    }
-    if count_in(&node) <= most {
-        (left, Some(node))
-    } else {
-        (Some(join(left, node, right)), None)
-    }
-}
-
-/// Joins the row of the last node of a left subtree with that of the node above it, where both have few entries. The last
-/// of the answer is the node that became free.
-fn fold_left<T: Copy>(left: Link<T>, top: Box<Node<T>>) -> (Link<T>, Box<Node<T>>, Link<T>)
-    requires leaf { IsLeaf top.value }
-    requires alone { IsAlone left }
-    requires limit { height_of left < 2 ^ 62 }
-    ensures entries { entries_in result.0 ++ result.1.value.entries ≡ entries_in left ++ top.value.entries }
-    ensures leaf { IsLeaf result.1.value }
-    ensures alone { IsAlone result.0 }
-    ensures freed { IsFreed result.2 }
-    ensures nodes { nodes_in left ≡ nodes_in result.0 + nodes_in result.2 }
-    ensures height { IsLowered (height_of left) (height_of result.0) }
-    ensures kept { nodes_in result.2 ≡ 0 → height_of result.0 ≡ height_of left }
-{
-    let count = count_in(&top);
-    if count >= WIDTH / 2 {
-        return (left, top, None);
-    }
-    let (rest, last) = take_last_few(left, WIDTH / 2 - count);
-    let Some(low) = last else {
-        return (rest, top, None)
-    };
-    let (whole, freed) = append(low, top);
-    (rest, whole, Some(freed))
-}
-
-/// Joins the row of the first node of a right subtree with that of the node above it, where both have few entries. The
-/// last of the answer is the node that became free.
-fn fold_right<T: Copy>(top: Box<Node<T>>, right: Link<T>) -> (Box<Node<T>>, Link<T>, Link<T>)
-    requires leaf { IsLeaf top.value }
-    requires alone { IsAlone right }
-    requires limit { height_of right < 2 ^ 62 }
-    ensures entries { result.0.value.entries ++ entries_in result.1 ≡ top.value.entries ++ entries_in right }
-    ensures leaf { IsLeaf result.0.value }
-    ensures alone { IsAlone result.1 }
-    ensures freed { IsFreed result.2 }
-    ensures nodes { nodes_in right ≡ nodes_in result.1 + nodes_in result.2 }
-    ensures height { IsLowered (height_of right) (height_of result.1) }
-    ensures kept { nodes_in result.2 ≡ 0 → height_of result.1 ≡ height_of right }
-{
-    let count = count_in(&top);
-    if count >= WIDTH / 2 {
-        return (top, right, None);
-    }
-    let (first, rest) = take_first_few(right, WIDTH / 2 - count);
-    let Some(high) = first else {
-        return (top, rest, None)
-    };
-    let (whole, freed) = append(top, high);
-    (whole, rest, Some(freed))
-}
-
-/// Joins the row of a node with the last before it or the first behind it, where both have few entries, and puts its
-/// subtrees back. It answers the node that became free too, if one did.
-fn fold_here<T: Copy>(left: Link<T>, top: Box<Node<T>>, right: Link<T>) -> (Box<Node<T>>, Link<T>)
-    requires leaf { IsLeaf top.value }
-    requires balanced { IsBalanced left right }
-    requires limit { max (height_of left) (height_of right) < 2 ^ 62 }
-    ensures entries { result.0.value.entries ≡ entries_in left ++ top.value.entries ++ entries_in right }
-    ensures alone { result.0.value.behind ≡ 0 }
-    ensures freed { IsFreed result.1 }
-    ensures nodes { result.0.value.nodes + nodes_in result.1 ≡ nodes_in left + (nodes_in right + 1) }
-    ensures height { IsLowered (max (height_of left) (height_of right) + 1) result.0.value.height }
-    ensures kept { nodes_in result.1 ≡ 0 → result.0.value.height ≡ max (height_of left) (height_of right) + 1 }
-{
-    let (left, top, freed) = fold_left(left, top);
-    if freed.is_some() {
-        return (balance(left, top, right), freed);
-    }
-    let (top, right, freed) = fold_right(top, right);
-    (balance(left, top, right), freed)
-}
-
-/// Takes the entry of a key out of the row of a node with these subtrees, and answers it, what is left, and the node that
-/// became free, if one did.
-fn remove_here<T: Copy>(
-    left: Link<T>,
-    top: Box<Node<T>>,
-    right: Link<T>,
-    key: u64,
-) -> (KeyValue<T>, Link<T>, Link<T>)
-    requires leaf { IsLeaf top.value }
-    requires balanced { IsBalanced left right }
-    requires limit { max (height_of left) (height_of right) < 2 ^ 62 }
-    requires rising { KeysRise top.value.entries }
-    requires there { IsSome (at_key key top.value.entries) }
-    ensures entry { at_key key top.value.entries ≡ Some result.0 }
-    ensures entries { entries_in result.1 ≡ entries_in left ++ without_key key top.value.entries ++ entries_in right }
-    ensures freed { IsFreed result.2 }
-    ensures alone { IsAlone result.1 }
-    ensures nodes { nodes_in result.1 + nodes_in result.2 ≡ nodes_in left + (nodes_in right + 1) }
-    ensures height { IsLowered (max (height_of left) (height_of right) + 1) (height_of result.1) }
-    ensures kept { nodes_in result.2 ≡ 0 → height_of result.1 ≡ max (height_of left) (height_of right) + 1 }
-{
-    if let Some(entry) = only_entry(&top) {
-        return (entry, merge(left, right), Some(top));
-    }
-    let (entry, top) = shorten(top, key);
-    (entry, Some(join(left, top, right)), None)
-}
-
-/// Takes the entry of a key out of a tree, and answers it, what is left, and the node that became free, if one did.
-pub fn remove<T: Copy>(tree: Box<Node<T>>, key: u64) -> (KeyValue<T>, Link<T>, Link<T>)
-    requires alone { tree.value.behind ≡ 0 }
-    requires limit { tree.value.height < 2 ^ 62 }
-    requires rising { KeysRise tree.value.entries }
-    requires there { IsSome (at_key key tree.value.entries) }
-    ensures entry { at_key key tree.value.entries ≡ Some result.0 }
-    ensures entries { entries_in result.1 ≡ without_key key tree.value.entries }
-    ensures freed { IsFreed result.2 }
-    ensures alone { IsAlone result.1 }
-    ensures nodes { nodes_in result.1 + nodes_in result.2 ≡ tree.value.nodes }
-    ensures height { IsLowered tree.value.height (height_of result.1) }
-    ensures kept { nodes_in result.2 ≡ 0 → height_of result.1 ≡ tree.value.height }
-{
-    let (left, top, right) = split(tree);
-    let (first, last) = ends_of(&top);
-    if key < first {
-        let Some(left) = left else { unreachable!() };
-        let (entry, left, freed) = remove(left, key);
-        (entry, Some(balance(left, top, right)), freed)
-    } else if last < key {
-        let Some(right) = right else { unreachable!() };
-        let (entry, right, freed) = remove(right, key);
-        (entry, Some(balance(left, top, right)), freed)
-    } else {
-        remove_here(left, top, right, key)
-    }
-}
-
-/// Joins the rows of two nodes beside each other, where both have few entries, at the node in which a key lies. It
-/// answers what is left, and the node that became free, if one did.
-pub fn fold<T: Copy>(tree: Link<T>, key: u64) -> (Link<T>, Link<T>)
-    requires alone { IsAlone tree }
-    requires limit { height_of tree < 2 ^ 62 }
-    ensures entries { entries_in result.0 ≡ entries_in tree }
-    ensures alone { IsAlone result.0 }
-    ensures freed { IsFreed result.1 }
-    ensures nodes { nodes_in result.0 + nodes_in result.1 ≡ nodes_in tree }
-    ensures height { IsLowered (height_of tree) (height_of result.0) }
-    ensures kept { nodes_in result.1 ≡ 0 → height_of result.0 ≡ height_of tree }
-{
-    let Some(tree) = tree else {
-        return (None, None)
-    };
-    let (left, top, right) = split(tree);
-    let (first, last) = ends_of(&top);
-    if key < first {
-        let (left, freed) = fold(left, key);
-        (Some(balance(left, top, right)), freed)
-    } else if last < key {
-        let (right, freed) = fold(right, key);
-        (Some(balance(left, top, right)), freed)
-    } else {
-        let (whole, freed) = fold_here(left, top, right);
-        (Some(whole), freed)
-    }
+    rows[place.row].write_at(place.at, value);
 }

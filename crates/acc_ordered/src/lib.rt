@@ -1,14 +1,17 @@
-//! A balanced tree of entries by key, whose nodes hold rows of them and come from and go to a chain of spare nodes.
+//! Entries by rising key, in rows: one ordered list for all that is found by a key.
 #![tactic(auto)]
 
-mod balances;
 mod changes;
+mod copying;
 mod entries;
-mod nodes;
+mod finding;
+mod keys;
+mod list;
+mod places;
 mod rows;
 mod search;
-mod sides;
-mod tree;
 
-pub use entries::{KeyValue, KeyValueRef, Neighbors, Rewriting};
-pub use tree::OrderedTree;
+pub use entries::{KeyValueRef, Neighbors, Telling};
+pub use keys::Key;
+pub use list::OrderedList;
+pub use places::Place;

@@ -1,27 +1,45 @@
-//! A search in a row.
-ghost use Rattle.std.specs.Prelude.{◌≡◌, ℕ, ◌+◌, ◌-◌, ◌^◌, ◌<◌, ◌≤◌, length, nat_lt, if◌then◌else◌, slice_index};
+//! Searches among keys without a branch, by halves and by eighths.
+ghost use Rattle.std.specs.Bool.{OnTrue};
+ghost use Rattle.std.specs.Prelude.{◌≡◌, ℕ, ◌+◌, ◌*◌, ◌^◌, ◌<◌, ◌≤◌, length, take, drop, nat_lt, true, false, if◌then◌else◌};
+ghost use Rattle.std.specs.List.{AllByRecursion};
 ghost use Rattle.acc_base.specs.Splits.{IsSplitBy};
 ghost use Rattle.acc_base.specs.Accounts.{EachPair};
 
+use crate::keys::Key;
 use acc_base::Steps;
 
-/// One where a number lies below a key, and else none. It is a number, so that what adds it up takes no branch.
+/// Whether so many of some rising keys lie below `key`, and at least one does.
 #[inline]
-fn one_if_below(number: u64, key: u64) -> usize
-    ensures { result ≡ (if nat_lt number key then 1 else 0) }
+pub fn parts<K: Key>(keys: &[K], key: K, count: usize) -> bool
+    requires rising { EachPair (λ a b. K.number a < K.number b) keys.now }
+    ensures { OnTrue result (IsSplitBy (λ k. nat_lt (K.number k) (K.number key)) keys.now count) }
 {
-    if number < key { 1 } else { 0 }
+    if count == 0 || count > keys.len() || !keys[count - 1].is_below(key) {
+        return false;
+    }
+    if count == keys.len() {
+        return true;
+    }
+    !keys[count].is_below(key)
+}
+
+/// One where a key lies below another, and else none. It is a number, so that what adds it up takes no branch.
+#[inline]
+fn one_if_below<K: Key>(lower: K, key: K) -> usize
+    ensures { result ≡ (if nat_lt (K.number lower) (K.number key) then 1 else 0) }
+{
+    if lower.is_below(key) { 1 } else { 0 }
 }
 
 /// How many keys lie below `key` in the eighths of a row that do so whole, by one comparison for each eighth.
 #[inline]
-fn count_eighths(keys: &[u64], key: u64, comparisons: &mut Steps) -> usize
-    requires rising { EachPair (λ (a : ℕ) (b : ℕ). a < b) keys.now }
+fn count_eighths<K: Key>(keys: &[K], key: K, comparisons: &mut Steps) -> usize
+    requires rising { EachPair (λ a b. K.number a < K.number b) keys.now }
     requires few { length keys.now ≤ 64 }
     requires limit { comparisons.old ≤ 2 ^ 32 }
     ensures comparisons { comparisons.new ≤ comparisons.old + 8 }
-    ensures passed { 0 < result → slice_index keys.now (result - 1) < key }
-    ensures failed { result + 7 < length keys.now → key ≤ slice_index keys.now (result + 7) }
+    ensures passed { AllByRecursion (λ k. nat_lt (K.number k) (K.number key) ≡ true) (take result keys.now) }
+    ensures failed { AllByRecursion (λ k. nat_lt (K.number k) (K.number key) ≡ false) (drop (result + 7) keys.now) }
     ensures bound { result ≤ length keys.now }
 {
     let mut low = 0;
@@ -35,11 +53,11 @@ fn count_eighths(keys: &[u64], key: u64, comparisons: &mut Steps) -> usize
 /// How many keys of a row lie below `key`, by at most fifteen comparisons: one for each eighth, and seven in the one
 /// where the count ends. No branch is taken by any of them: which one a search takes in the end cannot be foreseen.
 #[inline]
-pub fn count_below(keys: &[u64], key: u64, comparisons: &mut Steps) -> usize
-    requires rising { EachPair (λ (a : ℕ) (b : ℕ). a < b) keys.now }
+pub fn count_below<K: Key>(keys: &[K], key: K, comparisons: &mut Steps) -> usize
+    requires rising { EachPair (λ a b. K.number a < K.number b) keys.now }
     requires few { length keys.now ≤ 64 }
     requires limit { comparisons.old ≤ 2 ^ 32 }
-    ensures split { IsSplitBy (λ k. nat_lt k key) keys.now result }
+    ensures split { IsSplitBy (λ k. nat_lt (K.number k) (K.number key)) keys.now result }
     ensures comparisons { comparisons.new ≤ comparisons.old + 15 }
 {
     let low = count_eighths(keys, key, comparisons);
@@ -50,4 +68,26 @@ pub fn count_below(keys: &[u64], key: u64, comparisons: &mut Steps) -> usize
         place += one_if_below(keys[nth], key);
     }
     place
+}
+
+/// As [`count_below`], of any number of keys. It halves them until at most 64 are left, and each halving is a step.
+#[inline]
+pub fn count_many<K: Key>(keys: &[K], key: K, steps: &mut Steps) -> usize
+    requires rising { EachPair (λ a b. K.number a < K.number b) keys.now }
+    requires limit { steps.old ≤ 2 ^ 32 }
+    ensures split { IsSplitBy (λ k. nat_lt (K.number k) (K.number key)) keys.now result }
+    ensures not_fewer { steps.old ≤ steps.new }
+    ensures steps { (d : ℕ) → length keys.now < 2 ^ d → steps.new ≤ steps.old + d }
+{
+    let mut low = 0;
+    let mut len = keys.len();
+    while 64 < len {
+        steps.tick();
+        let half = len / 2;
+        let below = one_if_below(keys[low + half], key);
+        // Where the middle lies below, it is left out with those before it.
+        low += below * (half + 1);
+        len = (len - below) / 2;
+    }
+    low + count_below(&keys[low..low + len], key, &mut Steps::new())
 }

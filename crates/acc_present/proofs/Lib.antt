@@ -4,4 +4,3 @@ pub mod Registering
 pub mod Limits
 pub mod Fresh
 pub mod Crossing
-pub mod Recounting

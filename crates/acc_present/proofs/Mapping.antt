@@ -21,8 +21,7 @@ use Rattle.acc_base.proofs.Options.{some_mapped, none_mapped, from_none}
 use Rattle.acc_base.proofs.Elements.{AllByRecursion-weaker, AllByRecursion-both, AllByRecursion-filter, AllByRecursion-map, EachPair-filter, EachPair-map, find-map, find-none, find_none, find_passes, found_has, list_all-from}
 use Rattle.acc_base.proofs.Keyed as keyed
 use Rattle.acc_index.specs.Indexed.{IsIndexRising, value_at}
-use Rattle.acc_ordered.specs.declared.entries.KeyValue.{KeyValue}
-use Rattle.acc_ordered.specs.Listing.{at_key, first_from, last_before, with_entry, without_key, value_written, with_value, values_in}
+use Rattle.acc_ordered.specs.Listing.{KeyValue, at_key, first_from, last_before, with_entry, without_key, value_written, with_value, told_in}
 use Rattle.acc_present.specs.Present.{AreMapped}
 use Rattle.acc_present.specs.Kept.{range_in, ranges_in, IsKeyed, start_at, IsIndexed}
 use Rattle.acc_present.proofs.Finding.{last_below, starts_rise}
@@ -96,9 +95,9 @@ last_value k es keyed = value_if (last_before k es) (keyed_last k es keyed) ∙ 
 pub last_found : (k : ℕ) (es : List (KeyValue Range)) (before : Option (KeyValue Range)) (o : Option Range) → AllByRecursion IsKeyed es → before ≡ last_before k es → o ≡ option_map (λ (e : KeyValue Range). e.value) before → last_below k (ranges_in es) ≡ o
 last_found k es before o keyed is image = sym (last_value k es keyed) ∙ ap (option_map (λ (e : KeyValue Range). e.value)) (sym is) ∙ sym image
 
-pub all_values : (es : List (KeyValue Range)) → AllByRecursion IsKeyed es → values_in es ≡ ranges_in es
+pub all_values : (es : List (KeyValue Range)) → AllByRecursion IsKeyed es → told_in (λ (key : ℕ) (range : Range). range) es ≡ ranges_in es
 all_values [] keyed = refl
-all_values (e ∷ es) keyed = ap (λ (r : Range). r ∷ values_in es) (value_is e keyed.0) ∙ ap (λ (rs : List Range). range_in e ∷ rs) (all_values es keyed.1)
+all_values (e ∷ es) keyed = ap (λ (r : Range). r ∷ told_in (λ (key : ℕ) (range : Range). range) es) (value_is e keyed.0) ∙ ap (λ (rs : List Range). range_in e ∷ rs) (all_values es keyed.1)
 
 -- no range begins behind the last address
 pub none_past : (k : ℕ) (es : List (KeyValue Range)) → 2 ^ 64 ≤ k → AllByRecursion IsKeyed es → range_from k (ranges_in es) ≡ None

@@ -1,5 +1,5 @@
 -- How the present table keeps its ranges and regions. No public clause cites this module.
-use Rattle.std.specs.Prelude.{ℕ, ◌≡◌, ◌^◌, ◌<◌, ◌==◌, ◌&&◌, if◌then◌else◌, Bool, true, List, filter, map, nat_lt, nat_le, Option, Some, None, option_map, ⊤}
+use Rattle.std.specs.Prelude.{ℕ, ◌≡◌, ◌^◌, ◌<◌, List, filter, map, nat_le, Option, Some, None, option_map, ⊤}
 use Rattle.std.specs.declared.alloc.Global.{Global}
 use Rattle.std.specs.declared.vec.Vec.{Vec}
 use Rattle.std.specs.List.{AllByRecursion}
@@ -10,7 +10,7 @@ use Rattle.acc_base.specs.declared.mappings.Found.TheVariants.{Absent}
 use Rattle.acc_base.specs.Ranges.{range_of, range_from, where_is_apart, counter_in, risen, fallen, cleared}
 use Rattle.acc_base.specs.Register.{Region}
 use Rattle.acc_index.specs.Indexed.{IndexState, value_at}
-use Rattle.acc_ordered.specs.declared.entries.KeyValue.{KeyValue}
+use Rattle.acc_ordered.specs.Listing.{KeyValue}
 use Rattle.acc_present.specs.declared.ranges.CounterChange.{CounterChange}
 use Rattle.acc_present.specs.declared.ranges.CounterChange.TheVariants.{Raise, Lower, Clear}
 use Rattle.acc_present.specs.Present.{AreMapped}
@@ -70,16 +70,6 @@ abbrev pub IsChangeable : CounterChange → ℕ → Range → Type 0
 IsChangeable (Raise counter) most r = counter_in counter r < most
 IsChangeable (Lower counter) most r = ⊤
 IsChangeable Clear most r = ⊤
-
--- the test of that
-abbrev pub allows : CounterChange → ℕ → Range → Bool
-allows (Raise counter) most r = nat_lt (counter_in counter r) most
-allows (Lower counter) most r = true
-allows Clear most r = true
-
--- what it makes of the range that is mapped to a block, where that is allowed
-abbrev pub recounted : ℕ → CounterChange → ℕ → Range → Option Range
-recounted block change most r = if r.block == block && allows change most r then Some (changed_by change r) else None
 
 -- ---- the open regions
 

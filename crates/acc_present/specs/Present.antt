@@ -27,11 +27,11 @@ pub record Gone : Type 0 where
   pub ranges : ℕ
   pub regions : ℕ
 
--- a present table, its room, how many more ranges there are nodes for, and the places of what is gone
+-- a present table, its room, how many more ranges there are rows for, and the places of what is gone
 pub record PresentState : Type 0 where
   pub table : PresentTable
   pub room : Room
-  pub nodes : ℕ
+  pub rows : ℕ
   pub gone : Gone
 
 -- nothing is mapped, and no region is open
@@ -99,7 +99,7 @@ pub record IsPlaceMissing (count room gone used : ℕ) : Type 0 where
 -- so many more ranges, so many more regions, and so many holdings need memory
 abbrev pub IsMemoryNeeded : ℕ → ℕ → ℕ → PresentState → Type 0
 IsMemoryNeeded ranges regions holdings p =
-    (p.nodes < ranges)
+    (p.rows < ranges)
     ⊎ IsPlaceMissing ranges p.room.ranges p.gone.ranges (length p.table.ranges)
     ⊎ IsPlaceMissing regions p.room.regions p.gone.regions (length p.table.regions)
     ⊎ (p.room.holdings < holdings)

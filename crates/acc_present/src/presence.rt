@@ -11,11 +11,11 @@ ghost use Rattle.acc_ordered.specs.Listing.{seen};
 ghost use Rattle.acc_present.specs.Present.{IsWithinLimit, new_table, with_ranges, with_regions, HasRange, HasRegion, IsToldBy, IsRoomKept, IsRangeRoomTaken, IsRegionRoomTaken, IsRoomMissing, IsMemoryNeeded, IsLawful, region_of};
 ghost use Rattle.acc_present.specs.Kept.{IsNext, IsChangeable, changed_by};
 
-use crate::ranges::{CounterChange, Recount, changed, told_by, value_of};
+use crate::ranges::{CounterChange, RangeAlone, changed, is_allowed, told_by, value_of};
 use crate::register::{OpenRegion, Register};
 use acc_base::{Counter, Counters, Fault, Found, Holding, Range, Section, Steps};
 use acc_index::Index;
-use acc_ordered::{KeyValue, KeyValueRef, OrderedTree};
+use acc_ordered::{KeyValueRef, OrderedList, Place};
 use std::alloc::Global;
 use std::marker::Model;
 
@@ -25,13 +25,13 @@ use std::marker::Model;
 /// Contracts see the table, and the room that was made for more beside it. A refused call leaves the table as it was.
 /// Only `new`, `add`, `enter` and `reserve` allocate for it, and `copy_ranges` and `copy_regions` for their results.
 ///
-/// The ranges stand in an [`OrderedTree`] by rising start. The start of each block's range stands in an [`Index`] beside
+/// The ranges stand in an [`OrderedList`] by rising start. The start of each block's range stands in an [`Index`] beside
 /// it, and is found mostly without a search.
 #[derive(Drop)]
 pub struct Present {
     counter_max: u64,
     // By start.
-    ranges: OrderedTree<Range>,
+    ranges: OrderedList<u64, Range>,
     // The host address at which the range of each block begins.
     starts: Index<u64>,
     register: Register,
@@ -48,7 +48,7 @@ impl Model for Present {
     ghost view = { λ p. record {
       table = record { counter_max = p.counter_max; ranges = ranges_in p.ranges.entries; regions = p.register.regions };
       room = record { ranges = min p.ranges.room p.starts.room; regions = p.register.room; holdings = p.register.holdings };
-      nodes = p.ranges.room;
+      rows = p.ranges.room;
       gone = record { ranges = p.starts.gone; regions = p.register.gone };
     } };
 
@@ -57,8 +57,8 @@ impl Model for Present {
 
 /// The range that was found, if one was.
 #[inline]
-fn range_if(found: Option<KeyValueRef<'_, Range>>) -> Option<Range>
-    ensures { result ≡ option_map (λ e. e.value) (seen found.entry) }
+fn range_if(found: Option<KeyValueRef<'_, u64, Range>>) -> Option<Range>
+    ensures { result ≡ option_map (λ e. e.value) (seen (λ (key : ℕ). key) found.entry) }
 {
     Some(*found?.value)
 }
@@ -86,16 +86,9 @@ impl Present {
         requires { counter_max < 2 ^ 32 }
         ensures { result.table ≡ new_table counter_max }
     {
-        let section = Section { start: 0, len: 0 };
-        let blank = Range {
-            section,
-            block: 0,
-            structured: 0,
-            dynamic: 0,
-        };
         Present {
             counter_max,
-            ranges: OrderedTree::new(alloc, blank),
+            ranges: OrderedList::new(alloc),
             starts: Index::new(alloc),
             register: Register::new(alloc),
         }
@@ -120,9 +113,10 @@ impl Present {
     }
 
     /// Where a section lies, as [`Present::find`] says, by at most two steps for each binary digit of the number of
-    /// mapped ranges. There is one at least where ranges are mapped and the section is not empty. A step is a node that
-    /// holds up to 64 ranges. Of one node the ranges are compared too, at most fifteen, and not counted. At most 2^32
-    /// were counted before.
+    /// mapped ranges. There is one at least where ranges are mapped and the section is not empty. The ranges stand in
+    /// rows of up to 64. A step is a halving of the list of rows, or the look into one row. Not counted are the starts
+    /// that are compared there, and in the last 64 rows of the list: at most fifteen each. At most 2^32 were counted
+    /// before.
     pub fn find_counted(&self, section: Section, steps: &mut Steps) -> Found
         requires limit { steps.old ≤ 2 ^ 32 }
         ensures found { result ≡ where_is section self.now.table.ranges }
@@ -214,7 +208,7 @@ impl Present {
         ensures { result ≡ range_of block self.now.table.ranges }
     {
         let start = self.starts.get(block)?;
-        range_if(self.ranges.get(*start))
+        range_if(self.ranges.look_up(*start).0)
     }
 
     /// The host address at which the range begins that is mapped to a block, if one is. It is found mostly without a search.
@@ -229,10 +223,20 @@ impl Present {
     pub fn range_near(&self, block: u64, at: u64) -> Option<Range>
         ensures { result ≡ range_of block self.now.table.ranges }
     {
-        match range_if(self.ranges.around(at.saturating_add(1)).before) {
+        match self.last_range(at).0 {
             Some(range) if range.block == block => Some(range),
             Some(_) | None => self.range(block),
         }
+    }
+
+    /// The last mapped range that begins at or before an address, or below it where that is the greatest `u64`, and where
+    /// it stands. It is found by one search.
+    #[inline]
+    fn last_range(&self, at: u64) -> (Option<Range>, Place)
+        ensures { IfSome result.0 (λ range. range_of range.block self.now.table.ranges ≡ Some range) }
+    {
+        let around = self.ranges.around(at.saturating_add(1));
+        (range_if(around.before), around.place)
     }
 
     /// The range that is mapped to a block. One is.
@@ -321,10 +325,7 @@ impl Present {
         ensures room_holdings { self.old.room.holdings ≤ self.new.room.holdings }
     {
         let start = range.section.start;
-        self.ranges.insert(KeyValue {
-            key: start,
-            value: range,
-        });
+        self.ranges.insert(start, range, Place::default());
         self.starts.insert(range.block, start);
     }
 
@@ -348,7 +349,7 @@ impl Present {
     {
         // Nothing told its place. A look at the first one costs no search.
         let start = self.starts.take_out_near(block, 0);
-        self.ranges.remove(start);
+        self.ranges.remove(start, Place::default());
     }
 
     // ---- reference counters
@@ -438,7 +439,7 @@ impl Present {
         if self.counter_max <= value_of(counter, range) {
             return Err(Fault::CounterFull { item: 0 });
         }
-        self.change(CounterChange::Raise(counter), range);
+        self.change(CounterChange::Raise(counter), range, Place::default());
         Ok(())
     }
 
@@ -451,23 +452,35 @@ impl Present {
         ensures unchanged { result ≡ false → self.new.table ≡ self.old.table }
         ensures room { IsRoomKept self.old.room self.new.room }
     {
-        let most = self.counter_max as u32;
-        let recount = Recount {
-            block,
-            change,
-            most,
-        };
-        self.ranges.rewrite_before(at.saturating_add(1), &recount)
+        let (last, place) = self.last_range(at);
+        match last {
+            Some(range) if range.block == block && is_allowed(change, self.counter_max, range) => {
+                self.change(change, range, place);
+                true
+            }
+            Some(_) | None => false,
+        }
     }
 
-    /// Changes a counter of a mapped range. One that rises is below the limit.
-    fn change(&mut self, change: CounterChange, range: Range)
+    /// Changes a counter of a mapped range, which is looked for near a place first. One that rises is below the limit.
+    fn change(&mut self, change: CounterChange, range: Range, near: Place)
         requires there { range_of range.block self.old.table.ranges ≡ Some range }
         requires below { IsChangeable change self.old.table.counter_max range }
         ensures table { self.new.table ≡ with_ranges self.old.table (changed_at range.block (changed_by change) self.old.table.ranges) }
         ensures room { IsRoomKept self.old.room self.new.room }
     {
-        self.ranges.set(range.section.start, changed(change, range));
+        let start = range.section.start;
+        self.ranges.set(start, changed(change, range), near);
+    }
+
+    /// Changes a counter of the range that is mapped to a block. One is, and the counter does not rise.
+    fn lower(&mut self, change: CounterChange, block: u64)
+        requires there { HasRange self.old.table block }
+        requires free { (most : ℕ) → (range : Range) → IsChangeable change most range }
+        ensures table { self.new.table ≡ with_ranges self.old.table (changed_at block (changed_by change) self.old.table.ranges) }
+        ensures room { IsRoomKept self.old.room self.new.room }
+    {
+        self.change(change, self.mapped(block), Place::default());
     }
 
     /// Lowers the structured counter of the range that is mapped to a block. One is. Zero stays zero.
@@ -476,10 +489,7 @@ impl Present {
         ensures table { self.new.table ≡ with_ranges self.old.table (changed_at block (fallen Structured) self.old.table.ranges) }
         ensures room { IsRoomKept self.old.room self.new.room }
     {
-        self.change(
-            CounterChange::Lower(Counter::Structured),
-            self.mapped(block),
-        );
+        self.lower(CounterChange::Lower(Counter::Structured), block);
     }
 
     /// Lowers the dynamic counter of the range that is mapped to a block. One is. Zero stays zero.
@@ -488,7 +498,7 @@ impl Present {
         ensures table { self.new.table ≡ with_ranges self.old.table (changed_at block (fallen Dynamic) self.old.table.ranges) }
         ensures room { IsRoomKept self.old.room self.new.room }
     {
-        self.change(CounterChange::Lower(Counter::Dynamic), self.mapped(block));
+        self.lower(CounterChange::Lower(Counter::Dynamic), block);
     }
 
     /// Sets the dynamic counter of the range that is mapped to a block to 0 (OpenACC 3.3, the finalize clause). One is.
@@ -497,7 +507,7 @@ impl Present {
         ensures table { self.new.table ≡ with_ranges self.old.table (changed_at block cleared self.old.table.ranges) }
         ensures room { IsRoomKept self.old.room self.new.room }
     {
-        self.change(CounterChange::Clear, self.mapped(block));
+        self.lower(CounterChange::Clear, block);
     }
 
     /// Lowers a counter of the range that is mapped to a block, as [`Present::drop_structured`] and
@@ -509,7 +519,7 @@ impl Present {
         ensures room { IsRoomKept self.old.room self.new.room }
     {
         if !self.change_near(CounterChange::Lower(counter), block, at) {
-            self.change(CounterChange::Lower(counter), self.mapped(block));
+            self.lower(CounterChange::Lower(counter), block);
         }
     }
 
@@ -521,7 +531,7 @@ impl Present {
         ensures room { IsRoomKept self.old.room self.new.room }
     {
         if !self.change_near(CounterChange::Clear, block, at) {
-            self.change(CounterChange::Clear, self.mapped(block));
+            self.lower(CounterChange::Clear, block);
         }
     }
 
@@ -603,7 +613,7 @@ impl Present {
         ensures ok { IfOk result (λ ranges. ranges.items ≡ self.now.table.ranges) }
         ensures only { IfErr result (λ fault. fault ≡ Fault.Memory) }
     {
-        self.ranges.copy_values(alloc)
+        self.ranges.copy_entries(alloc, &RangeAlone)
     }
 
     /// The open regions in a vector of their own, by rising number. Each has its number, and what each item of its
@@ -631,7 +641,7 @@ impl Present {
     ///
     /// [`Fault::Memory`] alone, only where some of that room was missing. No room has shrunk then. Places of ranges and
     /// of regions that are gone are taken for others first, where they are a quarter of all or more. So it is refused
-    /// only where nodes for ranges or room for holdings were missing, or where such places were fewer or not enough.
+    /// only where rows for ranges or room for holdings were missing, or where such places were fewer or not enough.
     pub fn reserve(&mut self, ranges: u64, regions: u64, holdings: u64) -> Result<(), Fault>
         ensures table { self.new.table ≡ self.old.table }
         ensures ranges { OnOk result (ranges ≤ self.new.room.ranges) }

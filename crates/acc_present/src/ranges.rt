@@ -1,15 +1,15 @@
 //! One mapped range: what it says of a section, and its counters.
 
-ghost use Rattle.std.specs.Prelude.{◌≡◌, Some, List, ◌∷◌, IfSome, IfNone, ◌+◌, ◌-◌, ◌<◌, ◌≤◌, ◌==◌, ◌^◌, nat_le};
+ghost use Rattle.std.specs.Prelude.{◌≡◌, Some, List, ◌∷◌, IfSome, IfNone, ◌+◌, ◌-◌, ◌<◌, ◌≤◌, ◌==◌, ◌^◌, nat_le, IsTrue, ◌↔◌};
 ghost use Rattle.std.specs.Bool.{OnTrue};
 ghost use Rattle.std.specs.List.{list_any};
 ghost use Rattle.acc_base.specs.Section.{is_within, end_of};
 ghost use Rattle.acc_base.specs.Ranges.{where_is_apart, counter_in};
 ghost use Rattle.acc_present.specs.Present.{AreMapped, IsToldBy};
-ghost use Rattle.acc_present.specs.Kept.{changed_by, allows, IsChangeable};
+ghost use Rattle.acc_present.specs.Kept.{changed_by, IsChangeable};
 
 use acc_base::{Counter, Found, Range, Section};
-use acc_ordered::Rewriting;
+use acc_ordered::Telling;
 
 /// Each address of the first section is one of the second's, where the first is not empty.
 #[inline]
@@ -108,39 +108,25 @@ pub fn changed(change: CounterChange, mut range: Range) -> Range
 
 /// Whether a range allows a change: a counter that rises is below its limit.
 #[inline]
-fn is_allowed(change: CounterChange, most: u32, range: Range) -> bool
-    ensures test { result ≡ allows change most range }
-    ensures changeable { OnTrue result (IsChangeable change most range) }
+pub fn is_allowed(change: CounterChange, most: u64, range: Range) -> bool
+    ensures { IsTrue result ↔ IsChangeable change most range }
 {
     match change {
-        CounterChange::Raise(counter) => value_of(counter, range) < u64::from(most),
+        CounterChange::Raise(counter) => value_of(counter, range) < most,
         CounterChange::Lower(_) => true,
         CounterChange::Clear => true,
     }
 }
 
-/// A change of a counter of the range that is mapped to a block. A counter rises below a limit alone.
+/// A copy of a range alone, whose start is its key.
 #[derive(Clone, Copy)]
-pub struct Recount {
-    /// The block.
-    pub block: u64,
-    /// What becomes of the counter.
-    pub change: CounterChange,
-    /// The greatest value of a counter.
-    pub most: u32,
-}
+pub struct RangeAlone;
 
-impl Rewriting<Range> for Recount {
-    ghost use Rattle.acc_present.specs.Kept.{recounted};
-
-    ghost becomes = { λ c. recounted c.block c.change c.most };
+impl Telling<u64, Range, Range> for RangeAlone {
+    ghost told = { λ alone key range. range };
 
     #[inline]
-    fn rewrite(&self, range: Range) -> Option<Range> {
-        if range.block == self.block && is_allowed(self.change, self.most, range) {
-            Some(changed(self.change, range))
-        } else {
-            None
-        }
+    fn tell(&self, _key: u64, range: Range) -> Range {
+        range
     }
 }

@@ -2,7 +2,7 @@ use Rattle.std.proofs.Common.{◌≡◌, ◌+◌, ◌≤◌, ◌^◌, Option, ap
 use Rattle.std.specs.Prelude.{ℕ, option_map}
 use Rattle.acc_base.specs.declared.mappings.Range.{Range}
 use Rattle.acc_base.specs.Ranges.{range_from}
-use Rattle.acc_ordered.specs.declared.entries.KeyValue.{KeyValue}
+use Rattle.acc_ordered.specs.Listing.{KeyValue}
 use Rattle.acc_present.specs.Present.{PresentState}
 use Rattle.acc_present.proofs.Mapping.{first_value, none_past}
 use Rattle.acc_present.proofs.presence.Present.behind.Goals as goal

@@ -6,4 +6,4 @@ use Rattle.acc_present.proofs.Mapping.{all_values}
 use Rattle.acc_present.proofs.presence.Present.copy_ranges.Goals as goal
 
 pub returns-clause-ok : goal.returns-clause-ok
-returns-clause-ok c = subst (λ (rs : List Range). IfOk c.copy_values.result (λ copied. copied.items ≡ rs)) (all_values c.self.inside.ranges.entries c.self.invariant.2.keyed ∙ ap (λ (p : PresentState). p.table.ranges) c.self.view_is) c.copy_values.ensures.ok
+returns-clause-ok c = subst (λ (rs : List Range). IfOk c.copy_entries.result (λ copied. copied.items ≡ rs)) (all_values c.self.inside.ranges.entries c.self.invariant.2.keyed ∙ ap (λ (p : PresentState). p.table.ranges) c.self.view_is) c.copy_entries.ensures.ok

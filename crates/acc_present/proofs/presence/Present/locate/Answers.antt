@@ -1,10 +1,9 @@
-use Rattle.std.proofs.Common.{◌≡◌, ◌+◌, ◌≤◌, ◌<◌, Option, Some, sym, subst, ap, ◌∙◌, arith}
+use Rattle.std.proofs.Common.{ℕ, ◌≡◌, ◌+◌, ◌≤◌, ◌<◌, Option, Some, sym, subst, ap, ◌∙◌, arith}
 use Rattle.std.specs.Prelude.{option_map, IfSome}
 use Rattle.std.proofs.lemmas.Bool.Decides.{nat_tests}
 use Rattle.acc_base.specs.declared.mappings.Range.{Range}
 use Rattle.acc_base.specs.Ranges.{range_from, range_of, where_is_apart}
-use Rattle.acc_ordered.specs.declared.entries.KeyValue.{KeyValue}
-use Rattle.acc_ordered.specs.Listing.{seen}
+use Rattle.acc_ordered.specs.Listing.{KeyValue, seen}
 use Rattle.acc_present.specs.Present.{PresentState}
 use Rattle.acc_present.specs.Kept.{ranges_in, IsNext}
 use Rattle.acc_present.proofs.Finding.{last_filled, told_last, silent_last, no_last, from_behind, last_own}
@@ -16,7 +15,7 @@ pub told_by-requires-clause-mapped : goal.told_by-requires-clause-mapped
 told_by-requires-clause-mapped c =
     let k = c.saturating_add.result in
     let es = c.self.inside.ranges.entries in
-    let last = last_found k es (seen c.around_counted-around.result.before) c.range_if.result c.self.invariant.2.keyed c.around_counted-around.ensures.before c.range_if.ensures in
+    let last = last_found k es (seen (λ (key : ℕ). key) c.around_counted-around.result.before) c.range_if.result c.self.invariant.2.keyed c.around_counted-around.ensures.before c.range_if.ensures in
     last_filled k (ranges_in es) c.in-Some.range c.self.invariant.2.mapped (last ∙ c.in-Some.is)
 
 pub returns-in-Some-told_by-clause-found : goal.returns-in-Some-told_by-clause-found
@@ -25,7 +24,7 @@ returns-in-Some-told_by-clause-found c =
     let es = c.self.inside.ranges.entries in
     let near : k ≤ c.args.section.start + 1 = omega (arith, c.saturating_add.ensures) in
     let some : 0 < c.args.section.len = grind (arith, nat_tests, c.if-section-eq0.false) in
-    let last = last_found k es (seen c.around_counted-around.result.before) c.range_if.result c.self.invariant.2.keyed c.around_counted-around.ensures.before c.range_if.ensures in
+    let last = last_found k es (seen (λ (key : ℕ). key) c.around_counted-around.result.before) c.range_if.result c.self.invariant.2.keyed c.around_counted-around.ensures.before c.range_if.ensures in
     told_last k c.args.section c.args.blocks.now (ranges_in es) c.in-Some.range c.in-Some-told_by.found near some c.self.invariant.2.mapped (last ∙ c.in-Some.is) c.in-Some-told_by.ensures.told
     ∙ ap (λ (p : PresentState). where_is_apart c.args.section c.args.blocks.now p.table.ranges) c.self.view_is
 
@@ -39,7 +38,7 @@ returns-clause-next c =
     let es = c.self.inside.ranges.entries in
     let near : k ≤ c.args.section.start + 1 = omega (arith, c.saturating_add.ensures) in
     let some : 0 < c.args.section.len = grind (arith, nat_tests, c.if-section-eq0.false) in
-    let last = last_found k es (seen c.around_counted-around.result.before) c.range_if.result c.self.invariant.2.keyed c.around_counted-around.ensures.before c.range_if.ensures in
+    let last = last_found k es (seen (λ (key : ℕ). key) c.around_counted-around.result.before) c.range_if.result c.self.invariant.2.keyed c.around_counted-around.ensures.before c.range_if.ensures in
     let next : IsNext c.args.section c.args.blocks.now (ranges_in es) (range_from k (ranges_in es)) = elim c.match-range_if.branch [
       | in-Some+in_default-told_by w ↦ silent_last k c.args.section c.args.blocks.now (ranges_in es) w.in-Some.range near some c.self.invariant.2.mapped (last ∙ w.in-Some.is) w.in_default-told_by.ensures.silent
       | in_default w ↦ no_last k c.args.section c.args.blocks.now (ranges_in es) some c.self.invariant.2.mapped (last ∙ w.in_default.is)
@@ -55,5 +54,5 @@ pub returns-in-Some-told_by-clause-range : goal.returns-in-Some-told_by-clause-r
 returns-in-Some-told_by-clause-range c =
     let k = c.saturating_add.result in
     let es = c.self.inside.ranges.entries in
-    let last = last_found k es (seen c.around_counted-around.result.before) c.range_if.result c.self.invariant.2.keyed c.around_counted-around.ensures.before c.range_if.ensures in
+    let last = last_found k es (seen (λ (key : ℕ). key) c.around_counted-around.result.before) c.range_if.result c.self.invariant.2.keyed c.around_counted-around.ensures.before c.range_if.ensures in
     subst (λ (p : PresentState). range_of c.in-Some.range.block p.table.ranges ≡ Some c.in-Some.range) c.self.view_is (last_own k (ranges_in es) c.in-Some.range c.self.invariant.2.mapped (last ∙ c.in-Some.is))

@@ -6,7 +6,7 @@ use Rattle.acc_base.specs.Ranges.{where_is, range_of, with_range}
 use Rattle.acc_base.proofs.RangeChanges.{all_with}
 use Rattle.acc_index.specs.Indexed.{value_at}
 use Rattle.acc_index.proofs.Indexing.{value-with}
-use Rattle.acc_ordered.specs.declared.entries.KeyValue.{KeyValue}
+use Rattle.acc_ordered.specs.Listing.{KeyValue, keyed}
 use Rattle.acc_present.specs.Present.{PresentState, IsWithinLimit, with_ranges}
 use Rattle.acc_present.specs.Kept.{start_in, ranges_in}
 use Rattle.acc_present.proofs.Mapping.{absent_start, start_new, with_entry-ranges, mapped_now}
@@ -16,7 +16,7 @@ pub insert-requires-clause-new : goal.insert-requires-clause-new
 insert-requires-clause-new c = absent_start c.args.range c.self.inside.ranges.entries c.self.invariant.2.mapped (subst (λ (rs : List Range). where_is c.args.range.section rs ≡ Absent) (sym (ap (λ (p : PresentState). p.table.ranges) c.self.view_is)) c.requires.absent)
 
 ranges : (c : goal.After-insert-2) → ranges_in c.insert.new.self.entries ≡ with_range c.args.range (ranges_in c.self.inside.ranges.entries)
-ranges c = ap ranges_in c.insert.ensures.entries ∙ with_entry-ranges (record { key = c.args.range.section.start; value = c.args.range }) c.self.inside.ranges.entries
+ranges c = ap ranges_in c.insert.ensures.entries ∙ with_entry-ranges (keyed c.args.range.section.start c.args.range) c.self.inside.ranges.entries
 
 -- no range is mapped to the block
 none_kept : (c : goal.After-insert-2) → range_of c.args.range.block (ranges_in c.self.inside.ranges.entries) ≡ None

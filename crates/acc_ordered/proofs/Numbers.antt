@@ -1,0 +1,53 @@
+-- The least keys of rows, as the numbers that they stand for.
+use Rattle.std.proofs.Common.{ℕ, zero, suc, ◌≡◌, ◌<◌, refl, ap, subst, true, false, List, [], ◌∷◌, length, get_or, take, drop, insert, arith}
+use Rattle.std.specs.Prelude.{map, nat_lt}
+use Rattle.std.specs.List.{AllByRecursion, remove}
+use Rattle.std.proofs.lemmas.List.{length-map}
+use Rattle.acc_base.specs.Accounts.{EachPair}
+use Rattle.acc_base.specs.Splits.{IsSplitBy}
+
+module _ {K : Type 0} (number : K → ℕ) where
+  all_apart : (P : ℕ → Type 0) (ks : List K) → AllByRecursion P (map number ks) → AllByRecursion (λ k. P (number k)) ks
+  all_apart P [] h = tt
+  all_apart P (k ∷ ks) h = (h.0, all_apart P ks h.1)
+
+  all_numbers : (P : ℕ → Type 0) (ks : List K) → AllByRecursion (λ k. P (number k)) ks → AllByRecursion P (map number ks)
+  all_numbers P [] h = tt
+  all_numbers P (k ∷ ks) h = (h.0, all_numbers P ks h.1)
+
+  pub numbers_rise : (ks : List K) → EachPair (λ (x : ℕ) (y : ℕ). x < y) (map number ks) → EachPair (λ a b. number a < number b) ks
+  numbers_rise [] r = tt
+  numbers_rise (k ∷ ks) r = (all_apart (λ n. number k < n) ks r.0, numbers_rise ks r.1)
+
+  take_numbers : (n : ℕ) (ks : List K) → map number (take n ks) ≡ take n (map number ks)
+  take_numbers zero ks = refl
+  take_numbers (suc n) [] = refl
+  take_numbers (suc n) (k ∷ ks) = ap (λ ns. number k ∷ ns) (take_numbers n ks)
+
+  drop_numbers : (n : ℕ) (ks : List K) → map number (drop n ks) ≡ drop n (map number ks)
+  drop_numbers zero ks = refl
+  drop_numbers (suc n) [] = refl
+  drop_numbers (suc n) (k ∷ ks) = drop_numbers n ks
+
+  pub split_numbers : (key : ℕ) (ks : List K) (n : ℕ) → IsSplitBy (λ k. nat_lt (number k) key) ks n → IsSplitBy (λ k. nat_lt k key) (map number ks) n
+  split_numbers key ks n s = record {
+    bound = omega (arith, s.bound, length-map ks number);
+    passed = subst (λ (ns : List ℕ). AllByRecursion (λ k. nat_lt k key ≡ true) ns) (take_numbers n ks) (all_numbers (λ k. nat_lt k key ≡ true) (take n ks) s.passed);
+    failed = subst (λ (ns : List ℕ). AllByRecursion (λ k. nat_lt k key ≡ false) ns) (drop_numbers n ks) (all_numbers (λ k. nat_lt k key ≡ false) (drop n ks) s.failed);
+  }
+
+  pub insert_numbers : (ks : List K) (n : ℕ) (k : K) → map number (insert ks n k) ≡ insert (map number ks) n (number k)
+  insert_numbers [] zero k = refl
+  insert_numbers [] (suc n) k = refl
+  insert_numbers (j ∷ ks) zero k = refl
+  insert_numbers (j ∷ ks) (suc n) k = ap (λ ns. number j ∷ ns) (insert_numbers ks n k)
+
+  pub remove_numbers : (ks : List K) (n : ℕ) → map number (remove ks n) ≡ remove (map number ks) n
+  remove_numbers [] zero = refl
+  remove_numbers [] (suc n) = refl
+  remove_numbers (j ∷ ks) zero = refl
+  remove_numbers (j ∷ ks) (suc n) = ap (λ ns. number j ∷ ns) (remove_numbers ks n)
+
+  pub first_number : (ks : List K) (k : K) → 0 < length ks → k ≡ get_or ks 0 k → number k ≡ get_or (map number ks) 0 0
+  first_number [] k some is = absurd (omega (arith, some))
+  first_number (j ∷ ks) k some is = ap number is

@@ -1,0 +1,8 @@
+use Rattle.std.proofs.Common.{◌≡◌, take}
+use Rattle.acc_ordered.specs.Laid.{side_by_side}
+use Rattle.acc_ordered.specs.Listing.{told_in}
+use Rattle.acc_ordered.proofs.copying.copy_rows.Given as goal
+
+-- the entries of the rows so far are copied
+abbrev pub invariant-loop-row : goal.invariant-loop-row
+invariant-loop-row g l = l.copied.items ≡ told_in (g.C.Telling.told l.telling) (side_by_side (take l.row-index l.rows))

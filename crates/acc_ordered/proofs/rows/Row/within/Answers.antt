@@ -1,9 +1,0 @@
-use Rattle.acc_ordered.specs.Listing.{entry_in}
-use Rattle.acc_ordered.proofs.Within.{before_at, from_at}
-use Rattle.acc_ordered.proofs.rows.Row.within.Goals as goal
-
-pub returns-clause-before : goal.returns-clause-before
-returns-clause-before g c = before_at c.args.key c.args.first c.args.last c.args.self.now c.place-place.result (entry_in c.at.result) c.requires.ends c.requires.behind c.place-place.ensures c.at.ensures
-
-pub returns-clause-from : goal.returns-clause-from
-returns-clause-from g c = from_at c.args.key c.args.self.now c.place-place.result (entry_in c.at-2.result) c.place-place.ensures c.at-2.ensures

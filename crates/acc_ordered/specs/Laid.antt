@@ -1,0 +1,43 @@
+-- Rows of entries, laid side by side.
+use Rattle.std.specs.Prelude.{ℕ, ◌≡◌, ◌+◌, ◌<◌, ◌≤◌, List, [], ◌∷◌, length, map}
+use Rattle.std.specs.List.{AllByRecursion, flat_map}
+use Rattle.std.specs.Vec.{vec_len, vec_capacity}
+use Rattle.std.specs.declared.alloc.Global.{Global}
+use Rattle.std.specs.declared.vec.Vec.{Vec}
+use Rattle.acc_ordered.specs.Listing.{KeyValue, KeysRise}
+
+module _ {T : Type 0} where
+  abbrev pub itself : List (KeyValue T) → List (KeyValue T)
+  itself row = row
+
+  -- the entries of all rows, side by side
+  abbrev pub side_by_side : List (List (KeyValue T)) → List (KeyValue T)
+  side_by_side rows = flat_map itself rows
+
+  -- the least key of entries by rising key
+  abbrev pub least_key : List (KeyValue T) → ℕ
+  least_key [] = 0
+  least_key (e ∷ es) = e.key
+
+  -- a row has entries, at most 64
+  pub record IsRow (row : List (KeyValue T)) : Type 0 where
+    pub some : 0 < length row
+    pub most : length row ≤ 64
+
+  -- a row that waits is empty
+  abbrev pub IsWaiting : List (KeyValue T) → Type 0
+  IsWaiting row = row ≡ []
+
+  -- the keys rise from row to row, and the least of each row are known
+  pub record AreInRows (firsts : List ℕ) (rows : List (List (KeyValue T))) : Type 0 where
+    pub rising : KeysRise (side_by_side rows)
+    pub firsts_are : firsts ≡ map least_key rows
+    pub each : AllByRecursion IsRow rows
+
+  -- rows, rows that wait, and place for all of them in each list
+  pub record AreRows {K : Type 0} (number : K → ℕ) (firsts : Vec K Global) (rows spare : Vec (List (KeyValue T)) Global) : Type 0 where
+    pub in_rows : AreInRows (map number firsts.items) rows.items
+    pub waiting : AllByRecursion IsWaiting spare.items
+    pub places_firsts : vec_len rows + vec_len spare ≤ vec_capacity firsts
+    pub places_rows : vec_len rows + vec_len spare ≤ vec_capacity rows
+    pub places_spare : vec_len rows + vec_len spare ≤ vec_capacity spare

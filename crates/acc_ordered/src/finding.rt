@@ -1,0 +1,190 @@
+//! Where an entry stands, or would stand.
+ghost use Rattle.std.specs.Bool.{OnTrue};
+ghost use Rattle.std.specs.Prelude.{ℕ, ◌≡◌, ◌+◌, ◌^◌, ◌<◌, ◌≤◌, length, map, nat_lt, IsSome, slice_get};
+ghost use Rattle.std.specs.List.{AllByRecursion};
+ghost use Rattle.acc_base.specs.Accounts.{EachPair};
+ghost use Rattle.acc_base.specs.Splits.{IsSplitBy};
+ghost use Rattle.acc_ordered.specs.Listing.{at_key, seen};
+ghost use Rattle.acc_ordered.specs.Laid.{side_by_side, IsRow, AreInRows};
+ghost use Rattle.acc_ordered.specs.Spots.{index_of, get_before, IsTaken, IsInRow, IsPlaceOf, IsOfKeyAt};
+
+use crate::entries::KeyValueRef;
+use crate::keys::Key;
+use crate::places::Place;
+use crate::rows::Row;
+use crate::search::{count_many, parts};
+use acc_base::Steps;
+
+/// Where an entry of a key would be put: behind all entries of lower keys, in the row of the last of them. The search
+/// takes no branch by a key, since such branches are unpredictable. Each halving of the list of rows is a step.
+#[inline]
+pub fn place_of<K: Key, T: Copy>(
+    firsts: &[K],
+    rows: &[Row<K, T>],
+    key: K,
+    steps: &mut Steps,
+) -> Place
+    requires in_rows { AreInRows (map K.number firsts.now) rows.now }
+    requires limit { steps.old ≤ 2 ^ 32 }
+    ensures place { IsPlaceOf (K.number key) rows.now result }
+    ensures not_fewer { steps.old ≤ steps.new }
+    ensures steps { (d : ℕ) → length rows.now < 2 ^ d → steps.new ≤ steps.old + d }
+{
+    let behind = count_many(firsts, key, steps);
+    if behind == 0 {
+        return Place { row: 0, at: 0 };
+    }
+    let number = behind - 1;
+    let at = rows[number].place(key);
+    Place { row: number, at }
+}
+
+/// The last entry before a place, if there is one.
+#[inline]
+pub fn entry_before<'a, K: Key, T: Copy>(
+    rows: &'a [Row<K, T>],
+    place: Place,
+) -> Option<KeyValueRef<'a, K, T>>
+    requires within { IsInRow rows.now place }
+    requires first { place.at ≡ 0 → place.row ≡ 0 }
+    ensures { seen K.number result ≡ get_before (side_by_side rows.now) (index_of rows.now place) }
+{
+    if place.at == 0 {
+        return None;
+    }
+    Some(rows[place.row].at(place.at - 1))
+}
+
+/// The first entry from a place on, if there is one.
+#[inline]
+pub fn entry_from<'a, K: Key, T: Copy>(
+    rows: &'a [Row<K, T>],
+    place: Place,
+) -> Option<KeyValueRef<'a, K, T>>
+    requires each { AllByRecursion IsRow rows.now }
+    requires within { 0 < length rows.now → IsInRow rows.now place }
+    ensures { seen K.number result ≡ slice_get (side_by_side rows.now) (index_of rows.now place) }
+{
+    if rows.is_empty() {
+        return None;
+    }
+    let row = &rows[place.row];
+    if place.at < row.len() {
+        return Some(row.at(place.at));
+    }
+    if place.row + 1 == rows.len() {
+        return None;
+    }
+    Some(rows[place.row + 1].at(0))
+}
+
+/// Whether the entry of a key stands at a place.
+#[inline]
+pub fn stands_at<K: Key, T: Copy>(rows: &[Row<K, T>], key: K, place: Place) -> bool
+    ensures { OnTrue result (IsOfKeyAt (K.number key) rows.now place) }
+{
+    if place.row >= rows.len() {
+        return false;
+    }
+    let row = &rows[place.row];
+    if place.at >= row.len() {
+        return false;
+    }
+    let found = row.at(place.at);
+    if found.key.is_below(key) || key.is_below(found.key) {
+        return false;
+    }
+    true
+}
+
+/// Whether the first of some rising keys, and so none of them, lies below `key`.
+#[inline]
+fn parts_none<K: Key>(firsts: &[K], key: K) -> bool
+    requires rising { EachPair (λ a b. K.number a < K.number b) firsts.now }
+    requires some { 0 < length firsts.now }
+    ensures { OnTrue result (IsSplitBy (λ k. nat_lt (K.number k) (K.number key)) firsts.now 0) }
+{
+    if firsts[0].is_below(key) {
+        return false;
+    }
+    true
+}
+
+/// Whether an entry of a key would be put at a place.
+#[inline]
+fn fits<K: Key, T: Copy>(firsts: &[K], rows: &[Row<K, T>], key: K, place: Place) -> bool
+    requires in_rows { AreInRows (map K.number firsts.now) rows.now }
+    ensures { OnTrue result (IsPlaceOf (K.number key) rows.now place) }
+{
+    if place.row >= rows.len() {
+        return false;
+    }
+    if place.row == 0 && place.at == 0 {
+        return parts_none(firsts, key);
+    }
+    if !parts(firsts, key, place.row + 1) {
+        return false;
+    }
+    rows[place.row].parts(key, place.at)
+}
+
+/// Where an entry of a key would be put. It is looked for first at a place.
+#[inline]
+pub fn find_near<K: Key, T: Copy>(firsts: &[K], rows: &[Row<K, T>], key: K, near: Place) -> Place
+    requires in_rows { AreInRows (map K.number firsts.now) rows.now }
+    ensures { IsPlaceOf (K.number key) rows.now result }
+{
+    if fits(firsts, rows, key, near) {
+        return near;
+    }
+    place_of(firsts, rows, key, &mut Steps::new())
+}
+
+/// As [`find_near`], but it is looked for first right behind the place.
+#[inline]
+pub fn find_behind<K: Key, T: Copy>(firsts: &[K], rows: &[Row<K, T>], key: K, near: Place) -> Place
+    requires in_rows { AreInRows (map K.number firsts.now) rows.now }
+    ensures { IsPlaceOf (K.number key) rows.now result }
+{
+    let behind = Place {
+        row: near.row,
+        at: near.at.saturating_add(1),
+    };
+    if fits(firsts, rows, key, behind) {
+        return behind;
+    }
+    find_near(firsts, rows, key, near)
+}
+
+/// The place itself, or the first of the next row where it is behind all entries of its row.
+#[inline]
+pub fn ahead<K: Key, T: Copy>(rows: &[Row<K, T>], place: Place) -> Place
+    requires each { AllByRecursion IsRow rows.now }
+    requires within { IsInRow rows.now place }
+    requires some { index_of rows.now place < length (side_by_side rows.now) }
+    ensures taken { IsTaken rows.now result }
+    ensures number { index_of rows.now result ≡ index_of rows.now place }
+{
+    if place.at < rows[place.row].len() {
+        place
+    } else {
+        Place {
+            row: place.row + 1,
+            at: 0,
+        }
+    }
+}
+
+/// Where the entry of a key stands, which is there.
+#[inline]
+pub fn locate<K: Key, T: Copy>(firsts: &[K], rows: &[Row<K, T>], key: K, near: Place) -> Place
+    requires in_rows { AreInRows (map K.number firsts.now) rows.now }
+    requires there { IsSome (at_key (K.number key) (side_by_side rows.now)) }
+    ensures taken { IsTaken rows.now result }
+    ensures entry { slice_get (side_by_side rows.now) (index_of rows.now result) ≡ at_key (K.number key) (side_by_side rows.now) }
+{
+    if stands_at(rows, key, near) {
+        return near;
+    }
+    ahead(rows, place_of(firsts, rows, key, &mut Steps::new()))
+}

@@ -1,0 +1,237 @@
+//! An ordered list of entries in rows, each found by its key.
+ghost use Rattle.std.specs.Prelude.{ℕ, ◌≡◌, ◌↔◌, IsTrue, ◌+◌, ◌*◌, ◌^◌, ◌<◌, ◌≤◌, [], length, Some, None, IsSome, IfOk, IfErr, OnOk, OnErr};
+ghost use Rattle.acc_ordered.specs.Listing.{KeysRise, keyed, at_key, first_from, last_before, with_entry, without_key, with_value, told_in, seen};
+
+use crate::changes::{make_place, make_rows, put, start, take_out, write};
+use crate::copying::copy_rows;
+use crate::entries::{KeyValueRef, Neighbors, Telling};
+use crate::finding::{ahead, entry_before, entry_from, find_behind, find_near, locate, place_of};
+use crate::keys::Key;
+use crate::places::Place;
+use crate::rows::Row;
+use acc_base::{Fault, Steps};
+use std::alloc::Global;
+use std::marker::Model;
+
+/// Entries by rising key, and room for more of them.
+///
+/// They stand in rows of up to 64, keys apart from values, and the least key of each row in a list of its own. A look-up
+/// is a search in that list and one in a row, and neither takes a branch by a key. A change moves entries of one row or
+/// two. If a row comes or goes, it also moves the list of rows behind it, which grows with the number of entries. Memory
+/// is asked for by [`OrderedList::reserve`] alone: an entry more uses up at most one row that waits.
+///
+/// A call that takes a [`Place`] looks there first.
+#[derive(Drop)]
+pub struct OrderedList<K: Key, T: Copy> {
+    alloc: Global,
+    // The least key of each row.
+    firsts: Vec<K>,
+    // By rising key. None is empty.
+    rows: Vec<Row<K, T>>,
+    // Rows without entries, which wait for more.
+    spare: Vec<Row<K, T>>,
+}
+
+impl<K: Key, T: Copy> Model for OrderedList<K, T> {
+    ghost use Rattle.acc_ordered.specs.Listing.{Listing};
+
+    ghost Value = { Listing T };
+
+    ghost use Rattle.acc_ordered.specs.Sound.{listing_in_rows, AreSoundRows};
+
+    ghost view = { listing_in_rows };
+
+    ghost invariant = { AreSoundRows K.number };
+}
+
+impl<K: Key, T: Copy> OrderedList<K, T> {
+    /// No entries and no room. It needs no memory.
+    pub fn new(alloc: Global) -> OrderedList<K, T>
+        ensures entries { result.entries ≡ [] }
+        ensures room { result.room ≡ 0 }
+    {
+        OrderedList {
+            alloc,
+            firsts: Vec::new(alloc),
+            rows: Vec::new(alloc),
+            spare: Vec::new(alloc),
+        }
+    }
+
+    /// Makes room for `count` more entries.
+    ///
+    /// # Errors
+    ///
+    /// [`Fault::Memory`] alone, where the room was missing. The entries are as before, and the room never shrinks here.
+    pub fn reserve(&mut self, count: u64) -> Result<(), Fault>
+        ensures ok { OnOk result (count ≤ self.new.room) }
+        ensures entries { self.new.entries ≡ self.old.entries }
+        ensures room { self.old.room ≤ self.new.room }
+        ensures only { IfErr result (λ fault. fault ≡ Fault.Memory) }
+        ensures memory { OnErr result (self.old.room < count) }
+    {
+        make_rows(
+            self.alloc,
+            &mut self.firsts,
+            &mut self.rows,
+            &mut self.spare,
+            count as usize,
+        )
+    }
+
+    /// The entry of a key, if it is there, and where it stands. Else the place is the one where it would be put.
+    #[inline]
+    pub fn look_up(&self, key: K) -> (Option<KeyValueRef<'_, K, T>>, Place)
+        ensures { seen K.number result.0 ≡ at_key (K.number key) self.now.entries }
+    {
+        let place = place_of(&self.firsts, &self.rows, key, &mut Steps::new());
+        let Some(entry) = entry_from(&self.rows, place) else {
+            return (None, place);
+        };
+        if key.is_below(entry.key) {
+            (None, place)
+        } else {
+            (Some(entry), ahead(&self.rows, place))
+        }
+    }
+
+    /// Whether there is no entry.
+    #[inline]
+    pub fn is_empty(&self) -> bool
+        ensures { IsTrue result ↔ (self.now.entries ≡ []) }
+    {
+        self.rows.is_empty()
+    }
+
+    /// The entries on both sides of a key.
+    #[inline]
+    pub fn around(&self, key: K) -> Neighbors<'_, K, T>
+        ensures before { seen K.number result.before ≡ last_before (K.number key) self.now.entries }
+        ensures from { seen K.number result.from ≡ first_from (K.number key) self.now.entries }
+    {
+        self.around_counted(key, &mut Steps::new())
+    }
+
+    /// The entries on both sides of a key, by at most two steps for each binary digit of the number of entries. There is
+    /// one at least where there are entries. A step is a halving of the list of rows, or the look into one row. Not
+    /// counted are the keys that are compared there, and in the last 64 rows of the list: at most fifteen each. At most
+    /// 2^32 were counted before.
+    #[inline]
+    pub fn around_counted(&self, key: K, steps: &mut Steps) -> Neighbors<'_, K, T>
+        requires limit { steps.old ≤ 2 ^ 32 }
+        ensures before { seen K.number result.before ≡ last_before (K.number key) self.now.entries }
+        ensures from { seen K.number result.from ≡ first_from (K.number key) self.now.entries }
+        ensures not_fewer { steps.old ≤ steps.new }
+        ensures least { 0 < length self.now.entries → steps.old < steps.new }
+        ensures steps { (d : ℕ) → length self.now.entries < 2 ^ d → steps.new ≤ steps.old + 2 * d }
+    {
+        if self.rows.is_empty() {
+            return Neighbors {
+                before: None,
+                from: None,
+                place: Place::default(),
+            };
+        }
+        let place = place_of(&self.firsts, &self.rows, key, steps);
+        steps.tick();
+        Neighbors {
+            before: entry_before(&self.rows, place),
+            from: entry_from(&self.rows, place),
+            place: Place {
+                row: place.row,
+                at: place.at.saturating_sub(1),
+            },
+        }
+    }
+
+    /// The entry of least key from `key` on.
+    #[inline]
+    pub fn next(&self, key: K) -> Option<KeyValueRef<'_, K, T>>
+        ensures { seen K.number result ≡ first_from (K.number key) self.now.entries }
+    {
+        let place = place_of(&self.firsts, &self.rows, key, &mut Steps::new());
+        entry_from(&self.rows, place)
+    }
+
+    /// As [`OrderedList::next`], and where that entry stands. It is looked for first at a place and right behind it.
+    #[inline]
+    pub fn next_near(&self, key: K, near: Place) -> (Option<KeyValueRef<'_, K, T>>, Place)
+        ensures { seen K.number result.0 ≡ first_from (K.number key) self.now.entries }
+    {
+        if self.is_empty() {
+            return (None, near);
+        }
+        let place = find_behind(&self.firsts, &self.rows, key, near);
+        let Some(entry) = entry_from(&self.rows, place) else {
+            return (None, place);
+        };
+        (Some(entry), ahead(&self.rows, place))
+    }
+
+    /// Puts a value under a key that is not there yet, and returns where it stands. The place is looked for first near
+    /// another. It needs no memory.
+    pub fn insert(&mut self, key: K, value: T, near: Place) -> Place
+        requires room { 1 ≤ self.old.room }
+        requires new { at_key (K.number key) self.old.entries ≡ None }
+        ensures entries { self.new.entries ≡ with_entry (keyed (K.number key) value) self.old.entries }
+        ensures room { self.old.room ≤ self.new.room + 1 }
+    {
+        if self.rows.is_empty() {
+            start(
+                &mut self.firsts,
+                &mut self.rows,
+                &mut self.spare,
+                key,
+                value,
+            );
+            return Place { row: 0, at: 0 };
+        }
+        let found = find_near(&self.firsts, &self.rows, key, near);
+        let place = make_place(&mut self.firsts, &mut self.rows, &mut self.spare, found);
+        put(&mut self.firsts, &mut self.rows, place, key, value);
+        place
+    }
+
+    /// Takes out the entry of a key that is there. It is looked for first near a place.
+    pub fn remove(&mut self, key: K, near: Place)
+        requires there { IsSome (at_key (K.number key) self.old.entries) }
+        ensures entries { self.new.entries ≡ without_key (K.number key) self.old.entries }
+        ensures room { self.old.room ≤ self.new.room }
+    {
+        let place = locate(&self.firsts, &self.rows, key, near);
+        take_out(&mut self.firsts, &mut self.rows, &mut self.spare, place);
+    }
+
+    /// Writes the value of a key that is there. It is looked for first near a place.
+    pub fn set(&mut self, key: K, value: T, near: Place)
+        requires there { IsSome (at_key (K.number key) self.old.entries) }
+        ensures entries { self.new.entries ≡ with_value (K.number key) value self.old.entries }
+        ensures room { self.old.room ≤ self.new.room }
+    {
+        let place = locate(&self.firsts, &self.rows, key, near);
+        write(&mut self.rows, place, value);
+    }
+
+    /// A copy of each entry by rising key, in a vector of their own.
+    ///
+    /// # Errors
+    ///
+    /// [`Fault::Memory`] alone.
+    pub fn copy_entries<U: Copy, C: Telling<K, T, U>>(
+        &self,
+        alloc: Global,
+        telling: &C,
+    ) -> Result<Vec<U>, Fault>
+        ensures ok { IfOk result (λ copied. copied.items ≡ told_in (C.told telling.now) self.now.entries) }
+        ensures only { IfErr result (λ fault. fault ≡ Fault.Memory) }
+    {
+        copy_rows(alloc, &self.rows, telling)
+    }
+
+    /// That the keys rise. Nothing is done.
+    pub fn laws(&self)
+        ensures { KeysRise self.now.entries }
+    {
+        let _ = &self.rows;
+    }
+}

@@ -1,6 +1,0 @@
-use Rattle.std.proofs.Common.{◌+◌, refl, arith}
-use Rattle.acc_rows.proofs.Joining.{pair_at}
-use Rattle.acc_rows.proofs.changes.are_few.Goals as goal
-
-pub returns-then-row-rows : goal.returns-then-row-rows
-returns-then-row-rows g c = pair_at c.args.rows.now c.args.row (c.args.row + 1) c.len.result c.len-then-row-rows.result c.index-rows-row.result c.index-rows-row-then-row-rows.result refl (omega (arith, c.if-row-rows.true)) c.index-rows-row.is c.index-rows-row-then-row-rows.is (omega (arith, c.len.ensures, c.index-rows-row.result.ok.0)) (omega (arith, c.len-then-row-rows.ensures, c.index-rows-row-then-row-rows.result.ok.0))

@@ -184,11 +184,6 @@ module _ {T : Type 0} where
         each = rw c.new_is (AllByRecursion-append IsRow c.before (c.lower ∷ c.upper ∷ c.behind) (all_in_front IsRow c.before (c.row ∷ c.behind) each) (lower, (upper, (all_behind IsRow c.before (c.row ∷ c.behind) each).1)));
       }
 
-  -- the only entry is the last
-  pub only_entry : (es rest : List (KeyValue T)) (e : KeyValue T) → length es ≡ 1 → es ≡ rest ++ e ∷ [] → (rest ≡ []) × (e ≡ get_or es 0 e)
-  only_entry es [] e one is = (refl, sym (ap (λ fs. get_or fs 0 e) is))
-  only_entry es (f ∷ rest) e one is = absurd (omega (arith, one, ap length is, length-append rest (e ∷ [])))
-
   pub old_at : (old rows : List (List (KeyValue T))) (number cut : ℕ) → (c : IsCutInTwo old rows number cut) → IsRowAt old number c.row
   old_at old rows number cut c = record { before = c.before; behind = c.behind; is = c.old_is; number_is = c.number_is }
 

@@ -1,5 +1,5 @@
 -- The least keys of rows, as the numbers that they stand for.
-use Rattle.std.proofs.Common.{ℕ, zero, suc, ◌≡◌, ◌<◌, refl, ap, subst, true, false, List, [], ◌∷◌, length, get_or, take, drop, insert, arith}
+use Rattle.std.proofs.Common.{ℕ, zero, suc, ◌≡◌, ◌<◌, refl, ap, subst, true, false, List, [], ◌∷◌, take, drop, insert, arith}
 use Rattle.std.specs.Prelude.{map, nat_lt}
 use Rattle.std.specs.List.{AllByRecursion, remove}
 use Rattle.std.proofs.lemmas.List.{length-map}
@@ -47,7 +47,3 @@ module _ {K : Type 0} (number : K → ℕ) where
   remove_numbers [] (suc n) = refl
   remove_numbers (j ∷ ks) zero = refl
   remove_numbers (j ∷ ks) (suc n) = ap (λ ns. number j ∷ ns) (remove_numbers ks n)
-
-  pub first_number : (ks : List K) (k : K) → 0 < length ks → k ≡ get_or ks 0 k → number k ≡ get_or (map number ks) 0 0
-  first_number [] k some is = absurd (omega (arith, some))
-  first_number (j ∷ ks) k some is = ap number is

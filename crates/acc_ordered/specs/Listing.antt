@@ -34,17 +34,9 @@ module _ {T : Type 0} where
   abbrev pub at_key : ℕ → List (KeyValue T) → Option (KeyValue T)
   at_key key entries = find (λ e. e.key == key) entries
 
-  -- the value of a key
-  abbrev pub value_at : ℕ → List (KeyValue T) → Option T
-  value_at key entries = option_map (λ e. e.value) (at_key key entries)
-
   -- the first entry from a key on
   abbrev pub first_from : ℕ → List (KeyValue T) → Option (KeyValue T)
   first_from key entries = find (λ e. nat_le key e.key) entries
-
-  -- the first key from a key on
-  abbrev pub key_from : ℕ → List (KeyValue T) → Option ℕ
-  key_from key entries = option_map (λ e. e.key) (first_from key entries)
 
   -- an entry that was found
   abbrev pub entry_in : {K : Type 0} → (K → ℕ) → KeyValueRef K T → KeyValue T
@@ -77,16 +69,3 @@ module _ {T : Type 0} where
   -- the entries with another value at a key
   abbrev pub with_value : ℕ → T → List (KeyValue T) → List (KeyValue T)
   with_value key value entries = map (value_written key value) entries
-
-  -- the entries once the value of a key, if there was one, became another, or none
-  abbrev pub changed : ℕ → Option T → Option T → List (KeyValue T) → List (KeyValue T)
-  changed key None None entries = entries
-  changed key None (Some value) entries = with_entry (keyed key value) entries
-  changed key (Some old) None entries = without_key key entries
-  changed key (Some old) (Some value) entries = with_value key value entries
-
-  -- how many entries come by that
-  abbrev pub coming : Option T → Option T → ℕ
-  coming None None = 0
-  coming None (Some value) = 1
-  coming (Some old) becomes = 0

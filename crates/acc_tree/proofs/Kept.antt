@@ -2,11 +2,10 @@
 use Rattle.std.proofs.Common.{ℕ, ◌≡◌, ◌+◌, ◌<◌, refl, Bool, true, false, cond, List, [], ◌∷◌, length, None, arith}
 use Rattle.std.specs.Prelude.{◌==◌, not, nat_lt}
 use Rattle.std.proofs.lemmas.Bool.Decides.{nat_tests}
-use Rattle.acc_base.proofs.Elements.{AllByRecursion-weaker, EachPair-filter, EachPair-map, find_none}
+use Rattle.acc_base.proofs.Elements.{AllByRecursion-weaker, EachPair-filter, find_none}
 use Rattle.acc_base.proofs.InPlace.{IsPut, pairs-put}
 use Rattle.acc_tree.specs.declared.entries.Entry.{Entry}
-use Rattle.acc_tree.specs.Listing.{KeysRise, at_key, with_entry, without_key, value_written, with_value}
-use Rattle.acc_tree.proofs.Values.{key-written}
+use Rattle.acc_tree.specs.Listing.{KeysRise, at_key, with_entry, without_key}
 
 module _ {T : Type 0} where
   pub put_entry : (new : Entry T) → IsPut new (λ e. nat_lt new.key e.key) (with_entry new)
@@ -27,5 +26,3 @@ module _ {T : Type 0} where
   pub rise-without_key : (key : ℕ) (es : List (Entry T)) → KeysRise es → KeysRise (without_key key es)
   rise-without_key key es rising = EachPair-filter (λ (e : Entry T) (f : Entry T). e.key < f.key) (λ e. not (e.key == key)) es rising
 
-  pub rise-with_value : (key : ℕ) (value : T) (es : List (Entry T)) → KeysRise es → KeysRise (with_value key value es)
-  rise-with_value key value es rising = EachPair-map (λ (e : Entry T) (f : Entry T). e.key < f.key) (value_written key value) es (λ e f less. omega (arith, key-written key value e, key-written key value f)) rising

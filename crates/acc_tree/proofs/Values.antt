@@ -1,18 +1,13 @@
 -- A value written in a tree, which stays balanced, and what the entries keep.
-use Rattle.std.proofs.Common.{ℕ, ◌≡◌, refl, sym, subst, ◌∙◌, true, false, cond, length, Option, Some, None, Box, arith}
-use Rattle.std.specs.Prelude.{◌==◌}
+use Rattle.std.proofs.Common.{ℕ, ◌≡◌, sym, subst, ◌∙◌, length, Option, Some, None, Box, arith}
 use Rattle.std.specs.declared.alloc.Global.{Global}
 use Rattle.acc_tree.specs.declared.entries.Entry.{Entry}
-use Rattle.acc_tree.specs.Listing.{greatest_size, value_written}
+use Rattle.acc_tree.specs.Listing.{greatest_size}
 use Rattle.acc_tree.specs.Shape.{Shape}
 use Rattle.acc_tree.specs.Nodes.{entries_in, height_of, length_of, IsAlone, IsTall, IsAvl}
 use Rattle.acc_tree.specs.declared.nodes.Node.TheInside.{Inside}
 
 module _ {T : Type 0} where
-  -- an entry keeps its key
-  pub key-written : (key : ℕ) (value : T) (e : Entry T) → (value_written key value e).key ≡ e.key
-  key-written key value e = elim (e.key == key) as (λ b. (cond b (record e { value = value }) e).key ≡ e.key) [ true ↦ refl | false ↦ refl ]
-
   pub alone_same : (a b : Option (Box (Shape T) Global)) → length_of a ≡ length_of b → IsAlone b → IsAlone a
   alone_same None b e alone = tt
   alone_same (Some a) None e alone = absurd (omega arith)

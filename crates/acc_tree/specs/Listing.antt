@@ -1,5 +1,5 @@
 -- A list of entries by rising key: what a search in it finds, and how it changes.
-use Rattle.std.specs.Prelude.{ℕ, ◌+◌, ◌-◌, ◌^◌, ◌≤◌, ◌<◌, ◌==◌, ◌&&◌, not, if◌then◌else◌, nat_lt, nat_le, max, List, [], ◌∷◌, Option, Some, None, find, filter, map, option_map}
+use Rattle.std.specs.Prelude.{ℕ, ◌+◌, ◌-◌, ◌^◌, ◌≤◌, ◌<◌, ◌==◌, ◌&&◌, not, if◌then◌else◌, nat_lt, nat_le, max, List, [], ◌∷◌, Option, Some, None, find, filter, option_map}
 use Rattle.std.specs.List.{AllByRecursion}
 use Rattle.std.specs.Borrow.{Bor}
 use Rattle.std.specs.Option.{option_or}
@@ -60,14 +60,6 @@ module _ {T : Type 0} where
   -- the entries without that of a key
   abbrev pub without_key : ℕ → List (Entry T) → List (Entry T)
   without_key key entries = filter (λ e. not (e.key == key)) entries
-
-  -- the entry with another value, if it has the key
-  abbrev pub value_written : ℕ → T → Entry T → Entry T
-  value_written key value e = if e.key == key then record e { value = value } else e
-
-  -- the entries with another value at a key
-  abbrev pub with_value : ℕ → T → List (Entry T) → List (Entry T)
-  with_value key value entries = map (value_written key value) entries
 
   -- an entry whose first `size` are taken, before others; it goes where nothing of it is left
   abbrev pub cut_before : ℕ → Entry T → List (Entry T) → List (Entry T)

@@ -16,7 +16,7 @@ const ACCEPTED: [(&str, &str); 4] = [
 ];
 
 /// Command lines that are refused, and a text that standard error has then.
-const REFUSED: [(&str, &str); 35] = [
+const REFUSED: [(&str, &str); 39] = [
     (
         "--expect - -",
         "standard input cannot be both FILE and OUTPUT",
@@ -72,6 +72,13 @@ const REFUSED: [(&str, &str); 35] = [
         "'--random <SEED>' cannot be used with '--rows <FILE>...'",
     ),
     ("--lines 3", "--random <SEED>"),
+    ("--test", "'--test <PATH>...'"),
+    (
+        "--test wall --emit c",
+        "'--test <PATH>...' cannot be used with '--emit <LANGUAGE>'",
+    ),
+    ("--bless", "--test <PATH>..."),
+    ("--junit wall.xml", "--test <PATH>..."),
     ("--random 1 --lines 0", "'0' for '--lines <N>'"),
 ];
 
@@ -113,7 +120,8 @@ fn command_lines_are_read(rt: HostRuntime) -> Result<(), Fail> {
 
 /// What the help has to name, with bars between the words.
 const HELP_WORDS: &str =
-    "[FILE]|--expect <OUTPUT>|--echo|--json|--log|--explain|--svg <PICTURE>|--svg-every <PICTURE>|--html <PAGE>|\
+    "[FILE]|--test <PATH>|--bless|--junit <FILE>|--expect <OUTPUT>|--echo|--json|--log|--explain|--svg <PICTURE>|\
+    --svg-every <PICTURE>|--html <PAGE>|\
     --version|--emit <LANGUAGE>|--until-refusal|--rows <FILE>|--random <SEED>|--lines <N>|--devices <N>|--threads <N>|--drill <ROUNDS>|\
     --trace <WHAT>|read whole|array NAME|write PLACE|point PLACE to PLACE|data CLAUSES|copy(REFS)|\
     copyin(REFS)|copyout(REFS)|create(REFS)|no_create(REFS)|present(REFS)|attach(PLACES)|end data|\

@@ -44,7 +44,7 @@ impl From<io::Error> for Unread {
 }
 
 /// Reads and writes whole files by their names.
-pub trait FileStore {
+pub trait FileStore: Sync {
     /// Returns the bytes of a file.
     ///
     /// # Errors
@@ -74,7 +74,7 @@ pub struct Disk<'a, R> {
     pub rt: &'a R,
 }
 
-impl<R: Files + AllocGlobal + Clone + Drop> FileStore for Disk<'_, R> {
+impl<R: Files + AllocGlobal + Clone + Sync + Drop> FileStore for Disk<'_, R> {
     fn read(&self, name: &str) -> Result<Vec<u8>, Unread> {
         read_open(self.rt.alloc(), fs::open(self.rt, name)?)
     }

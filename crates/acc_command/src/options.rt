@@ -20,6 +20,9 @@ pub const DEFAULT_THREADS: u64 = 1;
 /// The default of `--lines`, as `DEFAULT_SIZE` is that of sizes.
 const DEFAULT_LINES: u64 = 40;
 
+/// The default of `--jobs`, as `DEFAULT_SIZE` is that of sizes.
+const DEFAULT_JOBS: u64 = 1;
+
 /// What a trace may keep of each event: what it did to counters, or also the bytes of all memories.
 const TRACES: &[&str] = &["counts", "full"];
 
@@ -43,6 +46,8 @@ pub struct Options<'a> {
     pub rows: &'a [&'a str],
     /// The files and folders whose scripts are run as tests, in place of a run.
     pub tests: &'a [&'a str],
+    /// How many of these run at a time.
+    pub jobs: u64,
     /// Whether what these print is written as what they have to print.
     pub bless: bool,
     /// The file for what came of them, as JUnit.
@@ -156,7 +161,15 @@ fn test_options<'a>(alloc: Global) -> Result<Vec<Arg<'a>>, Error> {
     let bless = flag(alloc, "bless", "Take what they print as right").requires_arg("test")?;
     let junit = valued(alloc, "junit", "FILE", "Write what came of them as JUnit");
     let junit = junit.requires_arg("test")?;
-    Ok(vec![in alloc; test, bless, junit]?)
+    let jobs = jobs_option(alloc)?;
+    Ok(vec![in alloc; test, bless, junit, jobs]?)
+}
+
+fn jobs_option<'a>(alloc: Global) -> Result<Arg<'a>, AllocError> {
+    valued(alloc, "jobs", "N", "How many of them run at a time")
+        .value_parser(value_parser!(u64).range(1..=64))
+        .default_value("1")
+        .requires_arg("test")
 }
 
 fn random_option<'a>(alloc: Global) -> Result<Arg<'a>, AllocError> {
@@ -410,6 +423,7 @@ pub fn options_of<'a>(matches: &'a ArgMatches<'_>) -> Options<'a> {
         until_refusal: matches.get_flag("until-refusal"),
         rows: matches.get_strs("rows").unwrap_or(&[]),
         tests: matches.get_strs("test").unwrap_or(&[]),
+        jobs: matches.get_one::<u64>("jobs").unwrap_or(DEFAULT_JOBS),
         bless: matches.get_flag("bless"),
         junit: matches.get_str("junit"),
         random: matches.get_one::<u64>("random"),
@@ -451,8 +465,9 @@ refused. The pictures of --svg-every have the number of the line in their names,
 as life.7.svg. In the page of --html arrow keys step through the script.
 
 A script of --test has to print what stands in its lines '#> ..', or else in
-NAME.out beside NAME.acc; a fault is the last line. With '# xfail: REASON' it
-has to fail; with '# requires: devices 2' it is skipped where there are fewer.
+NAME.out beside NAME.acc; what standard error gets stands behind the output. With
+'# xfail: REASON' it has to fail; with '# requires: devices 2' it is skipped
+where there are fewer.
 
 A program of --emit c does what the script does, and has the expected output in
 it; with --until-refusal it has to fail at the first statement that is refused.

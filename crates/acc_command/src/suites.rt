@@ -8,10 +8,10 @@ use acc_base::Fault;
 use acc_follow::Page;
 use acc_script::{MemorySink, MemorySource, Sink, Status, write_all};
 use acc_trials::{Played, Report, Trial, blessed, compared, expectation, lines_of};
-use std::alloc::Global;
+use std::alloc::{AllocError, Global};
 use std::collections::VecDeque;
 use std::sync::Wait;
-use std::thread::Threads;
+use std::thread::{self, Threads};
 
 /// Runs tests.
 #[derive(Drop)]
@@ -25,8 +25,8 @@ pub struct Tester<'a, 'b, R, D> {
 }
 
 impl<'a, R: Threads + Wait + Sync + AllocGlobal, D: FileStore> Tester<'a, '_, R, D> {
-    /// Runs the scripts of files and folders as tests, and writes what came of each; [`Status::Refused`] where one
-    /// failed.
+    /// Runs the scripts of files and folders as tests, some at a time, and writes what came of each in their order;
+    /// [`Status::Refused`] where one failed.
     ///
     /// # Errors
     ///
@@ -36,8 +36,8 @@ impl<'a, R: Threads + Wait + Sync + AllocGlobal, D: FileStore> Tester<'a, '_, R,
         let alloc = self.rt.alloc();
         let names = scripts_of(alloc, self.options.tests, self.files)?;
         let mut report = Report::new(alloc, names.len());
-        for name in &names {
-            self.add(&mut report, name.as_str())?;
+        for part in names.chunks(self.options.jobs.max(1) as usize) {
+            self.add(&mut report, part)?;
             write_page(out, &mut report.tap)?;
         }
         report.put_counts();
@@ -45,13 +45,29 @@ impl<'a, R: Threads + Wait + Sync + AllocGlobal, D: FileStore> Tester<'a, '_, R,
         self.end(&report)
     }
 
-    fn add(&self, report: &mut Report, name: &str) -> Result<(), Fault> {
+    /// Runs tests side by side, and adds what came of each.
+    fn add(&self, report: &mut Report, names: &[String]) -> Result<(), Fault> {
+        for (name, trial) in names.iter().zip(self.try_all(names)?) {
+            report.add(self.rt.alloc(), name.as_str(), &trial?)?;
+        }
+        Ok(())
+    }
+
+    fn try_all(&self, names: &[String]) -> Result<Vec<Result<Trial, Fault>>, AllocError> {
+        thread::map_indices(
+            self.rt,
+            self.rt.alloc(),
+            names.len(),
+            &|index| { self.try_name(names.get(index).map_or("", |name| name.as_str())) },
+        )
+    }
+
+    fn try_name(&self, name: &str) -> Result<Trial, Fault> {
         if self.options.bless {
             // Lines that are new or gone move others, and what these print may have their numbers.
             self.try_file(name)?;
         }
-        let trial = self.try_file(name)?;
-        report.add(self.rt.alloc(), name, &trial)
+        self.try_file(name)
     }
 
     /// Writes the file of JUnit, if there is to be one.
@@ -105,8 +121,9 @@ impl<'a, R: Threads + Wait + Sync + AllocGlobal, D: FileStore> Tester<'a, '_, R,
             return Ok(trial);
         }
         let mut sink = MemorySink::new(alloc);
-        self.play(options, script, &mut sink, told)?;
+        let place = self.play(options, script, &mut sink, told)?;
         let printed = lines_of(alloc, sink.as_slice())?;
+        told.lines.resize(printed.len(), place)?;
         self.judge(Played {
             name,
             lines: &lines,
@@ -115,35 +132,46 @@ impl<'a, R: Threads + Wait + Sync + AllocGlobal, D: FileStore> Tester<'a, '_, R,
         })
     }
 
-    /// Runs a script. A fault is the last line of what it prints, but for lack of memory.
+    /// Runs a script. Behind what it prints stands what standard error gets. It returns the number of the line that is
+    /// at fault, if one is, and else that of no line.
     fn play(
         &self,
         options: Options<'_>,
         script: &[u8],
         sink: &mut MemorySink,
         told: &mut Told,
-    ) -> Result<(), Fault> {
-        let alloc = self.rt.alloc();
-        let mut beside = MemorySink::new(alloc);
+    ) -> Result<u64, Fault> {
+        let mut beside = MemorySink::new(self.rt.alloc());
         let ends = Ends {
             out: &mut *sink,
             err: &mut beside,
             files: self.files,
             told: &mut *told,
         };
-        match use_script(self.rt, options, &mut MemorySource::new(script), ends) {
-            Ok(_) => Ok(()),
+        let ending = use_script(self.rt, options, &mut MemorySource::new(script), ends);
+        put_all(sink, beside.as_slice())?;
+        match ending {
+            Ok(_) => Ok(u64::MAX),
             // These sinks fail for lack of memory alone.
             Err(Mishap::Fault(Fault::Memory | Fault::Write)) => Err(Fault::Memory),
-            Err(mishap) => {
-                let before = sink.as_slice().len();
-                tell_mishap(alloc, sink, None, 0, mishap);
-                if sink.as_slice().len() == before {
-                    return Err(Fault::Memory);
-                }
-                Ok(told.lines.push(mishap.line())?)
-            }
+            Err(mishap) => self.put_mishap(sink, mishap, told),
         }
+    }
+
+    /// Puts why a script ended.
+    fn put_mishap(
+        &self,
+        sink: &mut MemorySink,
+        mishap: Mishap<'_>,
+        told: &Told,
+    ) -> Result<u64, Fault> {
+        let before = sink.as_slice().len();
+        tell_mishap(self.rt.alloc(), sink, None, 0, mishap);
+        if sink.as_slice().len() == before {
+            return Err(Fault::Memory);
+        }
+        put_all(sink, told.reason.whole()?)?;
+        Ok(mishap.line())
     }
 
     /// Judges what a script printed by the file that says what it has to print; one that is not there is empty.
@@ -178,6 +206,15 @@ impl<'a, R: Threads + Wait + Sync + AllocGlobal, D: FileStore> Tester<'a, '_, R,
             return Trial::failed(alloc, &["cannot write ", name]);
         }
         Trial::noted(alloc, &[], Page::new(alloc))
+    }
+}
+
+/// Adds to what a script printed, which fails for lack of memory alone.
+fn put_all(sink: &mut MemorySink, bytes: &[u8]) -> Result<(), Fault> {
+    if write_all(sink, bytes) {
+        Ok(())
+    } else {
+        Err(Fault::Memory)
     }
 }
 

@@ -1,5 +1,5 @@
 //! What the program does over sources, sinks and files in memory: where one of them fails, where memory cannot grow, and
-//! with options that `tests/scripts` cannot show. How scripts end at limits that no option gives.
+//! with options that `tests/commands` cannot show. How scripts end at limits that no option gives.
 
 use acc_command::{FileStore, Unread, tool};
 use acc_script::{MemorySink, MemorySource, Sink, Source};

@@ -202,7 +202,8 @@ fn difference(
     if front < wanted.len().max(found.len()) {
         let index = printed_before(played, found, front);
         let place = played.places.get(index).or(played.places.last());
-        let place = place.copied().unwrap_or(0).max(1);
+        let place = place.copied().unwrap_or(1);
+        let place = place.clamp(1, (played.lines.len() as u64).max(1));
         let statement = played.lines.get(place.wrapping_sub(1) as usize);
         put_heading(&mut page, played.name, name, place, index.saturating_add(1));
         put_diff(

@@ -16,7 +16,7 @@ const ACCEPTED: [(&str, &str); 4] = [
 ];
 
 /// Command lines that are refused, and a text that standard error has then.
-const REFUSED: [(&str, &str); 39] = [
+const REFUSED: [(&str, &str); 41] = [
     (
         "--expect - -",
         "standard input cannot be both FILE and OUTPUT",
@@ -79,6 +79,8 @@ const REFUSED: [(&str, &str); 39] = [
     ),
     ("--bless", "--test <PATH>..."),
     ("--junit wall.xml", "--test <PATH>..."),
+    ("--jobs 2", "--test <PATH>..."),
+    ("--test wall --jobs 0", "'0' for '--jobs <N>'"),
     ("--random 1 --lines 0", "'0' for '--lines <N>'"),
 ];
 
@@ -120,7 +122,7 @@ fn command_lines_are_read(rt: HostRuntime) -> Result<(), Fail> {
 
 /// What the help has to name, with bars between the words.
 const HELP_WORDS: &str =
-    "[FILE]|--test <PATH>|--bless|--junit <FILE>|--expect <OUTPUT>|--echo|--json|--log|--explain|--svg <PICTURE>|\
+    "[FILE]|--test <PATH>|--bless|--junit <FILE>|--jobs <N>|--expect <OUTPUT>|--echo|--json|--log|--explain|--svg <PICTURE>|\
     --svg-every <PICTURE>|--html <PAGE>|\
     --version|--emit <LANGUAGE>|--until-refusal|--rows <FILE>|--random <SEED>|--lines <N>|--devices <N>|--threads <N>|--drill <ROUNDS>|\
     --trace <WHAT>|read whole|array NAME|write PLACE|point PLACE to PLACE|data CLAUSES|copy(REFS)|\

@@ -5,7 +5,7 @@ use crate::file_stores::{FileStore, Unread};
 use crate::options::Options;
 use crate::tools::{Ends, Told, options_for, use_script};
 use acc_base::Fault;
-use acc_follow::Page;
+use acc_follow::{Page, warnings_of};
 use acc_script::{MemorySink, MemorySource, Sink, Status, write_all};
 use acc_trials::{Played, Report, Trial, blessed, compared, expectation, lines_of};
 use std::alloc::{AllocError, Global};
@@ -124,12 +124,16 @@ impl<'a, R: Threads + Wait + Sync + AllocGlobal, D: FileStore> Tester<'a, '_, R,
         let place = self.play(options, script, &mut sink, told)?;
         let printed = lines_of(alloc, sink.as_slice())?;
         told.lines.resize(printed.len(), place)?;
-        self.judge(Played {
+        let mut trial = self.judge(Played {
             name,
             lines: &lines,
             printed: &printed,
             places: &told.lines,
-        })
+        })?;
+        if !options.views.explain {
+            trial.warnings = warnings_of(alloc, "", script)?;
+        }
+        Ok(trial)
     }
 
     /// Runs a script. Behind what it prints stands what standard error gets. It returns the number of the line that is

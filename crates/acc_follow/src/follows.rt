@@ -8,11 +8,14 @@ use crate::picture_sinks::{Frame, PictureSink, Stop};
 use crate::ran_lines::{RanLine, picture_of};
 use crate::timelines::Timeline;
 use acc_base::{Config, Event, Fault, ScriptFault};
-use acc_explain::fault_column;
+use acc_explain::{fault_column, warnings_of};
 use acc_log::Log;
 use acc_picture::Caption;
 use acc_read::{Names, Page, Statement};
-use acc_script::{Effect, MemorySink, Session, Sink, Source, Status, Watcher, run, write_all};
+use acc_script::{
+    Effect, MemorySink, MemorySource, Session, Sink, Source, Status, Watcher, read_all, run,
+    write_all,
+};
 use std::alloc::Global;
 use std::sync::Wait;
 use std::thread::Threads;
@@ -76,13 +79,37 @@ pub struct Beside<'a, E, G> {
     pub lines: &'a mut Vec<u64>,
 }
 
-/// Runs a whole script as [`run`] does, and shows more of it.
+/// Runs a whole script as [`run`] does, and shows more of it. Where it is explained, warnings come first.
 ///
 /// # Errors
 ///
 /// Those of [`run`], and [`Fault::Memory`] where there is none for what is shown. [`Stop::Picture`] where a picture
 /// cannot be kept. Where something cannot be shown, nothing more is shown, and the script runs on.
 pub fn follow<R: Threads + Wait + Sync + AllocGlobal, S: Source, O: Sink, E: Sink, G: PictureSink>(
+    rt: &R,
+    setting: Setting,
+    reader: &mut S,
+    out: &mut O,
+    beside: Beside<'_, E, G>,
+) -> Result<Status, Stop>
+    requires { (1 ≤ setting.parts) × (setting.parts ≤ 64) }
+{
+    if !setting.views.explain {
+        return follow_lines(rt, setting, reader, out, beside);
+    }
+    let script = read_all(rt.alloc(), reader)?;
+    let warnings = warnings_of(rt.alloc(), "accrun: line ", &script)?;
+    let _ = write_all(beside.err, warnings.as_slice());
+    follow_lines(rt, setting, &mut MemorySource::new(&script), out, beside)
+}
+
+fn follow_lines<
+    R: Threads + Wait + Sync + AllocGlobal,
+    S: Source,
+    O: Sink,
+    E: Sink,
+    G: PictureSink,
+>(
     rt: &R,
     setting: Setting,
     reader: &mut S,

@@ -42,6 +42,11 @@ impl Report {
         self.failed = self.failed.saturating_add(u64::from(trial.is_failed()));
         self.noted = self.noted.saturating_add(u64::from(!note.is_empty()));
         put_trial(&mut self.tap, self.all, name, note, &wrong);
+        put_warnings(
+            &mut self.tap,
+            name,
+            &lines_of(alloc, trial.warnings.as_slice())?,
+        );
         put_element(&mut self.elements, name, note, &wrong);
         Ok(())
     }
@@ -90,6 +95,15 @@ fn put_trial(page: &mut Page, number: u64, name: &str, note: &[u8], wrong: &[&[u
         page.text("  ---\n  message: |\n");
         put_lines(page, "    ", wrong);
         page.text("  ...\n");
+    }
+}
+
+/// Puts warnings as comments, each behind the name of the script.
+fn put_warnings(page: &mut Page, name: &str, warnings: &[&[u8]]) {
+    for warning in warnings {
+        page.text("# ");
+        put_name(page, name);
+        put_line(page, ":", warning);
     }
 }
 

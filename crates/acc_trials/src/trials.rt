@@ -22,6 +22,8 @@ pub struct Trial {
     pub(crate) note: Page,
     /// Where and how it failed; nothing where it did not.
     pub(crate) wrong: Page,
+    /// What its author may not mean, each line behind the number of the script's.
+    pub warnings: Page,
 }
 
 impl Trial {
@@ -35,7 +37,12 @@ impl Trial {
         put_texts(&mut note, texts);
         note.whole()?;
         wrong.whole()?;
-        Ok(Trial { note, wrong })
+        let warnings = Page::new(alloc);
+        Ok(Trial {
+            note,
+            wrong,
+            warnings,
+        })
     }
 
     /// Whether it failed, and has not to.

@@ -32,7 +32,9 @@ const VERSION: &str = "0.1.0 (OpenACC 3.3)";
 /// What the command line asks for.
 #[derive(Clone, Copy)]
 pub struct Options<'a> {
-    /// The file that has the script; `None` for standard input.
+    /// The files that have scripts, of which `-` is standard input; none for standard input alone.
+    pub files: &'a [&'a str],
+    /// The one of these that is run; `None` for standard input.
     pub file: Option<&'a str>,
     /// The file that the output is compared with, in place of writing it.
     pub expect: Option<&'a str>,
@@ -114,8 +116,9 @@ fn trace_option<'a>(alloc: Global) -> Arg<'a> {
 
 fn file_argument<'a>(alloc: Global) -> Arg<'a> {
     Arg::new(alloc, "FILE")
-        .help("The script, in place of standard input")
+        .help("Scripts, in place of standard input")
         .action(ArgAction::Set)
+        .num_args(1..)
 }
 
 fn expect_option<'a>(alloc: Global) -> Result<Arg<'a>, AllocError> {
@@ -133,6 +136,9 @@ const LANGUAGES: &[&str] = &["c"];
 
 /// Options of runs, which do not go with what is done in place of one.
 const OF_RUNS: &[&str] = &["echo", "json", "log", "explain", "svg", "svg-every", "html"];
+
+/// Options that name a file for what comes of a script, and that of a program.
+const OF_ONE_FILE: &[&str] = &["expect", "emit", "svg", "svg-every", "html"];
 
 /// What is done in place of a run, or of tests.
 const INSTEAD: &[&str] = &["emit", "rows", "random", "drill", "expect", "FILE"];
@@ -312,10 +318,18 @@ fn parsed_by<'a, S: AsStr>(
 
 /// Whether a file is standard input.
 fn is_input(matches: &ArgMatches<'_>, name: &str) -> bool {
-    match matches.get_str(name) {
-        Some(text) => text == "-",
-        None => false,
+    matches.get_strs(name).unwrap_or(&[]).contains(&"-")
+}
+
+/// What goes with one file alone, where it is asked for and there are several.
+fn of_one_file(matches: &ArgMatches<'_>) -> Option<&'static str> {
+    if matches.get_strs("FILE").unwrap_or(&[]).len() < 2 {
+        return None;
     }
+    OF_ONE_FILE
+        .iter()
+        .copied()
+        .find(|name| matches.contains_id(name))
 }
 
 /// What is wrong with the files or the sizes, if anything is.
@@ -323,6 +337,9 @@ fn bad_value(alloc: Global, matches: &ArgMatches<'_>) -> Result<Option<String>, 
     if is_input(matches, "FILE") && is_input(matches, "expect") {
         let told = String::from_str(alloc, "standard input cannot be both FILE and OUTPUT")?;
         return Ok(Some(told));
+    }
+    if let Some(name) = of_one_file(matches) {
+        return Ok(Some(format!(in alloc; "'--{name}' goes with one FILE alone")?));
     }
     match size_told(alloc, "host", matches.get_str("host").unwrap_or(""))? {
         Some(text) => Ok(Some(text)),
@@ -407,7 +424,8 @@ fn with_scripts<'a>(alloc: Global, command: Command<'a>) -> Result<Command<'a>, 
 /// What a command line asks for.
 pub fn options_of<'a>(matches: &'a ArgMatches<'_>) -> Options<'a> {
     Options {
-        file: matches.get_str("FILE").filter(|name| *name != "-"),
+        files: matches.get_strs("FILE").unwrap_or(&[]),
+        file: None,
         expect: matches.get_str("expect"),
         views: Views {
             echo: matches.get_flag("echo"),
@@ -448,7 +466,7 @@ fn given<'a>(matches: &ArgMatches<'a>, name: &str) -> Option<&'a str> {
     }
 }
 
-const USAGE: &str = "accrun [OPTIONS] [FILE]";
+const USAGE: &str = "accrun [OPTIONS] [FILE]...";
 
 /// What the long help has after the options: the statements, an example, the status.
 const AFTER_HELP: &str = "\
@@ -458,8 +476,9 @@ depends neither on threads nor on the trace. A drill prints what it leaves: the
 allowance of regions, the number of events, and both counters of its array.
 
 The script is FILE, or comes on standard input; for FILE and OUTPUT '-' is
-standard input too. It is read whole before its first line runs. If the first
-line of FILE is '# options: ..', it says what the command line leaves open. With
+standard input too. It is read whole before its first line runs. Each FILE has a
+table of its own, and the status is that of the worst. If the first line of FILE
+is '# options: ..', it says what the command line leaves open. With
 --expect the status is 1 where the output differs, and 0 else, whatever was
 refused. The pictures of --svg-every have the number of the line in their names,
 as life.7.svg. In the page of --html arrow keys step through the script.

@@ -68,7 +68,7 @@ pub fn tell_words<E: Sink>(err: &mut E, fault: WordsFault) -> u8 {
 /// or [`FAULTED`].
 ///
 /// `words` begins with the program's name. A script comes from `reader`, or from a file, whose first line may have more
-/// options. What it prints goes to `out`, or is compared with a file.
+/// options. Several files are run one after the other, and the status is the greatest of theirs. What it prints goes to `out`, or is compared with a file.
 ///
 /// For a fault of the command line the parser's words go to `err`, and nothing is read. For any other fault one line
 /// goes there, behind the flush of `out`. The reason follows, with `--explain` or where a first line is wrong. Only the
@@ -83,9 +83,29 @@ pub fn tool<R: Threads + Wait + Sync + AllocGlobal, S: Source, O: Sink, E: Sink,
     files: &D,
 ) -> u8 {
     match parsed_words(rt.alloc(), &words) {
-        Ok(matches) => do_asked(rt, options_of(&matches), reader, out, err, files),
+        Ok(matches) => do_all(rt, options_of(&matches), reader, out, err, files),
         Err(error) => tell_usage(rt, out, err, &error),
     }
+}
+
+/// Does what is asked for with each file, in their order, or else with standard input; returns the greatest status.
+fn do_all<R: Threads + Wait + Sync + AllocGlobal, S: Source, O: Sink, E: Sink, D: FileStore>(
+    rt: &R,
+    options: Options<'_>,
+    reader: &mut S,
+    out: &mut O,
+    err: &mut E,
+    files: &D,
+) -> u8 {
+    let mut status = CLEAN;
+    for name in options.files {
+        let file = Some(*name).filter(|name| *name != "-");
+        status = status.max(do_asked(rt, Options { file, ..options }, reader, out, err, files));
+    }
+    if options.files.is_empty() {
+        status = do_asked(rt, options, reader, out, err, files);
+    }
+    status
 }
 
 fn do_asked<R: Threads + Wait + Sync + AllocGlobal, S: Source, O: Sink, E: Sink, D: FileStore>(

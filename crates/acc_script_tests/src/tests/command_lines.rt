@@ -9,7 +9,7 @@ use std::thread::Threads;
 
 /// Command lines that are accepted, and a text that standard output has then for an empty script.
 const ACCEPTED: [(&str, &str); 4] = [
-    ("--help", "Usage: accrun [OPTIONS] [FILE]"),
+    ("--help", "Usage: accrun [OPTIONS] [FILE]..."),
     ("-h", "[possible values: counts, full]\n"),
     ("--emit c --threads 2 --host 64", "int main("),
     ("--random 1 --lines 1", "wait\nshow a\n"),
@@ -58,7 +58,7 @@ const REFUSED: [(&str, &str); 41] = [
     ("life.acc --drill 1", "'--drill <ROUNDS>'"),
     ("--expect -", "[FILE]"),
     ("--svg", "'--svg <PICTURE>'"),
-    ("life.acc life.acc", "'life.acc'"),
+    ("life.acc life.acc --svg wall.svg", "'--svg' goes with one FILE"),
     ("--host", "'--host <BYTES>'"),
     ("--rows", "'--rows <FILE>...'"),
     ("--rows life.acc", "accrun: cannot read life.acc"),

@@ -26,7 +26,7 @@ pub fn emit_script<'a, R: Threads + Wait + Sync + AllocGlobal, S: Source, O: Sin
     out: &mut O,
 ) -> Result<Status, Mishap<'a>> {
     let script = read_all(rt.alloc(), reader)?;
-    let page = emit(rt, config, &script, options.until_refusal)?;
+    let page = emit(rt, config, options.file, &script, options.until_refusal)?;
     write_page(out, &page)
 }
 

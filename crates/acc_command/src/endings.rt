@@ -5,7 +5,7 @@ use acc_base::Fault;
 use acc_emit::{EmitFault, Reason};
 use acc_follow::{Difference, Page};
 use acc_script::{Sink, write_all};
-use acc_trials::Machine;
+use acc_trials::{Machine, put_texts};
 use arrayvec::ArrayString;
 use std::alloc::Global;
 use std::fmt::{self, Write};
@@ -88,13 +88,6 @@ fn put_mishap(page: &mut Page, file: Option<&str>, mishap: Mishap<'_>) {
         Mishap::Unfit(line, reason) => put_unfit(page, file, line, reason.text()),
         // These are told elsewhere.
         Mishap::FirstLine | Mishap::Fault(_) | Mishap::Within(..) => {}
-    }
-}
-
-/// Puts texts, one behind the other.
-pub fn put_texts(page: &mut Page, texts: &[&str]) {
-    for text in texts {
-        page.text(text);
     }
 }
 

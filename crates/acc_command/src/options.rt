@@ -484,10 +484,11 @@ refused. The pictures of --svg-every have the number of the line in their names,
 as life.7.svg. In the page of --html arrow keys step through the script.
 
 A script of --test has to print what stands in its lines '#> ..', or else in
-NAME.out beside NAME.acc; what standard error gets stands behind the output. With
-'# xfail: REASON' it has to fail; with '# requires: devices 2' it is skipped
-where there are fewer. With '# wants: past-the-end' a section may reach past its
-array with no warning, and with '# wants: unused-names' an array may be unused.
+NAME.out beside NAME.acc; what standard error gets stands behind the output.
+With '# xfail: REASON' it has to fail; with '# requires: devices 2' it is
+skipped where there are fewer. With '# wants: past-the-end' a section may reach
+past its array with no warning, and with '# wants: unused-names' an array may be
+unused.
 
 A program of --emit c does what the script does, and has the expected output in
 it; with --until-refusal it has to fail at the first statement that is refused.

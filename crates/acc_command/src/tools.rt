@@ -3,9 +3,7 @@
 ghost use Rattle.std.specs.Prelude.{◌≤◌};
 
 use crate::drills::run_drill;
-use crate::endings::{
-    Mishap, put_sizes, put_texts, tell, tell_difference, tell_mishap, tell_sizes,
-};
+use crate::endings::{Mishap, put_sizes, tell, tell_difference, tell_mishap, tell_sizes};
 use crate::file_stores::FileStore;
 use crate::options::{DEFAULT_THREADS, Options, options_of, parsed_words, with_first_line};
 use crate::picture_files::PictureFiles;
@@ -15,6 +13,7 @@ use crate::words::WordsFault;
 use acc_base::{Config, Fault};
 use acc_follow::{Beside, Frame, Page, Setting, Stop, first_difference, follow};
 use acc_script::{MemorySink, MemorySource, Sink, Source, Status, read_all, write_all};
+use acc_trials::put_texts;
 use clap::Error;
 use clap::error::ErrorKind;
 use std::alloc::Global;

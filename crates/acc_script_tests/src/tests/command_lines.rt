@@ -58,7 +58,10 @@ const REFUSED: [(&str, &str); 41] = [
     ("life.acc --drill 1", "'--drill <ROUNDS>'"),
     ("--expect -", "[FILE]"),
     ("--svg", "'--svg <PICTURE>'"),
-    ("life.acc life.acc --svg wall.svg", "'--svg' goes with one FILE"),
+    (
+        "life.acc life.acc --svg wall.svg",
+        "'--svg' goes with one FILE",
+    ),
     ("--host", "'--host <BYTES>'"),
     ("--rows", "'--rows <FILE>...'"),
     ("--rows life.acc", "accrun: cannot read life.acc"),

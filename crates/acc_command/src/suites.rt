@@ -104,7 +104,21 @@ impl<'a, R: Threads + Wait + Sync + AllocGlobal, D: FileStore> Tester<'a, '_, R,
             Err(Mishap::Fault(fault)) => return Err(fault),
             Err(_) => return Trial::noted(alloc, &[], told.reason),
         };
-        self.try_with(options, name, script, &mut told)
+        let trial = self.try_with(options, name, script, &mut told)?;
+        self.warned(options, script, trial)
+    }
+
+    /// Adds warnings to what came of a script, unless it was explained, which told them.
+    fn warned(
+        &self,
+        options: Options<'_>,
+        script: &[u8],
+        mut trial: Trial,
+    ) -> Result<Trial, Fault> {
+        if !options.views.explain {
+            trial.warnings = warnings_of(self.rt.alloc(), "", script)?;
+        }
+        Ok(trial)
     }
 
     /// Runs a script with its options, unless these do not give what it requires, and judges what it prints.
@@ -122,18 +136,26 @@ impl<'a, R: Threads + Wait + Sync + AllocGlobal, D: FileStore> Tester<'a, '_, R,
         }
         let mut sink = MemorySink::new(alloc);
         let place = self.play(options, script, &mut sink, told)?;
-        let printed = lines_of(alloc, sink.as_slice())?;
-        told.lines.resize(printed.len(), place)?;
-        let mut trial = self.judge(Played {
+        self.judge_text(name, &lines, sink.as_slice(), place, &mut told.lines)
+    }
+
+    /// Judges what a script printed, with the number of the line that printed the last of it.
+    fn judge_text(
+        &self,
+        name: &str,
+        lines: &[&[u8]],
+        text: &[u8],
+        last: u64,
+        places: &mut Vec<u64>,
+    ) -> Result<Trial, Fault> {
+        let printed = lines_of(self.rt.alloc(), text)?;
+        places.resize(printed.len(), last)?;
+        self.judge(Played {
             name,
-            lines: &lines,
+            lines,
             printed: &printed,
-            places: &told.lines,
-        })?;
-        if !options.views.explain {
-            trial.warnings = warnings_of(alloc, "", script)?;
-        }
-        Ok(trial)
+            places,
+        })
     }
 
     /// Runs a script. Behind what it prints stands what standard error gets. It returns the number of the line that is

@@ -136,25 +136,13 @@ impl<'a, R: Threads + Wait + Sync + AllocGlobal, D: FileStore> Tester<'a, '_, R,
         }
         let mut sink = MemorySink::new(alloc);
         let place = self.play(options, script, &mut sink, told)?;
-        self.judge_text(name, &lines, sink.as_slice(), place, &mut told.lines)
-    }
-
-    /// Judges what a script printed, with the number of the line that printed the last of it.
-    fn judge_text(
-        &self,
-        name: &str,
-        lines: &[&[u8]],
-        text: &[u8],
-        last: u64,
-        places: &mut Vec<u64>,
-    ) -> Result<Trial, Fault> {
-        let printed = lines_of(self.rt.alloc(), text)?;
-        places.resize(printed.len(), last)?;
+        let printed = lines_of(alloc, sink.as_slice())?;
+        told.lines.resize(printed.len(), place)?;
         self.judge(Played {
             name,
-            lines,
+            lines: &lines,
             printed: &printed,
-            places,
+            places: &told.lines,
         })
     }
 

@@ -44,7 +44,7 @@ impl From<io::Error> for Unread {
 }
 
 /// Reads and writes whole files by their names.
-pub trait FileStore: Sync {
+pub trait FileStore {
     /// Returns the bytes of a file.
     ///
     /// # Errors

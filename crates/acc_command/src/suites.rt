@@ -24,7 +24,7 @@ pub struct Tester<'a, 'b, R, D> {
     pub files: &'b D,
 }
 
-impl<'a, R: Threads + Wait + Sync + AllocGlobal, D: FileStore> Tester<'a, '_, R, D> {
+impl<'a, R: Threads + Wait + Sync + AllocGlobal, D: FileStore + Sync> Tester<'a, '_, R, D> {
     /// Runs the scripts of files and folders as tests, some at a time, and writes what came of each in their order;
     /// [`Status::Refused`] where one failed.
     ///

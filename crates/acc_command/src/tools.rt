@@ -73,14 +73,13 @@ pub fn tell_words<E: Sink>(err: &mut E, fault: WordsFault) -> u8 {
 /// goes there, behind the flush of `out`. The reason follows, with `--explain` or where a first line is wrong. Only the
 /// first fault is told, in this order: the expected output cannot be read; [`Fault::BadConfig`]; those of the run;
 /// [`Fault::Write`] where the flush fails. Help and the version go to `out`. A failure of `err` changes nothing.
-pub fn tool<R: Threads + Wait + Sync + AllocGlobal, S: Source, O: Sink, E: Sink, D: FileStore>(
-    rt: &R,
-    words: Vec<String>,
-    reader: &mut S,
-    out: &mut O,
-    err: &mut E,
-    files: &D,
-) -> u8 {
+pub fn tool<
+    R: Threads + Wait + Sync + AllocGlobal,
+    S: Source,
+    O: Sink,
+    E: Sink,
+    D: FileStore + Sync,
+>(rt: &R, words: Vec<String>, reader: &mut S, out: &mut O, err: &mut E, files: &D) -> u8 {
     match parsed_words(rt.alloc(), &words) {
         Ok(matches) => do_all(rt, options_of(&matches), reader, out, err, files),
         Err(error) => tell_usage(rt, out, err, &error),
@@ -88,7 +87,7 @@ pub fn tool<R: Threads + Wait + Sync + AllocGlobal, S: Source, O: Sink, E: Sink,
 }
 
 /// Does what is asked for with each file, in their order, or else with standard input; returns the greatest status.
-fn do_all<R: Threads + Wait + Sync + AllocGlobal, S: Source, O: Sink, E: Sink, D: FileStore>(
+fn do_all<R: Threads + Wait + Sync + AllocGlobal, S: Source, O: Sink, E: Sink, D: FileStore + Sync>(
     rt: &R,
     options: Options<'_>,
     reader: &mut S,
@@ -107,14 +106,13 @@ fn do_all<R: Threads + Wait + Sync + AllocGlobal, S: Source, O: Sink, E: Sink, D
     status
 }
 
-fn do_asked<R: Threads + Wait + Sync + AllocGlobal, S: Source, O: Sink, E: Sink, D: FileStore>(
-    rt: &R,
-    options: Options<'_>,
-    reader: &mut S,
-    out: &mut O,
-    err: &mut E,
-    files: &D,
-) -> u8 {
+fn do_asked<
+    R: Threads + Wait + Sync + AllocGlobal,
+    S: Source,
+    O: Sink,
+    E: Sink,
+    D: FileStore + Sync,
+>(rt: &R, options: Options<'_>, reader: &mut S, out: &mut O, err: &mut E, files: &D) -> u8 {
     let mut told = Told::new(rt.alloc());
     let ends = Ends {
         out: &mut *out,
@@ -203,7 +201,7 @@ fn carried_out<
     S: Source,
     O: Sink,
     E: Sink,
-    D: FileStore,
+    D: FileStore + Sync,
 >(
     rt: &R,
     options: Options<'a>,
@@ -289,7 +287,14 @@ fn read_expected<'a, R: AllocGlobal, S: Source, D: FileStore>(
     }
 }
 
-fn compared<'a, R: Threads + Wait + Sync + AllocGlobal, S: Source, O: Sink, E: Sink, D: FileStore>(
+fn compared<
+    'a,
+    R: Threads + Wait + Sync + AllocGlobal,
+    S: Source,
+    O: Sink,
+    E: Sink,
+    D: FileStore + Sync,
+>(
     rt: &R,
     options: Options<'a>,
     name: &'a str,

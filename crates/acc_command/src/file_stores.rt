@@ -3,8 +3,8 @@
 use acc_base::Fault;
 use acc_script::{FromRead, read_all};
 use std::alloc::Global;
-use std::fs::{self, OpenFile};
-use std::io::{ErrorKind, Read, Write};
+use std::fs::{self, DirEntry, OpenFile};
+use std::io::{self, ErrorKind, Read};
 use std::rt::Files;
 
 /// Why a file cannot be read.
@@ -12,8 +12,35 @@ use std::rt::Files;
 pub enum Unread {
     /// There is no memory for it.
     Memory,
+    /// It is not there.
+    Absent,
     /// The system does not give it, or it is too long: why, in words.
     Because(&'static str),
+}
+
+impl Unread {
+    /// Why, in words.
+    ///
+    /// # Errors
+    ///
+    /// [`Fault::Memory`].
+    pub fn reason(self) -> Result<&'static str, Fault> {
+        match self {
+            Unread::Memory => Err(Fault::Memory),
+            Unread::Absent => Ok("No such file or directory"),
+            Unread::Because(reason) => Ok(reason),
+        }
+    }
+}
+
+impl From<io::Error> for Unread {
+    fn from(error: io::Error) -> Unread {
+        match error.kind() {
+            ErrorKind::OutOfMemory => Unread::Memory,
+            ErrorKind::NotFound => Unread::Absent,
+            kind => Unread::Because(reason_of(kind)),
+        }
+    }
 }
 
 /// Reads and writes whole files by their names.
@@ -25,8 +52,18 @@ pub trait FileStore {
     /// Those of [`Unread`]; a file may have 16,777,216 bytes.
     fn read(&self, name: &str) -> Result<Vec<u8>, Unread>;
 
-    /// Makes a file of these bytes, in place of one that has that name; false where that failed. It removes a half that
-    /// it wrote, if that is a regular file.
+    /// Returns the paths of what is in a folder, in any order; `None` where that is no folder. It leaves out names that
+    /// begin with `.`, and links that lead to no file.
+    ///
+    /// # Errors
+    ///
+    /// Those of [`Unread`].
+    fn list(&self, _folder: &str) -> Result<Option<Vec<String>>, Unread> {
+        Ok(None)
+    }
+
+    /// Makes a file of these bytes, in place of one that has that name; false where that failed, and then that one stays.
+    /// A link, a terminal or a pipe stays too, and gets the bytes.
     fn write(&self, name: &str, bytes: &[u8]) -> bool;
 }
 
@@ -37,24 +74,62 @@ pub struct Disk<'a, R> {
     pub rt: &'a R,
 }
 
-impl<R: Files + AllocGlobal> FileStore for Disk<'_, R> {
+impl<R: Files + AllocGlobal + Clone + Sync + Drop> FileStore for Disk<'_, R> {
     fn read(&self, name: &str) -> Result<Vec<u8>, Unread> {
-        match fs::open(self.rt, name) {
-            Ok(file) => read_open(self.rt.alloc(), file),
-            Err(error) => Err(Unread::Because(reason_of(error.kind()))),
+        read_open(self.rt.alloc(), fs::open(self.rt, name)?)
+    }
+
+    fn list(&self, folder: &str) -> Result<Option<Vec<String>>, Unread> {
+        match paths_in(self.rt, folder) {
+            Ok(paths) => Ok(Some(paths)),
+            Err(error) if error.kind() == ErrorKind::NotADirectory => Ok(None),
+            Err(error) => Err(Unread::from(error)),
         }
     }
 
     fn write(&self, name: &str, bytes: &[u8]) -> bool {
-        let Ok(mut file) = fs::create(self.rt, name) else {
-            return false;
-        };
-        if file.write_all(bytes).is_ok() {
-            return true;
+        if fs::symlink_metadata(self.rt, name).is_ok_and(|old| !old.is_file()) {
+            return fs::write(self.rt, name, bytes).is_ok();
         }
-        remove_half(self.rt, name, &file);
-        false
+        let beside = format!(in self.rt.alloc(); "{name}.new");
+        beside.is_ok_and(|beside| replace(self.rt, name, beside.as_str(), bytes))
     }
+}
+
+/// Writes a file beside that of a name, which it then replaces.
+fn replace<R: Files>(rt: &R, name: &str, beside: &str, bytes: &[u8]) -> bool {
+    let is_written = fs::write(rt, beside, bytes).is_ok();
+    if let Ok(old) = fs::metadata(rt, name) {
+        let _ = fs::set_permissions(rt, beside, old.permissions());
+    }
+    if is_written && fs::rename(rt, beside, name).is_ok() {
+        return true;
+    }
+    let _ = fs::remove_file(rt, beside);
+    false
+}
+
+fn paths_in<R: Files + AllocGlobal + Clone + Drop>(
+    rt: &R,
+    folder: &str,
+) -> io::Result<Vec<String>> {
+    let mut paths = Vec::new(rt.alloc());
+    for entry in fs::read_dir(rt, folder)? {
+        let entry = entry?;
+        if is_listed(rt, &entry) {
+            paths.push(String::from_str(rt.alloc(), entry.path().as_str())?)?;
+        }
+    }
+    Ok(paths)
+}
+
+/// Whether what is in a folder is neither hidden nor a link that leads to no file.
+fn is_listed<R: Files>(rt: &R, entry: &DirEntry<R, Global>) -> bool {
+    let is_link = entry.file_type().is_ok_and(|kind| kind.is_symlink());
+    if is_link && !fs::metadata(rt, entry.path()).is_ok_and(|target| target.is_file()) {
+        return false;
+    }
+    !entry.file_name().starts_with('.')
 }
 
 fn read_open<F: Read + OpenFile + Drop>(alloc: Global, file: F) -> Result<Vec<u8>, Unread> {
@@ -71,18 +146,8 @@ fn read_open<F: Read + OpenFile + Drop>(alloc: Global, file: F) -> Result<Vec<u8
 /// Why the system does not open a file, in its own words.
 fn reason_of(kind: ErrorKind) -> &'static str {
     match kind {
-        ErrorKind::NotFound => "No such file or directory",
         ErrorKind::PermissionDenied => "Permission denied",
         ErrorKind::NotADirectory => "Not a directory",
         _ => "the system refuses it",
-    }
-}
-
-/// Removes the half of a file that could not be written whole. What is no regular file, as a terminal or a pipe, stays.
-fn remove_half<R: Files>(rt: &R, name: &str, file: &R::File) {
-    if let Ok(metadata) = file.metadata() {
-        if metadata.is_file() {
-            let _ = fs::remove_file(rt, name);
-        }
     }
 }

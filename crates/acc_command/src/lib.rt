@@ -8,6 +8,7 @@ mod file_stores;
 mod options;
 mod picture_files;
 mod programs;
+mod suites;
 mod tools;
 mod words;
 

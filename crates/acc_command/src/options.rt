@@ -1,22 +1,27 @@
 //! The command line.
 
 use acc_follow::Views;
+use acc_trials::{Machine, bytes_of, first_words, options_in};
 use clap::error::ErrorKind;
+use clap::parser::ValueSource;
 use clap::{Arg, ArgAction, ArgMatches, Command, Error, value_parser};
 use std::alloc::{AllocError, Global};
+use std::convert::AsStr;
 
-/// The default of both sizes in bytes. `size_option` names it again as text, for `clap`; it is used here only if `clap`
-/// finds no value.
+/// The default of both sizes in bytes. `size_option` names it again as text, for the help.
 const DEFAULT_SIZE: u64 = 65_536;
 
 /// The default of `--devices`, as `DEFAULT_SIZE` is that of sizes.
 const DEFAULT_DEVICES: u64 = 1;
 
 /// The default of `--threads`, as `DEFAULT_SIZE` is that of sizes.
-const DEFAULT_THREADS: u64 = 1;
+pub const DEFAULT_THREADS: u64 = 1;
 
 /// The default of `--lines`, as `DEFAULT_SIZE` is that of sizes.
 const DEFAULT_LINES: u64 = 40;
+
+/// The default of `--jobs`, as `DEFAULT_SIZE` is that of sizes.
+const DEFAULT_JOBS: u64 = 1;
 
 /// What a trace may keep of each event: what it did to counters, or also the bytes of all memories.
 const TRACES: &[&str] = &["counts", "full"];
@@ -27,7 +32,9 @@ const VERSION: &str = "0.1.0 (OpenACC 3.3)";
 /// What the command line asks for.
 #[derive(Clone, Copy)]
 pub struct Options<'a> {
-    /// The file that has the script; `None` for standard input.
+    /// The files that have scripts, of which `-` is standard input; none for standard input alone.
+    pub files: &'a [&'a str],
+    /// The one of these that is run; `None` for standard input.
     pub file: Option<&'a str>,
     /// The file that the output is compared with, in place of writing it.
     pub expect: Option<&'a str>,
@@ -39,6 +46,14 @@ pub struct Options<'a> {
     pub until_refusal: bool,
     /// The scripts whose rows of the clause tables are counted, in place of a run; none where that is not asked for.
     pub rows: &'a [&'a str],
+    /// The files and folders whose scripts are run as tests, in place of a run.
+    pub tests: &'a [&'a str],
+    /// How many of these run at a time.
+    pub jobs: u64,
+    /// Whether what these print is written as what they have to print.
+    pub bless: bool,
+    /// The file for what came of them, as JUnit.
+    pub junit: Option<&'a str>,
     /// The seed of a script by chance, where one is written in place of a run.
     pub random: Option<u64>,
     /// How many statements that script has.
@@ -49,16 +64,16 @@ pub struct Options<'a> {
     pub svg_every: Option<&'a str>,
     /// The file for the page that shows the script step by step.
     pub html: Option<&'a str>,
-    /// The size of host memory in bytes.
-    pub host: u64,
+    /// The size of host memory in bytes, where it is given, as with those that follow.
+    pub host: Option<u64>,
     /// The size of each device's memory in bytes.
-    pub device: u64,
+    pub device: Option<u64>,
     /// How many devices there are.
-    pub devices: u64,
+    pub devices: Option<u64>,
     /// Whether the trace also keeps bytes.
-    pub full: bool,
+    pub full: Option<bool>,
     /// In how many threads each kernel works at most; of a drill, how many threads it has.
-    pub threads: u64,
+    pub threads: Option<u64>,
     /// How often each thread of a drill enters and exits a region, where there is a drill in place of a script.
     pub drill: Option<u64>,
 }
@@ -101,8 +116,9 @@ fn trace_option<'a>(alloc: Global) -> Arg<'a> {
 
 fn file_argument<'a>(alloc: Global) -> Arg<'a> {
     Arg::new(alloc, "FILE")
-        .help("The script, in place of standard input")
+        .help("Scripts, in place of standard input")
         .action(ArgAction::Set)
+        .num_args(1..)
 }
 
 fn expect_option<'a>(alloc: Global) -> Result<Arg<'a>, AllocError> {
@@ -121,25 +137,52 @@ const LANGUAGES: &[&str] = &["c"];
 /// Options of runs, which do not go with what is done in place of one.
 const OF_RUNS: &[&str] = &["echo", "json", "log", "explain", "svg", "svg-every", "html"];
 
+/// Options that name a file for what comes of a script, and that of a program.
+const OF_ONE_FILE: &[&str] = &["expect", "emit", "svg", "svg-every", "html"];
+
+/// What is done in place of a run, or of tests.
+const INSTEAD: &[&str] = &["emit", "rows", "random", "drill", "expect", "FILE"];
+
 fn emit_option<'a>(alloc: Global) -> Result<Arg<'a>, AllocError> {
     let help = "Write the script as a program instead";
     let option = valued(alloc, "emit", "LANGUAGE", help).value_parser(LANGUAGES);
-    without_runs(option)
+    without(option, OF_RUNS)
 }
 
 fn rows_option<'a>(alloc: Global) -> Result<Arg<'a>, AllocError> {
     let help = "Count the rows that scripts reach instead";
     let option = valued(alloc, "rows", "FILE", help).num_args(1..);
-    without_runs(option)?
+    without(option, OF_RUNS)?
         .conflicts_with("emit")?
         .conflicts_with("FILE")
+}
+
+fn test_option<'a>(alloc: Global) -> Result<Arg<'a>, AllocError> {
+    let option = valued(alloc, "test", "PATH", "Run scripts as tests instead").num_args(1..);
+    without(without(option, OF_RUNS)?, INSTEAD)
+}
+
+fn test_options<'a>(alloc: Global) -> Result<Vec<Arg<'a>>, Error> {
+    let test = test_option(alloc)?;
+    let bless = flag(alloc, "bless", "Take what they print as right").requires_arg("test")?;
+    let junit = valued(alloc, "junit", "FILE", "Write what came of them as JUnit");
+    let junit = junit.requires_arg("test")?;
+    let jobs = jobs_option(alloc)?;
+    Ok(vec![in alloc; test, bless, junit, jobs]?)
+}
+
+fn jobs_option<'a>(alloc: Global) -> Result<Arg<'a>, AllocError> {
+    valued(alloc, "jobs", "N", "How many of them run at a time")
+        .value_parser(value_parser!(u64).range(1..=64))
+        .default_value("1")
+        .requires_arg("test")
 }
 
 fn random_option<'a>(alloc: Global) -> Result<Arg<'a>, AllocError> {
     let option = valued(alloc, "random", "SEED", "Write a random script instead").value_parser(
         value_parser!(u64),
     );
-    without_runs(option)?
+    without(option, OF_RUNS)?
         .conflicts_with("emit")?
         .conflicts_with("rows")?
         .conflicts_with("FILE")
@@ -150,15 +193,16 @@ fn drill_option<'a>(alloc: Global) -> Result<Arg<'a>, AllocError> {
     let option = valued(alloc, "drill", "ROUNDS", help).value_parser(value_parser!(u64).range(
         1..=1_000,
     ));
-    without_runs(option)?
+    without(option, OF_RUNS)?
         .conflicts_with("emit")?
         .conflicts_with("rows")?
         .conflicts_with("random")?
         .conflicts_with("FILE")
 }
 
-fn without_runs<'a>(mut option: Arg<'a>) -> Result<Arg<'a>, AllocError> {
-    for name in OF_RUNS {
+/// An option that goes with none of these.
+fn without<'a>(mut option: Arg<'a>, names: &'static [&'static str]) -> Result<Arg<'a>, AllocError> {
+    for name in names {
         option = option.conflicts_with(name)?;
     }
     Ok(option)
@@ -188,16 +232,82 @@ pub fn parsed_words<'a>(alloc: Global, words: &'a [String]) -> Result<ArgMatches
     parsed_by(alloc, &mut command, words)
 }
 
-fn all_options<'a>(alloc: Global) -> Result<Command<'a>, Error> {
-    let command = with_views(alloc, with_limits(alloc, bare(alloc))?)?;
-    let command = with_programs(alloc, command)?;
-    with_scripts(alloc, command)
+/// Adds the options in the first line of a script, `# options: ..`, to those of the command line. For values the command
+/// line wins. The first line can name no file, so a script writes none.
+///
+/// # Errors
+///
+/// `clap`'s own.
+pub fn with_first_line<'a>(
+    alloc: Global,
+    options: Options<'a>,
+    script: &[u8],
+) -> Result<Options<'a>, Error> {
+    let Some(line) = options_in(script) else {
+        return Ok(options);
+    };
+    let Ok(text) = str::from_utf8(line) else {
+        return Err(not_text(alloc)?);
+    };
+    let words = first_words(alloc, text)?;
+    let mut command = line_options(alloc)?;
+    let matches = parsed_by(alloc, &mut command, &words)?;
+    Ok(options.or(options_of(&matches)))
 }
 
-fn parsed_by<'a>(
+/// What is wrong with a first line that is not UTF-8.
+fn not_text(alloc: Global) -> Result<Error, AllocError> {
+    let mut command = line_options(alloc)?;
+    command.error(ErrorKind::ValueValidation, "it is not UTF-8")
+}
+
+impl<'a> Options<'a> {
+    /// What they ask for to run scripts on.
+    pub fn machine(self) -> Machine {
+        Machine {
+            host: self.host.unwrap_or(DEFAULT_SIZE),
+            device: self.device.unwrap_or(DEFAULT_SIZE),
+            devices: self.devices.unwrap_or(DEFAULT_DEVICES),
+        }
+    }
+
+    fn or(self, line: Options<'_>) -> Options<'a> {
+        Options {
+            host: self.host.or(line.host),
+            device: self.device.or(line.device),
+            devices: self.devices.or(line.devices),
+            full: self.full.or(line.full),
+            threads: self.threads.or(line.threads),
+            views: Views {
+                echo: self.views.echo || line.views.echo,
+                json: self.views.json || line.views.json,
+                log: self.views.log || line.views.log,
+                explain: self.views.explain || line.views.explain,
+                ..self.views
+            },
+            ..self
+        }
+    }
+}
+
+fn line_options<'a>(alloc: Global) -> Result<Command<'a>, AllocError> {
+    let command = Command::new(alloc, "options:")
+        .override_usage("# options: [OPTIONS]")
+        .disable_help_flag(true);
+    with_flags(alloc, with_limits(alloc, command)?)
+}
+
+fn all_options<'a>(alloc: Global) -> Result<Command<'a>, Error> {
+    let command = with_flags(alloc, with_limits(alloc, bare(alloc))?)?;
+    let command = with_programs(alloc, with_files(alloc, command)?)?;
+    let command = with_scripts(alloc, command)?;
+    Ok(command.args(test_options(alloc)?)?)
+}
+
+fn parsed_by<'a, S: AsStr>(
     alloc: Global,
     command: &mut Command<'a>,
-    words: &'a [String],
+    words: &'a [S],
 ) -> Result<ArgMatches<'a>, Error> {
     let matches = command.try_get_matches_from_mut(words)?;
     match bad_value(alloc, &matches)? {
@@ -208,10 +318,18 @@ fn parsed_by<'a>(
 
 /// Whether a file is standard input.
 fn is_input(matches: &ArgMatches<'_>, name: &str) -> bool {
-    match matches.get_str(name) {
-        Some(text) => text == "-",
-        None => false,
+    matches.get_strs(name).unwrap_or(&[]).contains(&"-")
+}
+
+/// What goes with one file alone, where it is asked for and there are several.
+fn of_one_file(matches: &ArgMatches<'_>) -> Option<&'static str> {
+    if matches.get_strs("FILE").unwrap_or(&[]).len() < 2 {
+        return None;
     }
+    OF_ONE_FILE
+        .iter()
+        .copied()
+        .find(|name| matches.contains_id(name))
 }
 
 /// What is wrong with the files or the sizes, if anything is.
@@ -219,6 +337,9 @@ fn bad_value(alloc: Global, matches: &ArgMatches<'_>) -> Result<Option<String>, 
     if is_input(matches, "FILE") && is_input(matches, "expect") {
         let told = String::from_str(alloc, "standard input cannot be both FILE and OUTPUT")?;
         return Ok(Some(told));
+    }
+    if let Some(name) = of_one_file(matches) {
+        return Ok(Some(format!(in alloc; "'--{name}' goes with one FILE alone")?));
     }
     match size_told(alloc, "host", matches.get_str("host").unwrap_or(""))? {
         Some(text) => Ok(Some(text)),
@@ -234,20 +355,6 @@ fn size_told(alloc: Global, name: &str, text: &str) -> Result<Option<String>, Al
     };
     let told = format!(in alloc; "invalid value '{text}' for '--{name} <BYTES>': {reason}")?;
     Ok(Some(told))
-}
-
-/// The number of bytes that a text says: decimal digits, and behind them K for 1,024 bytes or M for 1,048,576, if any.
-pub fn bytes_of(text: &str) -> Option<u64> {
-    let (digits, unit) = unit_of(text);
-    Some(digits.parse::<u64>().ok()?.saturating_mul(unit))
-}
-
-fn unit_of(text: &str) -> (&str, u64) {
-    match (text.strip_suffix('K'), text.strip_suffix('M')) {
-        (Some(digits), _) => (digits, 1_024),
-        (_, Some(digits)) => (digits, 1_048_576),
-        _ => (text, 1),
-    }
 }
 
 fn bare<'a>(alloc: Global) -> Command<'a> {
@@ -268,13 +375,18 @@ fn with_limits<'a>(alloc: Global, command: Command<'a>) -> Result<Command<'a>, A
     ]?)
 }
 
-fn with_views<'a>(alloc: Global, command: Command<'a>) -> Result<Command<'a>, AllocError> {
+fn with_flags<'a>(alloc: Global, command: Command<'a>) -> Result<Command<'a>, AllocError> {
     command.args(vec![in alloc;
-        file_argument(alloc),
         flag(alloc, "echo", "Write each statement before its output"),
         flag(alloc, "json", "Write the report as JSON"),
         flag(alloc, "log", "Tell what each call did"),
         flag(alloc, "explain", "Tell why a line is at fault or refused"),
+    ]?)
+}
+
+fn with_files<'a>(alloc: Global, command: Command<'a>) -> Result<Command<'a>, AllocError> {
+    command.args(vec![in alloc;
+        file_argument(alloc),
         valued(alloc, "svg", "PICTURE", "Draw the memories at the end"),
         valued(
             alloc,
@@ -312,7 +424,8 @@ fn with_scripts<'a>(alloc: Global, command: Command<'a>) -> Result<Command<'a>, 
 /// What a command line asks for.
 pub fn options_of<'a>(matches: &'a ArgMatches<'_>) -> Options<'a> {
     Options {
-        file: matches.get_str("FILE").filter(|name| *name != "-"),
+        files: matches.get_strs("FILE").unwrap_or(&[]),
+        file: None,
         expect: matches.get_str("expect"),
         views: Views {
             echo: matches.get_flag("echo"),
@@ -321,65 +434,66 @@ pub fn options_of<'a>(matches: &'a ArgMatches<'_>) -> Options<'a> {
             explain: matches.get_flag("explain"),
             picture: matches.get_str("svg").is_some(),
             pictures: matches.get_str("svg-every").is_some(),
+            lines: matches.contains_id("test"),
             page: matches.get_str("html").is_some(),
         },
         emit: matches.contains_id("emit"),
         until_refusal: matches.get_flag("until-refusal"),
         rows: matches.get_strs("rows").unwrap_or(&[]),
+        tests: matches.get_strs("test").unwrap_or(&[]),
+        jobs: matches.get_one::<u64>("jobs").unwrap_or(DEFAULT_JOBS),
+        bless: matches.get_flag("bless"),
+        junit: matches.get_str("junit"),
         random: matches.get_one::<u64>("random"),
         lines: matches.get_one::<u64>("lines").unwrap_or(DEFAULT_LINES),
         svg: matches.get_str("svg"),
         svg_every: matches.get_str("svg-every"),
         html: matches.get_str("html"),
-        host: size_in(matches, "host"),
-        device: size_in(matches, "device"),
-        devices: matches.get_one::<u64>("devices").unwrap_or(DEFAULT_DEVICES),
-        threads: matches.get_one::<u64>("threads").unwrap_or(DEFAULT_THREADS),
+        host: given(matches, "host").and_then(bytes_of),
+        device: given(matches, "device").and_then(bytes_of),
+        devices: given(matches, "devices").and_then(bytes_of),
+        threads: given(matches, "threads").and_then(bytes_of),
         drill: matches.get_one::<u64>("drill"),
-        full: matches.get_str("trace") == Some("full"),
+        full: given(matches, "trace").map(|what| what == "full"),
     }
 }
 
-fn size_in(matches: &ArgMatches<'_>, name: &str) -> u64 {
-    let text = matches.get_str(name);
-    text.and_then(bytes_of).unwrap_or(DEFAULT_SIZE)
+/// The value of an option that is given, and no default.
+fn given<'a>(matches: &ArgMatches<'a>, name: &str) -> Option<&'a str> {
+    match matches.value_source(name) {
+        Some(ValueSource::CommandLine) => matches.get_str(name),
+        _ => None,
+    }
 }
 
-const USAGE: &str = "accrun [OPTIONS] [FILE]";
+const USAGE: &str = "accrun [OPTIONS] [FILE]...";
 
 /// What the long help has after the options: the statements, an example, the status.
 const AFTER_HELP: &str = "\
-A size is from 16 to 67108864 bytes, a multiple of 16; 64K is 65536, and 1M is
-1048576. There are 1 to 4 devices, numbered from 0. A kernel works in 1 to 64
-threads, and the output of a script does not depend on that. Of each event the
-trace keeps what it did to counters and, where it is full, its bytes; the output
-does not depend on it. ROUNDS is from 1 to 1000: how often each thread enters
-and exits a region over one array on device 0. Then no script is read, and one
-line tells what is left: the allowance of regions, the number of events, and
-both counters of the array.
+A size is from 16 to 67108864 bytes, a multiple of 16, as 4096, 64K or 1M. There
+are 1 to 4 devices, numbered from 0, and 1 to 64 threads. The output of a script
+depends neither on threads nor on the trace. A drill prints what it leaves: the
+allowance of regions, the number of events, and both counters of its array.
 
 The script is FILE, or comes on standard input; for FILE and OUTPUT '-' is
-standard input too. It is read whole before its first line runs. With --echo
-each statement stands behind '> ' before what it prints. With --json the report
-is one object on one line. With --expect the output is not written: it is
-compared with OUTPUT, and the first line that differs is told on standard error.
-Then the status is 1, and 0 where none differs, whatever was refused. --svg
-draws the memories at the end of the script, as a file that a browser opens;
---svg-every draws them behind each directive and each kernel, with the number of
-the line in the file's name: life.7.svg for life.svg. --html writes one page for
-a browser, in which arrow keys step through the script, with the memories behind
-each line.
+standard input too. It is read whole before its first line runs. Each FILE has a
+table of its own, and the status is that of the worst. If the first line of FILE
+is '# options: ..', it says what the command line leaves open. With
+--expect the status is 1 where the output differs, and 0 else, whatever was
+refused. The pictures of --svg-every have the number of the line in their names,
+as life.7.svg. In the page of --html arrow keys step through the script.
 
-With --emit c the script is written as a C program with OpenACC directives,
-which does what the script does, and has the expected output in it. A statement
-that is refused, or that C cannot say, is a fault. With --until-refusal the
-program ends with the first statement that is refused, and has to fail there.
+A script of --test has to print what stands in its lines '#> ..', or else in
+NAME.out beside NAME.acc; what standard error gets stands behind the output.
+With '# xfail: REASON' it has to fail; with '# requires: devices 2' it is
+skipped where there are fewer. With '# wants: past-the-end' a section may reach
+past its array with no warning, and with '# wants: unused-names' an array may be
+unused.
 
-With --rows the scripts of all FILEs are run, and what they print is dropped.
-Each row of the clause tables is printed with how often they reached it, and the
-status is 1 where one is reached by none. With --random a script for these sizes
-and devices is written, which is the same for a SEED on each machine: 40
-statements, or 1 to 10000, of which none is at fault or refused.
+A program of --emit c does what the script does, and has the expected output in
+it; with --until-refusal it has to fail at the first statement that is refused.
+With --rows the status is 1 where a row is reached by no script. A script of
+--random has 40 statements, or 1 to 10000, and is the same on each machine.
 
 Statements, one to a line, with comments after '#':
   array NAME BYTES         an array in host memory

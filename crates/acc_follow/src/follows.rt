@@ -8,11 +8,14 @@ use crate::picture_sinks::{Frame, PictureSink, Stop};
 use crate::ran_lines::{RanLine, picture_of};
 use crate::timelines::Timeline;
 use acc_base::{Config, Event, Fault, ScriptFault};
-use acc_explain::fault_column;
+use acc_explain::{fault_column, warnings_of};
 use acc_log::Log;
 use acc_picture::Caption;
 use acc_read::{Names, Page, Statement};
-use acc_script::{Effect, MemorySink, Session, Sink, Source, Status, Watcher, run, write_all};
+use acc_script::{
+    Effect, MemorySink, MemorySource, Session, Sink, Source, Status, Watcher, read_all, run,
+    write_all,
+};
 use std::alloc::Global;
 use std::sync::Wait;
 use std::thread::Threads;
@@ -34,6 +37,8 @@ pub struct Views {
     pub pictures: bool,
     /// A page that shows the script step by step.
     pub page: bool,
+    /// Which line printed what ([`Beside::lines`]).
+    pub lines: bool,
 }
 
 impl Views {
@@ -70,9 +75,11 @@ pub struct Beside<'a, E, G> {
     pub reason: &'a mut Page,
     /// Gets the column of what is wrong in that line, from 1 on.
     pub column: &'a mut u64,
+    /// Gets for each line of the output the number of the line that printed it, where that is asked for.
+    pub lines: &'a mut Vec<u64>,
 }
 
-/// Runs a whole script as [`run`] does, and shows more of it.
+/// Runs a whole script as [`run`] does, and shows more of it. Where it is explained, warnings come first.
 ///
 /// # Errors
 ///
@@ -87,11 +94,36 @@ pub fn follow<R: Threads + Wait + Sync + AllocGlobal, S: Source, O: Sink, E: Sin
 ) -> Result<Status, Stop>
     requires { (1 ≤ setting.parts) × (setting.parts ≤ 64) }
 {
+    if !setting.views.explain {
+        return follow_lines(rt, setting, reader, out, beside);
+    }
+    let script = read_all(rt.alloc(), reader)?;
+    let warnings = warnings_of(rt.alloc(), "accrun: line ", &script)?;
+    let _ = write_all(beside.err, warnings.as_slice());
+    follow_lines(rt, setting, &mut MemorySource::new(&script), out, beside)
+}
+
+fn follow_lines<
+    R: Threads + Wait + Sync + AllocGlobal,
+    S: Source,
+    O: Sink,
+    E: Sink,
+    G: PictureSink,
+>(
+    rt: &R,
+    setting: Setting,
+    reader: &mut S,
+    out: &mut O,
+    beside: Beside<'_, E, G>,
+) -> Result<Status, Stop>
+    requires { (1 ≤ setting.parts) × (setting.parts ≤ 64) }
+{
     let Beside {
         err,
         pictures,
         reason,
         column,
+        lines,
     } = beside;
     let mut follower = Follower {
         alloc: rt.alloc(),
@@ -107,8 +139,8 @@ pub fn follow<R: Threads + Wait + Sync + AllocGlobal, S: Source, O: Sink, E: Sin
         drawn: 0,
         stop: None,
     };
-    let ending = if setting.views.echo || setting.views.json {
-        run_copied(rt, setting, reader, out, &mut follower)
+    let ending = if setting.views.echo || setting.views.json || setting.views.lines {
+        run_copied(rt, setting, reader, out, lines, &mut follower)
     } else {
         run(
             rt,
@@ -129,6 +161,7 @@ fn run_copied<R: Threads + Wait + Sync + AllocGlobal, S: Source, O: Sink, X: Wat
     setting: Setting,
     reader: &mut S,
     out: &mut O,
+    lines: &mut Vec<u64>,
     watcher: &mut X,
 ) -> Result<Status, Fault>
     requires { (1 ≤ setting.parts) × (setting.parts ≤ 64) }
@@ -140,6 +173,7 @@ fn run_copied<R: Threads + Wait + Sync + AllocGlobal, S: Source, O: Sink, X: Wat
         alloc: rt.alloc(),
         echo: setting.views.echo,
         json: setting.views.json,
+        lines,
         copied: 0,
         failed: None,
     };

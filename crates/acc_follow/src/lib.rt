@@ -11,6 +11,7 @@ mod report_objects;
 mod row_counts;
 mod timelines;
 
+pub use acc_explain::warnings_of;
 pub use acc_log::RowCounts;
 pub use acc_read::Page;
 pub use differences::{Difference, first_difference};

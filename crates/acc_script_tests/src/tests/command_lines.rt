@@ -9,14 +9,14 @@ use std::thread::Threads;
 
 /// Command lines that are accepted, and a text that standard output has then for an empty script.
 const ACCEPTED: [(&str, &str); 4] = [
-    ("--help", "Usage: accrun [OPTIONS] [FILE]"),
+    ("--help", "Usage: accrun [OPTIONS] [FILE]..."),
     ("-h", "[possible values: counts, full]\n"),
     ("--emit c --threads 2 --host 64", "int main("),
     ("--random 1 --lines 1", "wait\nshow a\n"),
 ];
 
 /// Command lines that are refused, and a text that standard error has then.
-const REFUSED: [(&str, &str); 35] = [
+const REFUSED: [(&str, &str); 41] = [
     (
         "--expect - -",
         "standard input cannot be both FILE and OUTPUT",
@@ -58,7 +58,10 @@ const REFUSED: [(&str, &str); 35] = [
     ("life.acc --drill 1", "'--drill <ROUNDS>'"),
     ("--expect -", "[FILE]"),
     ("--svg", "'--svg <PICTURE>'"),
-    ("life.acc life.acc", "'life.acc'"),
+    (
+        "life.acc life.acc --svg wall.svg",
+        "'--svg' goes with one FILE",
+    ),
     ("--host", "'--host <BYTES>'"),
     ("--rows", "'--rows <FILE>...'"),
     ("--rows life.acc", "accrun: cannot read life.acc"),
@@ -72,6 +75,15 @@ const REFUSED: [(&str, &str); 35] = [
         "'--random <SEED>' cannot be used with '--rows <FILE>...'",
     ),
     ("--lines 3", "--random <SEED>"),
+    ("--test", "'--test <PATH>...'"),
+    (
+        "--test wall --emit c",
+        "'--test <PATH>...' cannot be used with '--emit <LANGUAGE>'",
+    ),
+    ("--bless", "--test <PATH>..."),
+    ("--junit wall.xml", "--test <PATH>..."),
+    ("--jobs 2", "--test <PATH>..."),
+    ("--test wall --jobs 0", "'0' for '--jobs <N>'"),
     ("--random 1 --lines 0", "'0' for '--lines <N>'"),
 ];
 
@@ -113,7 +125,8 @@ fn command_lines_are_read(rt: HostRuntime) -> Result<(), Fail> {
 
 /// What the help has to name, with bars between the words.
 const HELP_WORDS: &str =
-    "[FILE]|--expect <OUTPUT>|--echo|--json|--log|--explain|--svg <PICTURE>|--svg-every <PICTURE>|--html <PAGE>|\
+    "[FILE]|--test <PATH>|--bless|--junit <FILE>|--jobs <N>|--expect <OUTPUT>|--echo|--json|--log|--explain|--svg <PICTURE>|\
+    --svg-every <PICTURE>|--html <PAGE>|\
     --version|--emit <LANGUAGE>|--until-refusal|--rows <FILE>|--random <SEED>|--lines <N>|--devices <N>|--threads <N>|--drill <ROUNDS>|\
     --trace <WHAT>|read whole|array NAME|write PLACE|point PLACE to PLACE|data CLAUSES|copy(REFS)|\
     copyin(REFS)|copyout(REFS)|create(REFS)|no_create(REFS)|present(REFS)|attach(PLACES)|end data|\

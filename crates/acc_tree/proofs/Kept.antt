@@ -25,4 +25,3 @@ module _ {T : Type 0} where
 
   pub rise-without_key : (key : ℕ) (es : List (Entry T)) → KeysRise es → KeysRise (without_key key es)
   rise-without_key key es rising = EachPair-filter (λ (e : Entry T) (f : Entry T). e.key < f.key) (λ e. not (e.key == key)) es rising
-

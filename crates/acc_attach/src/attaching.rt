@@ -20,7 +20,7 @@ use std::marker::Model;
 /// leaves the counters as they were. Only `attach`, `reserve` and `copy_counters` allocate, the last for its result.
 ///
 /// Counters are searched for by their keys, and stand in rows of up to 64. One that becomes one or zero moves others of
-/// its row. The list of rows moves too where a full row is split, or a row becomes empty or is joined with the next.
+/// its row. The list of rows moves too where a full row is split, or a row becomes empty or is joined with one beside it.
 /// That grows with the number of counters.
 #[derive(Drop)]
 pub struct Attached {

@@ -56,7 +56,7 @@ fn begins_by(counter: Attachment, block: u64, address: u64) -> bool
 pub struct LocatedCounter {
     /// How often the pointer is attached.
     pub count: u64,
-    /// Where the counter stands, or would be put.
+    /// Where the counter stands, or where its place is looked for first.
     pub place: Place,
 }
 

@@ -9,7 +9,7 @@ pub record KeyValue (T : Type 0) : Type 0 where
   pub key : ℕ
   pub value : T
 
--- what a tree is seen as
+-- what an ordered list is seen as
 pub record Listing (T : Type 0) : Type 0 where
   -- by rising key
   pub entries : List (KeyValue T)

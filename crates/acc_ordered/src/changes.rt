@@ -81,15 +81,14 @@ pub fn start<K: Key, T: Copy>(
     firsts.push_reserved(key);
 }
 
-/// Where to split a full row to which an entry comes at `at`. Where it comes before or behind all entries, nearly all
-/// stay together. So rows are full after entries that come by rising or falling keys.
-fn cut_for(at: usize) -> usize
+/// Where to split a full row to which an entry comes at `at`. Behind all entries of the last row nearly all stay
+/// together, so rows are nearly full after entries that come by rising keys. No row before others gets a small one
+/// beside it, which might come and go with each entry, and would move the others.
+fn cut_for(at: usize, is_last: bool) -> usize
     ensures some { 0 < result }
     ensures not_all { result < 64 }
 {
-    if at == 0 {
-        1
-    } else if at == WIDTH {
+    if at == WIDTH && is_last {
         WIDTH - 1
     } else {
         WIDTH / 2
@@ -139,7 +138,7 @@ pub fn make_place<K: Key, T: Copy>(
     if rows[place.row].len() < WIDTH {
         return place;
     }
-    let cut = cut_for(place.at);
+    let cut = cut_for(place.at, place.row + 1 == rows.len());
     split(firsts, rows, spare, place.row, cut);
     if place.at <= cut {
         place

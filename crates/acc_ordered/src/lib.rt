@@ -1,4 +1,4 @@
-//! Entries by rising key, in rows: one ordered list for all that is found by a key.
+//! An ordered list of entries by key, in rows.
 #![tactic(auto)]
 
 mod changes;

@@ -18,7 +18,7 @@ use std::marker::Model;
 /// They stand in rows of up to 64, keys apart from values, and the least key of each row in a list of its own. A look-up
 /// is a search in that list and one in a row, and neither takes a branch by a key. A change moves entries of one row or
 /// two. If a row comes or goes, it also moves the list of rows behind it, which grows with the number of entries. Memory
-/// is asked for by [`OrderedList::reserve`] alone: an entry more uses up at most one row that waits.
+/// for them is asked for by [`OrderedList::reserve`] alone: an entry more uses up at most one row that waits.
 ///
 /// A call that takes a [`Place`] looks there first.
 #[derive(Drop)]
@@ -114,7 +114,7 @@ impl<K: Key, T: Copy> OrderedList<K, T> {
 
     /// The entries on both sides of a key, by at most two steps for each binary digit of the number of entries. There is
     /// one at least where there are entries. A step is a halving of the list of rows, or the look into one row. Not
-    /// counted are the keys that are compared there, and in the last 64 rows of the list: at most fifteen each. At most
+    /// counted are the keys compared in that row, and among the up to 64 rows that are left: at most fifteen each. At most
     /// 2^32 were counted before.
     #[inline]
     pub fn around_counted(&self, key: K, steps: &mut Steps) -> Neighbors<'_, K, T>
@@ -206,7 +206,7 @@ impl<K: Key, T: Copy> OrderedList<K, T> {
     pub fn set(&mut self, key: K, value: T, near: Place)
         requires there { IsSome (at_key (K.number key) self.old.entries) }
         ensures entries { self.new.entries ≡ with_value (K.number key) value self.old.entries }
-        ensures room { self.old.room ≤ self.new.room }
+        ensures room { self.new.room ≡ self.old.room }
     {
         let place = locate(&self.firsts, &self.rows, key, near);
         write(&mut self.rows, place, value);

@@ -17,6 +17,8 @@ pub enum Mishap<'a> {
     Fault(Fault),
     /// The options in the first line of a file are wrong, which is told as the reason.
     FirstLine,
+    /// Some lines are at fault, which is told already.
+    Told,
     /// A fault of the script in a file of this name, one of several.
     Within(&'a str, Fault),
     /// A file of this name cannot be read, and why.
@@ -87,7 +89,7 @@ fn put_mishap(page: &mut Page, file: Option<&str>, mishap: Mishap<'_>) {
         }
         Mishap::Unfit(line, reason) => put_unfit(page, file, line, reason.text()),
         // These are told elsewhere.
-        Mishap::FirstLine | Mishap::Fault(_) | Mishap::Within(..) => {}
+        Mishap::FirstLine | Mishap::Told | Mishap::Fault(_) | Mishap::Within(..) => {}
     }
 }
 

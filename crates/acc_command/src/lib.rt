@@ -14,5 +14,6 @@ mod words;
 
 pub use endings::tell;
 pub use file_stores::{Disk, FileStore, Unread};
+pub use options::Terminals;
 pub use tools::{CLEAN, FAULTED, REFUSED, tell_words, tool};
 pub use words::{WordsFault, read_words};

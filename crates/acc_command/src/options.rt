@@ -1,6 +1,7 @@
 //! The command line.
 
 use acc_follow::Views;
+use acc_lines::Manner;
 use acc_trials::{Machine, bytes_of, first_words, options_in};
 use clap::error::ErrorKind;
 use clap::parser::ValueSource;
@@ -26,15 +27,35 @@ const TRACES: &[&str] = &["counts", "full"];
 /// The version that `--version` prints.
 const VERSION: &str = "0.1.0 (OpenACC 3.3)";
 
+/// When explanations are written.
+const EXPLAIN_TIMES: &[&str] = &["auto", "always", "never"];
+
+/// Which of the program's streams are terminals.
+#[derive(Clone, Copy)]
+pub struct Terminals {
+    /// Standard input: a person types the script.
+    pub input: bool,
+    /// Standard error: a person reads why a line is at fault.
+    pub errors: bool,
+}
+
 /// What the command line asks for.
 #[derive(Clone, Copy)]
 pub struct Options<'a> {
+    /// Which streams are terminals.
+    pub terminals: Terminals,
     /// The file that has the script; `None` for standard input.
     pub file: Option<&'a str>,
     /// The file that the output is compared with, in place of writing it.
     pub expect: Option<&'a str>,
-    /// What is shown beside what the script prints.
+    /// What is shown beside what the script prints, but for explanations.
     pub views: Views,
+    /// Whether faults and refusals are explained; `None` where that is left to whether a person reads it.
+    pub explain: Option<bool>,
+    /// Whether each line is done when it is read, and an empty line ends what it prints.
+    pub line: bool,
+    /// Whether the script goes on behind a line at fault.
+    pub keep_going: bool,
     /// Whether the script is emitted as a program in C, in place of a run.
     pub emit: bool,
     /// Whether that program ends with the first statement that is refused.
@@ -127,7 +148,17 @@ fn expect_option<'a>(alloc: Global) -> Result<Arg<'a>, AllocError> {
 const LANGUAGES: &[&str] = &["c"];
 
 /// Options of runs, which do not go with what is done in place of one.
-const OF_RUNS: &[&str] = &["echo", "json", "log", "explain", "svg", "svg-every", "html"];
+const OF_RUNS: &[&str] = &[
+    "echo",
+    "json",
+    "log",
+    "explain",
+    "svg",
+    "svg-every",
+    "html",
+    "line",
+    "keep-going",
+];
 
 /// What is done in place of a run, or of tests.
 const INSTEAD: &[&str] = &["emit", "rows", "random", "drill", "expect", "FILE"];
@@ -203,6 +234,15 @@ fn flag<'a>(alloc: Global, name: &'a str, help: &'a str) -> Arg<'a> {
         .action(ArgAction::SetTrue)
 }
 
+fn explain_option<'a>(alloc: Global) -> Arg<'a> {
+    let help = "Tell why a line is at fault or refused";
+    valued(alloc, "explain", "WHEN", help)
+        .value_parser(EXPLAIN_TIMES)
+        .num_args(0..=1)
+        .require_equals(true)
+        .default_missing_value("always")
+}
+
 /// Reads the command line, for [`options_of`]. The first word is the program's name.
 ///
 /// # Errors
@@ -252,6 +292,26 @@ impl<'a> Options<'a> {
         }
     }
 
+    /// What is shown beside what the script prints.
+    pub fn shown(self) -> Views {
+        Views {
+            explain: self.explain.unwrap_or(self.terminals.errors),
+            ..self.views
+        }
+    }
+
+    /// How the lines of a script are run one by one; `None` where all of it is read first.
+    pub fn manner(self) -> Option<Manner> {
+        let is_typed = self.terminals.input && self.file.is_none() && self.tests.is_empty();
+        let asks = is_typed && self.expect.is_none();
+        let manner = Manner {
+            asks,
+            answers: self.line && !asks,
+            goes_on: self.keep_going || asks,
+        };
+        (manner.answers || manner.goes_on).then_some(manner)
+    }
+
     fn or(self, line: Options<'_>) -> Options<'a> {
         Options {
             host: self.host.or(line.host),
@@ -263,9 +323,9 @@ impl<'a> Options<'a> {
                 echo: self.views.echo || line.views.echo,
                 json: self.views.json || line.views.json,
                 log: self.views.log || line.views.log,
-                explain: self.views.explain || line.views.explain,
                 ..self.views
             },
+            explain: self.explain.or(line.explain),
             ..self
         }
     }
@@ -350,13 +410,15 @@ fn with_flags<'a>(alloc: Global, command: Command<'a>) -> Result<Command<'a>, Al
         flag(alloc, "echo", "Write each statement before its output"),
         flag(alloc, "json", "Write the report as JSON"),
         flag(alloc, "log", "Tell what each call did"),
-        flag(alloc, "explain", "Tell why a line is at fault or refused"),
+        explain_option(alloc),
     ]?)
 }
 
 fn with_files<'a>(alloc: Global, command: Command<'a>) -> Result<Command<'a>, AllocError> {
     command.args(vec![in alloc;
         file_argument(alloc),
+        flag(alloc, "line", "Do each line when it is read"),
+        flag(alloc, "keep-going", "Go on behind a line at fault"),
         valued(alloc, "svg", "PICTURE", "Draw the memories at the end"),
         valued(
             alloc,
@@ -391,16 +453,23 @@ fn with_scripts<'a>(alloc: Global, command: Command<'a>) -> Result<Command<'a>, 
     Ok(command.args(script_options(alloc)?)?)
 }
 
-/// What a command line asks for.
+/// What a command line asks for, where no stream is a terminal.
 pub fn options_of<'a>(matches: &'a ArgMatches<'_>) -> Options<'a> {
     Options {
+        terminals: Terminals {
+            input: false,
+            errors: false,
+        },
+        explain: is_explained(matches),
+        line: matches.get_flag("line"),
+        keep_going: matches.get_flag("keep-going"),
         file: matches.get_str("FILE").filter(|name| *name != "-"),
         expect: matches.get_str("expect"),
         views: Views {
             echo: matches.get_flag("echo"),
             json: matches.get_flag("json"),
             log: matches.get_flag("log"),
-            explain: matches.get_flag("explain"),
+            explain: false,
             picture: matches.get_str("svg").is_some(),
             pictures: matches.get_str("svg-every").is_some(),
             lines: matches.contains_id("test"),
@@ -426,12 +495,27 @@ pub fn options_of<'a>(matches: &'a ArgMatches<'_>) -> Options<'a> {
     }
 }
 
+fn is_explained(matches: &ArgMatches<'_>) -> Option<bool> {
+    match matches.get_str("explain")? {
+        "always" => Some(true),
+        "never" => Some(false),
+        _ => None,
+    }
+}
+
 /// The value of an option that is given, and no default.
 fn given<'a>(matches: &ArgMatches<'a>, name: &str) -> Option<&'a str> {
     match matches.value_source(name) {
         Some(ValueSource::CommandLine) => matches.get_str(name),
         _ => None,
     }
+}
+
+/// The statements and the words of a prompt, as the long help has them.
+pub fn statements() -> &'static str {
+    let from = AFTER_HELP.find("Statements, ").unwrap_or(0);
+    let to = AFTER_HELP.find("\nExample:").unwrap_or(AFTER_HELP.len());
+    AFTER_HELP.get(from..to).unwrap_or("")
 }
 
 const USAGE: &str = "accrun [OPTIONS] [FILE]";
@@ -444,11 +528,17 @@ depends neither on threads nor on the trace. A drill prints what it leaves: the
 allowance of regions, the number of events, and both counters of its array.
 
 The script is FILE, or comes on standard input; for FILE and OUTPUT '-' is
-standard input too. It is read whole before its first line runs. If the first
-line of FILE is '# options: ..', it says what the command line leaves open. With
---expect the status is 1 where the output differs, and 0 else, whatever was
-refused. The pictures of --svg-every have the number of the line in their names,
-as life.7.svg. In the page of --html arrow keys step through the script.
+standard input too. It is read whole before its first line runs, but with --line
+each line is done when it is read: an empty line ends what it prints. So is a
+script that is typed, behind a prompt with the device and the number of open
+regions; lines are explained then, and behind one at fault the script goes on.
+
+If the first line of FILE is '# options: ..', it says what the command line
+leaves open. WHEN is always, never, or auto, as without --explain: only where
+standard error is a terminal. With --expect the status is 1 where the output
+differs, and 0 else, whatever was refused. The pictures of --svg-every have the
+number of the line in their names, as life.7.svg. In the page of --html arrow
+keys step through the script.
 
 A script of --test has to print what stands in its lines '#> ..', or else in
 NAME.out beside NAME.acc; a fault is the last line. With '# xfail: REASON' it
@@ -531,7 +621,13 @@ brought back. K is from 0 to 255, and sums are modulo 256. Where the loan is
 made and cannot be brought back, report says lent of the range.
 
 A statement that is refused changes nothing and prints 'line L: refused ..'; the
-script goes on. A line that is at fault ends the script.
+script goes on. A line that is at fault ends the script, but with --keep-going.
+
+At a prompt these are done too:
+  undo                     take back the last line that changed something, and
+                           those behind it
+  save FILE                write the lines that were not refused to a file
+  help                     tell the statements
 
 Example:
   printf 'array a 32\\nenter data copyin(a)\\nreport\\n' | accrun --device 4096

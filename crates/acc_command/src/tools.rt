@@ -7,13 +7,16 @@ use crate::endings::{
     Mishap, put_sizes, put_texts, tell, tell_difference, tell_mishap, tell_sizes,
 };
 use crate::file_stores::FileStore;
-use crate::options::{DEFAULT_THREADS, Options, options_of, parsed_words, with_first_line};
+use crate::options::{
+    DEFAULT_THREADS, Options, Terminals, options_of, parsed_words, statements, with_first_line,
+};
 use crate::picture_files::PictureFiles;
 use crate::programs::{emit_script, write_random, write_rows};
 use crate::suites::Tester;
 use crate::words::WordsFault;
 use acc_base::{Config, Fault};
 use acc_follow::{Beside, Frame, Page, Setting, Stop, first_difference, follow};
+use acc_lines::{Attendant, run_by_line};
 use acc_script::{MemorySink, MemorySource, Sink, Source, Status, read_all, write_all};
 use clap::Error;
 use clap::error::ErrorKind;
@@ -77,13 +80,20 @@ pub fn tell_words<E: Sink>(err: &mut E, fault: WordsFault) -> u8 {
 pub fn tool<R: Threads + Wait + Sync + AllocGlobal, S: Source, O: Sink, E: Sink, D: FileStore>(
     rt: &R,
     words: Vec<String>,
+    terminals: Terminals,
     reader: &mut S,
     out: &mut O,
     err: &mut E,
     files: &D,
 ) -> u8 {
     match parsed_words(rt.alloc(), &words) {
-        Ok(matches) => do_asked(rt, options_of(&matches), reader, out, err, files),
+        Ok(matches) => {
+            let options = Options {
+                terminals,
+                ..options_of(&matches)
+            };
+            do_asked(rt, options, reader, out, err, files)
+        }
         Err(error) => tell_usage(rt, out, err, &error),
     }
 }
@@ -126,7 +136,8 @@ fn tell_end<R: AllocGlobal, E: Sink>(
     column: u64,
     mishap: Mishap<'_>,
 ) {
-    let is_more = options.file.is_some() || !options.tests.is_empty() || options.views.explain;
+    let is_named = options.file.is_some() || !options.tests.is_empty();
+    let is_more = is_named || options.shown().explain;
     match mishap {
         Mishap::Fault(Fault::BadConfig) if is_more => tell_sizes(err, options.machine()),
         _ => tell_mishap(rt.alloc(), err, options.file, column, mishap),
@@ -330,22 +341,35 @@ pub fn use_script<
     ends: Ends<'_, O, E, D>,
 ) -> Result<Status, Mishap<'a>> {
     let config = limits(options)?;
-    let Ends {
-        out,
-        err,
-        files,
-        told,
-    } = ends;
     if options.emit {
-        return emit_script(rt, options, config, reader, out);
+        return emit_script(rt, options, config, reader, ends.out);
     }
     let setting = Setting {
         config,
         parts: threads(options),
-        views: options.views,
+        views: options.shown(),
     };
+    run_script(rt, options, setting, reader, ends)
+}
+
+/// Runs a script, line by line where that is asked for.
+fn run_script<
+    'a,
+    R: Threads + Wait + Sync + AllocGlobal,
+    S: Source,
+    O: Sink,
+    E: Sink,
+    D: FileStore,
+>(
+    rt: &R,
+    options: Options<'a>,
+    setting: Setting,
+    reader: &mut S,
+    ends: Ends<'_, O, E, D>,
+) -> Result<Status, Mishap<'a>> {
+    let (out, files) = (ends.out, ends.files);
     let beside = Beside {
-        err,
+        err: ends.err,
         pictures: &PictureFiles {
             files,
             alloc: rt.alloc(),
@@ -353,19 +377,51 @@ pub fn use_script<
             each: options.svg_every,
             page: options.html,
         },
-        reason: &mut told.reason,
-        column: &mut told.column,
-        lines: &mut told.lines,
+        reason: &mut ends.told.reason,
+        column: &mut ends.told.column,
+        lines: &mut ends.told.lines,
     };
-    match follow(rt, setting, reader, out, beside) {
+    let clerk = Clerk {
+        alloc: rt.alloc(),
+        file: options.file,
+        files,
+    };
+    let ending = match options.manner() {
+        Some(manner) => run_by_line(rt, setting, manner, reader, out, beside, &clerk),
+        None => follow(rt, setting, reader, out, beside),
+    };
+    match ending {
         Ok(status) => Ok(status),
         Err(stop) => Err(mishap_of(options, stop)),
+    }
+}
+
+/// Tells the faults behind which a script goes on, and keeps the lines of a prompt.
+#[derive(Drop)]
+struct Clerk<'a, D> {
+    alloc: Global,
+    file: Option<&'a str>,
+    files: &'a D,
+}
+
+impl<D: FileStore> Attendant for Clerk<'_, D> {
+    fn tell(&self, told: &mut MemorySink, fault: Fault, column: u64) {
+        tell_mishap(self.alloc, told, self.file, column, Mishap::Fault(fault));
+    }
+
+    fn save(&self, name: &str, script: &[u8]) -> bool {
+        self.files.write(name, script)
+    }
+
+    fn help(&self) -> &str {
+        statements()
     }
 }
 
 fn mishap_of(options: Options<'_>, stop: Stop) -> Mishap<'_> {
     match stop {
         Stop::Fault(fault) => Mishap::Fault(fault),
+        Stop::Told => Mishap::Told,
         Stop::Picture(Frame::Last) => Mishap::Unwritten(options.svg.unwrap_or(""), None),
         Stop::Picture(Frame::Line(number)) => {
             Mishap::Unwritten(options.svg_every.unwrap_or(""), Some(number))

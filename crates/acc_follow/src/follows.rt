@@ -91,27 +91,7 @@ pub fn follow<R: Threads + Wait + Sync + AllocGlobal, S: Source, O: Sink, E: Sin
 ) -> Result<Status, Stop>
     requires { (1 ≤ setting.parts) × (setting.parts ≤ 64) }
 {
-    let Beside {
-        err,
-        pictures,
-        reason,
-        column,
-        lines,
-    } = beside;
-    let mut follower = Follower {
-        alloc: rt.alloc(),
-        views: setting.views,
-        err,
-        pictures,
-        reason,
-        column,
-        names: Names::new(rt.alloc()),
-        log: Log::new(rt.alloc()),
-        entries: Vec::new(rt.alloc()),
-        timeline: Timeline::new(rt.alloc()),
-        drawn: 0,
-        stop: None,
-    };
+    let (mut follower, lines) = Follower::new(rt.alloc(), setting.views, beside);
     let ending = if setting.views.echo || setting.views.json || setting.views.lines {
         run_copied(rt, setting, reader, out, lines, &mut follower)
     } else {
@@ -124,8 +104,7 @@ pub fn follow<R: Threads + Wait + Sync + AllocGlobal, S: Source, O: Sink, E: Sin
             &mut follower,
         )
     };
-    let told = follower.write_told(out);
-    follower.ended(ending, told)
+    follower.ended(out, ending)
 }
 
 /// Runs a script into memory, and copies what it prints.
@@ -140,16 +119,7 @@ fn run_copied<R: Threads + Wait + Sync + AllocGlobal, S: Source, O: Sink, X: Wat
     requires { (1 ≤ setting.parts) × (setting.parts ≤ 64) }
 {
     let mut printed = MemorySink::new(rt.alloc());
-    let mut copier = Copier {
-        out,
-        watcher,
-        alloc: rt.alloc(),
-        echo: setting.views.echo,
-        json: setting.views.json,
-        lines,
-        copied: 0,
-        failed: None,
-    };
+    let mut copier = Copier::new(rt.alloc(), setting.views, out, watcher, lines);
     let ending = run(
         rt,
         reader,
@@ -158,22 +128,22 @@ fn run_copied<R: Threads + Wait + Sync + AllocGlobal, S: Source, O: Sink, X: Wat
         setting.parts,
         &mut copier,
     );
-    match (copier.failed, ending) {
-        (Some(fault), _) => Err(fault),
-        // This sink fails for lack of memory alone.
-        (None, Err(Fault::Write)) => Err(Fault::Memory),
-        (None, ending) => ending,
-    }
+    copier.ended(ending)
 }
 
+/// Watches a run, and shows more of it.
 #[derive(Drop)]
-struct Follower<'a, E, G> {
+pub struct Follower<'a, E, G> {
     alloc: Global,
     views: Views,
-    err: &'a mut E,
+    /// As in [`Beside`], and so are those that follow.
+    pub err: &'a mut E,
     pictures: &'a G,
     reason: &'a mut Page,
-    column: &'a mut u64,
+    /// Where it is.
+    pub column: &'a mut u64,
+    /// Whether nothing goes to `err`.
+    pub is_silent: bool,
     names: Names,
     log: Log,
     /// The lines whose data regions are open, the innermost last.
@@ -184,6 +154,41 @@ struct Follower<'a, E, G> {
     drawn: usize,
     /// Why nothing more is shown.
     stop: Option<Stop>,
+}
+
+impl<'a, E, G> Follower<'a, E, G> {
+    /// Returns a follower of no line, and the list of the lines that printed what, which is for a [`Copier`].
+    pub fn new(
+        alloc: Global,
+        views: Views,
+        beside: Beside<'a, E, G>,
+    ) -> (Follower<'a, E, G>, &'a mut Vec<u64>) {
+        let follower = Follower {
+            alloc,
+            views,
+            err: beside.err,
+            pictures: beside.pictures,
+            reason: beside.reason,
+            column: beside.column,
+            is_silent: false,
+            names: Names::new(alloc),
+            log: Log::new(alloc),
+            entries: Vec::new(alloc),
+            timeline: Timeline::new(alloc),
+            drawn: 0,
+            stop: None,
+        };
+        (follower, beside.lines)
+    }
+
+    /// Forgets the lines so far.
+    pub fn forget(&mut self) {
+        self.names = Names::new(self.alloc);
+        self.log = Log::new(self.alloc);
+        self.entries.clear();
+        self.timeline = Timeline::new(self.alloc);
+        self.drawn = 0;
+    }
 }
 
 impl<O: Sink, E: Sink, G: PictureSink> Watcher<O> for Follower<'_, E, G> {
@@ -306,7 +311,9 @@ impl<E: Sink, G: PictureSink> Follower<'_, E, G> {
         if !out.flush() {
             return Err(Fault::Write);
         }
-        let _ = write_all(self.err, lines);
+        if !self.is_silent {
+            let _ = write_all(self.err, lines);
+        }
         self.log.page.clear();
         Ok(())
     }
@@ -342,9 +349,15 @@ impl<E: Sink, G: PictureSink> Follower<'_, E, G> {
         self.pictures.keep(Frame::Last, picture.whole()?)
     }
 
+    /// Writes why the last line at fault is, behind the fault itself.
+    pub fn tell_reason(&mut self) {
+        let _ = write_all(self.err, self.reason.as_slice());
+        self.reason.clear();
+    }
+
     /// Puts where and why a line is at fault. Where there is no memory, the reason is cut short, and the fault itself is
     /// still written.
-    fn give_reason(&mut self, ran: RanLine<'_>, kind: ScriptFault) {
+    pub fn give_reason(&mut self, ran: RanLine<'_>, kind: ScriptFault) {
         *self.column = fault_column(self.alloc, &ran.session.arrays, ran.line, kind);
         if self.views.explain {
             ran.explain_fault(self.reason, self.alloc, &self.entries, kind);
@@ -370,13 +383,18 @@ impl<E: Sink, G: PictureSink> Follower<'_, E, G> {
         self.pictures.keep(Frame::Each, page.whole()?)
     }
 
-    /// Returns why something could not be shown; else how the run ended, if by a fault; else whether the last lines
-    /// were written.
-    fn ended(
-        &self,
+    /// Writes the last lines. Returns why something could not be shown; else how the run ended, if by a fault; else
+    /// whether the last lines were written.
+    ///
+    /// # Errors
+    ///
+    /// Those of [`follow`].
+    pub fn ended<O: Sink>(
+        &mut self,
+        out: &mut O,
         ending: Result<Status, Fault>,
-        told: Result<(), Fault>,
     ) -> Result<Status, Stop> {
+        let told = self.write_told(out);
         if let Some(stop) = self.stop {
             return Err(stop);
         }

@@ -13,7 +13,9 @@ mod timelines;
 
 pub use acc_log::RowCounts;
 pub use acc_read::Page;
+pub use copiers::Copier;
 pub use differences::{Difference, first_difference};
-pub use follows::{Beside, Setting, Views, follow};
+pub use follows::{Beside, Follower, Setting, Views, follow};
 pub use picture_sinks::{Frame, PictureSink, Stop};
+pub use ran_lines::RanLine;
 pub use row_counts::count_rows;

@@ -30,6 +30,8 @@ pub enum Stop {
     Fault(Fault),
     /// A picture could not be kept.
     Picture(Frame),
+    /// Some lines are at fault, which is told already.
+    Told,
 }
 
 impl From<Fault> for Stop {

@@ -114,8 +114,16 @@ fn play_lines<R: Threads + Wait + Sync + AllocGlobal, W: Sink, X: Watcher<W>>(
     Ok(status)
 }
 
+/// Runs the line of a number in a session, and writes what it prints; returns whether it was refused. [`run`] runs each
+/// line of a script so, and the watcher sees this line likewise, but for the end.
+///
+/// # Errors
+///
+/// - [`Fault::Script`] where the line is at fault. Nothing was written.
+/// - [`Fault::Write`] where the writer fails. It took a front of what the line prints.
+/// - [`Fault::Memory`] as [`Session::perform`], or where a line lists items or bytes. Nothing was written.
 #[tactic(auto, unfolding(crate::specs::Scripts::line_turned))]
-fn run_line<R: Threads + Wait + Sync + AllocGlobal, W: Sink, X: Watcher<W>>(
+pub fn run_line<R: Threads + Wait + Sync + AllocGlobal, W: Sink, X: Watcher<W>>(
     rt: &R,
     number: u64,
     session: &mut Session,
@@ -141,7 +149,8 @@ fn run_line<R: Threads + Wait + Sync + AllocGlobal, W: Sink, X: Watcher<W>>(
     Ok(effect.is_refused())
 }
 
-fn status_of(refused: bool) -> Status
+/// The status of a script of which a line was refused, or none.
+pub fn status_of(refused: bool) -> Status
     ensures { result ≡ status_of refused }
 {
     if refused {

@@ -1,7 +1,7 @@
 //! What the program does over sources, sinks and files in memory: where one of them fails, where memory cannot grow, and
 //! with options that `tests/scripts` cannot show. How scripts end at limits that no option gives.
 
-use acc_command::{FileStore, Unread, tool};
+use acc_command::{FileStore, Terminals, Unread, tool};
 use acc_script::{MemorySink, MemorySource, Sink, Source};
 use std::alloc::{AllocError, Global};
 use std::fmt::Debug;
@@ -17,6 +17,7 @@ mod growths;
 mod limits;
 mod pictures;
 mod streams;
+mod typed;
 mod worked;
 
 /// The options, a script, what it prints, and the status.
@@ -31,6 +32,12 @@ fn same<R: Abort, T: PartialEq + Debug + Copy, P: Debug + Copy>(
 ) {
     assert_eq!(rt; found, wanted, "at {place:?}");
 }
+
+/// No stream is a terminal.
+const PIPES: Terminals = Terminals {
+    input: false,
+    errors: false,
+};
 
 /// The words of a command line: the program's name, and the options between blanks.
 fn words(alloc: Global, options: &str) -> Result<Vec<String>, AllocError> {
@@ -82,7 +89,7 @@ fn run_over<R: Threads + Wait + Sync + AllocGlobal, S: Source, O: Sink, E: Sink>
 ) -> Result<u8, AllocError> {
     let words = words(rt.alloc(), options)?;
     let files = OneScript { alloc: rt.alloc() };
-    Ok(tool(rt, words, source, out, err, &files))
+    Ok(tool(rt, words, PIPES, source, out, err, &files))
 }
 
 /// Runs the program on a script in memory, and returns the status.

@@ -5,11 +5,11 @@
 mod pipes;
 
 use acc_base::Fault;
-use acc_command::{Disk, FAULTED, read_words, tell, tell_words, tool};
+use acc_command::{Disk, FAULTED, Terminals, read_words, tell, tell_words, tool};
 use acc_script::{FromRead, ToWrite};
 use pipes::{Errors, Output};
 use std::cell::Cell;
-use std::io::BufWriter;
+use std::io::{BufWriter, IsTerminal};
 use std::process::ExitCode;
 
 fn main(rt: HostRuntime) -> ExitCode {
@@ -31,7 +31,20 @@ fn main(rt: HostRuntime) -> ExitCode {
         tell(&mut err, Fault::Memory);
         return ExitCode::from(FAULTED);
     };
+    let terminals = Terminals {
+        input: rt.stdin().is_terminal(),
+        errors: rt.stderr().is_terminal(),
+    };
     let mut reader = FromRead::new(rt.stdin());
     let mut out = ToWrite::new(stdout);
-    ExitCode::from(tool(rt, words, &mut reader, &mut out, &mut err, &Disk { rt }))
+    let files = Disk { rt };
+    ExitCode::from(tool(
+        rt,
+        words,
+        terminals,
+        &mut reader,
+        &mut out,
+        &mut err,
+        &files,
+    ))
 }

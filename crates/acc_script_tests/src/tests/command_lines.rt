@@ -16,7 +16,7 @@ const ACCEPTED: [(&str, &str); 4] = [
 ];
 
 /// Command lines that are refused, and a text that standard error has then.
-const REFUSED: [(&str, &str); 39] = [
+const REFUSED: [(&str, &str); 42] = [
     (
         "--expect - -",
         "standard input cannot be both FILE and OUTPUT",
@@ -72,6 +72,15 @@ const REFUSED: [(&str, &str); 39] = [
         "'--random <SEED>' cannot be used with '--rows <FILE>...'",
     ),
     ("--lines 3", "--random <SEED>"),
+    ("--explain=some", "'some' for '--explain[=<WHEN>]'"),
+    (
+        "--random 1 --line",
+        "'--random <SEED>' cannot be used with '--line'",
+    ),
+    (
+        "--emit c --keep-going",
+        "'--emit <LANGUAGE>' cannot be used with '--keep-going'",
+    ),
     ("--test", "'--test <PATH>...'"),
     (
         "--test wall --emit c",
@@ -120,14 +129,14 @@ fn command_lines_are_read(rt: HostRuntime) -> Result<(), Fail> {
 
 /// What the help has to name, with bars between the words.
 const HELP_WORDS: &str =
-    "[FILE]|--test <PATH>|--bless|--junit <FILE>|--expect <OUTPUT>|--echo|--json|--log|--explain|--svg <PICTURE>|\
+    "[FILE]|--test <PATH>|--bless|--junit <FILE>|--expect <OUTPUT>|--echo|--json|--log|--explain[=<WHEN>]|--line|--keep-going|--svg <PICTURE>|\
     --svg-every <PICTURE>|--html <PAGE>|\
     --version|--emit <LANGUAGE>|--until-refusal|--rows <FILE>|--random <SEED>|--lines <N>|--devices <N>|--threads <N>|--drill <ROUNDS>|\
     --trace <WHAT>|read whole|array NAME|write PLACE|point PLACE to PLACE|data CLAUSES|copy(REFS)|\
     copyin(REFS)|copyout(REFS)|create(REFS)|no_create(REFS)|present(REFS)|attach(PLACES)|end data|\
     enter data copyin(REFS)|enter data create(REFS)|enter data attach(PLACES)|exit data delete(REFS)|\
     exit data copyout(REFS)|exit data detach(PLACES)|finalize|update self(REFS)|update device(REFS)|\
-    wait, wait(QUEUE)|step(QUEUE)|set device_num(N)|async(QUEUE)|kernel add K REF|kernel xor K REF|\
+    undo|save FILE|wait, wait(QUEUE)|step(QUEUE)|set device_num(N)|async(QUEUE)|kernel add K REF|kernel xor K REF|\
     kernel number K REF|kernel plus REF REF|show REF|peek REF|present REF|address PLACE|report|\
     REF via PLACE";
 

@@ -1,5 +1,5 @@
-//! The program `accrun` but for its streams: the words and options of its command line, what it does for them, and how
-//! it ends.
+//! The program `accrun` but for its streams and words: the options of its command line, what it does for them, and how it
+//! ends.
 #![tactic(auto)]
 
 mod drills;
@@ -10,10 +10,8 @@ mod picture_files;
 mod programs;
 mod suites;
 mod tools;
-mod words;
 
+pub use acc_lines::Terminals;
 pub use endings::tell;
 pub use file_stores::{Disk, FileStore, Unread};
-pub use options::Terminals;
-pub use tools::{CLEAN, FAULTED, REFUSED, tell_words, tool};
-pub use words::{WordsFault, read_words};
+pub use tools::{CLEAN, FAULTED, REFUSED, tool};

@@ -1,7 +1,7 @@
 //! The command line.
 
 use acc_follow::Views;
-use acc_lines::Manner;
+use acc_lines::{Manner, Terminals};
 use acc_trials::{Machine, bytes_of, first_words, options_in};
 use clap::error::ErrorKind;
 use clap::parser::ValueSource;
@@ -29,15 +29,6 @@ const VERSION: &str = "0.1.0 (OpenACC 3.3)";
 
 /// When explanations are written.
 const EXPLAIN_TIMES: &[&str] = &["auto", "always", "never"];
-
-/// Which of the program's streams are terminals.
-#[derive(Clone, Copy)]
-pub struct Terminals {
-    /// Standard input: a person types the script.
-    pub input: bool,
-    /// Standard error: a person reads why a line is at fault.
-    pub errors: bool,
-}
 
 /// What the command line asks for.
 #[derive(Clone, Copy)]
@@ -302,14 +293,9 @@ impl<'a> Options<'a> {
 
     /// How the lines of a script are run one by one; `None` where all of it is read first.
     pub fn manner(self) -> Option<Manner> {
-        let is_typed = self.terminals.input && self.file.is_none() && self.tests.is_empty();
-        let asks = is_typed && self.expect.is_none();
-        let manner = Manner {
-            asks,
-            answers: self.line && !asks,
-            goes_on: self.keep_going || asks,
-        };
-        (manner.answers || manner.goes_on).then_some(manner)
+        let is_input = self.file.is_none() && self.tests.is_empty();
+        let asks = self.terminals.input && is_input && self.expect.is_none();
+        Manner::of(asks, self.line, self.keep_going)
     }
 
     fn or(self, line: Options<'_>) -> Options<'a> {
@@ -456,10 +442,7 @@ fn with_scripts<'a>(alloc: Global, command: Command<'a>) -> Result<Command<'a>, 
 /// What a command line asks for, where no stream is a terminal.
 pub fn options_of<'a>(matches: &'a ArgMatches<'_>) -> Options<'a> {
     Options {
-        terminals: Terminals {
-            input: false,
-            errors: false,
-        },
+        terminals: Terminals::NONE,
         explain: is_explained(matches),
         line: matches.get_flag("line"),
         keep_going: matches.get_flag("keep-going"),

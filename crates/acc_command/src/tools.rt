@@ -8,15 +8,14 @@ use crate::endings::{
 };
 use crate::file_stores::FileStore;
 use crate::options::{
-    DEFAULT_THREADS, Options, Terminals, options_of, parsed_words, statements, with_first_line,
+    DEFAULT_THREADS, Options, options_of, parsed_words, statements, with_first_line,
 };
 use crate::picture_files::PictureFiles;
 use crate::programs::{emit_script, write_random, write_rows};
 use crate::suites::Tester;
-use crate::words::WordsFault;
 use acc_base::{Config, Fault};
 use acc_follow::{Beside, Frame, Page, Setting, Stop, first_difference, follow};
-use acc_lines::{Attendant, run_by_line};
+use acc_lines::{Attendant, Terminals, run_by_line};
 use acc_script::{MemorySink, MemorySource, Sink, Source, Status, read_all, write_all};
 use clap::Error;
 use clap::error::ErrorKind;
@@ -49,23 +48,6 @@ const QUEUE_CAP: u64 = 256;
 
 /// How many events the trace may have.
 const TRACE_CAP: u64 = 262_144;
-
-/// What is written where a word of the command line is not UTF-8.
-const NOT_TEXT: &str = "error: a word of the command line is not UTF-8
-
-For more information, try '--help'.
-";
-
-/// Writes on `err` why there are no words of the command line, and returns the status.
-pub fn tell_words<E: Sink>(err: &mut E, fault: WordsFault) -> u8 {
-    match fault {
-        WordsFault::Memory => tell(err, Fault::Memory),
-        WordsFault::NotText => {
-            let _ = write_all(err, NOT_TEXT.as_bytes());
-        }
-    }
-    FAULTED
-}
 
 /// Parses the command line, does what it asks for, flushes the output, and returns the status: [`CLEAN`], [`REFUSED`]
 /// or [`FAULTED`].

@@ -10,6 +10,23 @@ use acc_script::{
 use std::sync::Wait;
 use std::thread::Threads;
 
+/// Which of the program's streams are terminals.
+#[derive(Clone, Copy)]
+pub struct Terminals {
+    /// Standard input: a person types the script.
+    pub input: bool,
+    /// Standard error: a person reads why a line is at fault.
+    pub errors: bool,
+}
+
+impl Terminals {
+    /// No stream is one.
+    pub const NONE: Terminals = Terminals {
+        input: false,
+        errors: false,
+    };
+}
+
 /// How the lines of a script are run one by one.
 #[derive(Clone, Copy)]
 pub struct Manner {
@@ -19,6 +36,19 @@ pub struct Manner {
     pub answers: bool,
     /// Whether the script goes on behind a line at fault.
     pub goes_on: bool,
+}
+
+impl Manner {
+    /// The manner where lines are typed, where each is answered, and where faults end no script; `None` where there is
+    /// nothing to do line by line. A prompt goes on behind a fault, and its answers need no empty lines.
+    pub fn of(asks: bool, is_answered: bool, keeps_going: bool) -> Option<Manner> {
+        let manner = Manner {
+            asks,
+            answers: is_answered && !asks,
+            goes_on: keeps_going || asks,
+        };
+        (manner.answers || manner.goes_on).then_some(manner)
+    }
 }
 
 /// Does what is not the script's own.

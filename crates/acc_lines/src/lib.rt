@@ -5,4 +5,4 @@ mod dialogues;
 mod line_readers;
 mod words;
 
-pub use dialogues::{Attendant, Manner, run_by_line};
+pub use dialogues::{Attendant, Manner, Terminals, run_by_line};

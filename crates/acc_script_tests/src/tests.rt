@@ -33,12 +33,6 @@ fn same<R: Abort, T: PartialEq + Debug + Copy, P: Debug + Copy>(
     assert_eq!(rt; found, wanted, "at {place:?}");
 }
 
-/// No stream is a terminal.
-const PIPES: Terminals = Terminals {
-    input: false,
-    errors: false,
-};
-
 /// The words of a command line: the program's name, and the options between blanks.
 fn words(alloc: Global, options: &str) -> Result<Vec<String>, AllocError> {
     let mut words = Vec::new(alloc);
@@ -89,7 +83,7 @@ fn run_over<R: Threads + Wait + Sync + AllocGlobal, S: Source, O: Sink, E: Sink>
 ) -> Result<u8, AllocError> {
     let words = words(rt.alloc(), options)?;
     let files = OneScript { alloc: rt.alloc() };
-    Ok(tool(rt, words, PIPES, source, out, err, &files))
+    Ok(tool(rt, words, Terminals::NONE, source, out, err, &files))
 }
 
 /// Runs the program on a script in memory, and returns the status.

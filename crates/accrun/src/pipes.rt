@@ -1,5 +1,8 @@
 //! Standard output and standard error, where nobody may read the output any more.
 
+use crate::colours::put_coloured;
+use acc_read::Page;
+use std::alloc::Global;
 use std::cell::Cell;
 use std::io::{self, ErrorKind, Write};
 
@@ -36,6 +39,8 @@ pub struct Errors<'a, W> {
     pub inner: W,
     /// Whether nobody reads standard output.
     pub is_closed: &'a Cell<bool>,
+    /// The allocator of what has colours; `None` where nothing has.
+    pub colours: Option<Global>,
 }
 
 impl<W: Write> Write for Errors<'_, W> {
@@ -43,10 +48,26 @@ impl<W: Write> Write for Errors<'_, W> {
         if self.is_closed.get() && piece == FAILED {
             return Ok(piece.len());
         }
-        self.inner.write(piece)
+        match self.colours {
+            Some(alloc) => write_coloured(alloc, &mut self.inner, piece),
+            None => self.inner.write(piece),
+        }
     }
 
     fn flush(&mut self) -> io::Result<()> {
         self.inner.flush()
+    }
+}
+
+/// Writes whole lines with colours; as they are where there is no memory for these.
+fn write_coloured<W: Write>(alloc: Global, inner: &mut W, piece: &[u8]) -> io::Result<usize> {
+    let mut page = Page::new(alloc);
+    put_coloured(&mut page, piece);
+    match page.whole() {
+        Ok(text) => {
+            inner.write_all(text)?;
+            Ok(piece.len())
+        }
+        Err(_) => inner.write(piece),
     }
 }

@@ -1,7 +1,7 @@
 //! What pictures have, and which are made. Those of `docs/pictures` are compared whole; here stands what they lack.
 
-use super::{PIPES, same, words};
-use acc_command::{FileStore, Unread, tool};
+use super::{same, words};
+use acc_command::{FileStore, Terminals, Unread, tool};
 use acc_script::{MemorySink, MemorySource};
 use std::alloc::AllocError;
 use std::cell::Cell;
@@ -171,7 +171,15 @@ fn check_row<R: Threads + Wait + Sync + AllocGlobal + Abort>(
         wanted,
         pictures: Cell::new(0),
     };
-    let found = tool(rt, words, PIPES, &mut reader, &mut out, &mut err, &store);
+    let found = tool(
+        rt,
+        words,
+        Terminals::NONE,
+        &mut reader,
+        &mut out,
+        &mut err,
+        &store,
+    );
     same(rt, found, status, options);
     same(rt, store.pictures.get(), count, options);
     Ok(())

@@ -1,7 +1,7 @@
 //! Scripts that are typed at a prompt: what goes to both streams, what is taken back and what is kept. What is told where a
 //! person reads it.
 
-use super::{PIPES, check_status, same, words};
+use super::{check_status, same, words};
 use acc_command::{FileStore, Terminals, Unread, tool};
 use acc_script::{MemorySink, MemorySource};
 use std::alloc::AllocError;
@@ -107,7 +107,7 @@ fn type_lines<R: Threads + Wait + Sync + AllocGlobal>(
     let words = words(rt.alloc(), "--devices 2")?;
     let terminals = Terminals {
         input: true,
-        ..PIPES
+        ..Terminals::NONE
     };
     let mut source = MemorySource::new(lines.as_bytes());
     Ok(tool(rt, words, terminals, &mut source, out, err, files))
@@ -137,7 +137,10 @@ fn check_explained<R: Threads + Wait + Sync + AllocGlobal + Abort>(
     row: (&str, bool, bool),
 ) -> Result<(), AllocError> {
     let (options, errors, is_explained) = row;
-    let terminals = Terminals { errors, ..PIPES };
+    let terminals = Terminals {
+        errors,
+        ..Terminals::NONE
+    };
     let mut err = MemorySink::new(rt.alloc());
     run_faulty(rt, options, terminals, &mut err)?;
     let told = err

@@ -304,19 +304,23 @@ impl<
         self.session = Session::new(self.rt.alloc(), config, parts)?;
         self.follower.forget();
         self.follower.is_silent = true;
+        let ending = self.run_entries();
+        self.follower.is_silent = false;
+        ending
+    }
+
+    fn run_entries(&mut self) -> Result<(), Fault> {
         for entry in &self.entries {
             let mut printed = MemorySink::new(self.rt.alloc());
-            let (number, line) = (entry.number, &entry.text);
             run_line(
                 self.rt,
-                number,
+                entry.number,
                 &mut self.session,
-                line,
+                &entry.text,
                 &mut printed,
                 &mut self.follower,
             )?;
         }
-        self.follower.is_silent = false;
         Ok(())
     }
 

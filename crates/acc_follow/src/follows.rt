@@ -136,11 +136,11 @@ fn run_copied<R: Threads + Wait + Sync + AllocGlobal, S: Source, O: Sink, X: Wat
 pub struct Follower<'a, E, G> {
     alloc: Global,
     views: Views,
-    /// As in [`Beside`], and so are those that follow.
+    /// Gets the log and the explanations.
     pub err: &'a mut E,
     pictures: &'a G,
     reason: &'a mut Page,
-    /// Where it is.
+    /// Gets the column of what is wrong in a line at fault, from 1 on.
     pub column: &'a mut u64,
     /// Whether nothing goes to `err`.
     pub is_silent: bool,

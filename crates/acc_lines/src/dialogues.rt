@@ -70,6 +70,7 @@ pub trait Attendant {
 /// Those of [`acc_follow::follow`], but for faults behind which the script goes on. Of those the attendant tells each, and
 /// at the end there is [`Stop::Told`].
 pub fn run_by_line<
+    'x,
     R: Threads + Wait + Sync + AllocGlobal,
     S: Source,
     O: Sink,
@@ -77,13 +78,13 @@ pub fn run_by_line<
     G: PictureSink,
     A: Attendant,
 >(
-    rt: &R,
+    rt: &'x R,
     setting: Setting,
     manner: Manner,
     reader: &mut S,
-    out: &mut O,
+    out: &'x mut O,
     beside: Beside<'_, E, G>,
-    attendant: &A,
+    attendant: &'x A,
 ) -> Result<Status, Stop> {
     let (follower, _) = Follower::new(rt.alloc(), setting.views, beside);
     let mut dialogue = Dialogue {

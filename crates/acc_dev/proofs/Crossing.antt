@@ -1,7 +1,6 @@
 -- A device may be handed to another thread: no part of it belongs to one thread.
 use denote.Param.Send.{IsSend, sendable}
 use Rattle.std.proofs.Crossing.{crosses}
-use Rattle.acc_tree.proofs.nodes.Node.TheLaws.TheKnot as knot
 use Rattle.acc_placement.proofs.Crossing.{holes_send}
 use Rattle.acc_dev.specs.contracts.devices.Device as Device
 use Rattle.acc_dev.specs.contracts.entries.Stored as Stored
@@ -11,7 +10,7 @@ stored_send : IsSend Stored.the_row
 stored_send = search (sendable, crosses) depth 60 fits 100000
 
 ended_blocks_send : IsSend EndedBlocks.the_row
-ended_blocks_send = search (sendable, crosses, knot.crosses) depth 60 fits 100000
+ended_blocks_send = search (sendable, crosses) depth 60 fits 100000
 
 pub device_send : IsSend Device.the_row
 device_send = search (sendable, crosses, holes_send, stored_send, ended_blocks_send) depth 60 fits 100000

@@ -13,9 +13,8 @@ use Rattle.acc_base.proofs.Lookups.{at, AreDistinct, at-own, at-none, at-changed
 use Rattle.acc_base.proofs.Options.{from_none, from_some}
 use Rattle.acc_base.proofs.Elements.{AllByRecursion-weaker, AllByRecursion-both, AllByRecursion-passed, EachPair-weaker, filter-none, find_passes, found_has}
 use Rattle.acc_base.proofs.Keyed as keyed
-use Rattle.acc_tree.specs.declared.entries.Entry.{Entry}
-use Rattle.acc_tree.specs.Listing.{KeysRise, at_key, first_from, with_entry, without_key}
-use Rattle.acc_tree.proofs.Listed.{at-with_entry, at-without_key, first_own, first_least, first_none}
+use Rattle.acc_ordered.specs.Listing.{KeyValue, KeysRise, at_key, first_from, with_entry, without_key}
+use Rattle.acc_ordered.proofs.Listed.{at-with_entry, at-without_key, first_own, first_least, first_none}
 use Rattle.acc_dev.specs.Marks.{Mark, new_mark, mark_numbered, is_ended_at, mark_changed, with_end, without_mark, ended_told, lowest_ended, IsMarkOf}
 use Rattle.acc_dev.specs.Ending.{EndedState, block_placed, ended_number, number_kept, mapped_count, AreEndedKept}
 
@@ -307,15 +306,15 @@ counted_there e blocks marks births n b k f = omega (arith, k.counted, count_les
 
 -- the mapping of a block ends
 pub ended_now : (e d : EndedState) (blocks : List Block) (marks : List Mark) (births n : ℕ) (b : Block) → AreEndedKept e blocks marks births → IsFound n blocks marks b false
-    → d.entries ≡ with_entry (record { key = b.place; size = 0; value = n }) e.entries → d.mapped + 1 ≡ e.mapped → AreEndedKept d blocks (map (mark_changed n with_end) marks) births
+    → d.entries ≡ with_entry (record { key = b.place; value = n }) e.entries → d.mapped + 1 ≡ e.mapped → AreEndedKept d blocks (map (mark_changed n with_end) marks) births
 ended_now e d blocks marks births n b k f entries count = record {
   agrees = λ place. ap (number_kept place) entries ∙ ap (option_map (λ x. x.value)) (at-with_entry new e.entries place absent) ∙ agrees place (b.place == place) refl;
   counted = omega (arith, k.counted, count, count_fallen n marks f.mark f.marked f.ended);
   few = omega (arith, k.few, count);
 }
   where
-    new : Entry ℕ
-    new = record { key = b.place; size = 0; value = n }
+    new : KeyValue ℕ
+    new = record { key = b.place; value = n }
 
     absent : at_key b.place e.entries ≡ None
     absent = not_kept e blocks marks births n b k f
@@ -354,9 +353,9 @@ ended_left e d blocks marks births n b over k f entries count = record {
     elsewhere place (Some c) other there = ap (λ t. cond t (Some c.number) None) (ended-without n c.number marks (other_number n place blocks b c f.own f.block there other))
 
     agrees : (place : ℕ) (t : Bool) → (b.place == place) ≡ t → (o : Bool) → IsFound n blocks marks b o → number_kept place (cond o (without_key b.place e.entries) e.entries) ≡ ended_number (without_mark n marks) (cond (b.place == place) None (block_placed place blocks))
-    agrees place true here true g = rw here (let none : at_key place (without_key b.place e.entries) ≡ None = at-without_key b.place place e.entries ∙ rw here refl in ap (option_map (λ (x : Entry ℕ). x.value)) none)
-    agrees place true here false g = rw here (let none : at_key place e.entries ≡ None = subst (λ (q : ℕ). at_key q e.entries ≡ None) (equal b.place place here) (not_kept e blocks marks births n b k g) in ap (option_map (λ (x : Entry ℕ). x.value)) none)
-    agrees place false other true g = rw other (let left : at_key place (without_key b.place e.entries) ≡ at_key place e.entries = at-without_key b.place place e.entries ∙ rw other refl in ap (option_map (λ (x : Entry ℕ). x.value)) left ∙ k.agrees place ∙ sym (elsewhere place (block_placed place blocks) other refl))
+    agrees place true here true g = rw here (let none : at_key place (without_key b.place e.entries) ≡ None = at-without_key b.place place e.entries ∙ rw here refl in ap (option_map (λ (x : KeyValue ℕ). x.value)) none)
+    agrees place true here false g = rw here (let none : at_key place e.entries ≡ None = subst (λ (q : ℕ). at_key q e.entries ≡ None) (equal b.place place here) (not_kept e blocks marks births n b k g) in ap (option_map (λ (x : KeyValue ℕ). x.value)) none)
+    agrees place false other true g = rw other (let left : at_key place (without_key b.place e.entries) ≡ at_key place e.entries = at-without_key b.place place e.entries ∙ rw other refl in ap (option_map (λ (x : KeyValue ℕ). x.value)) left ∙ k.agrees place ∙ sym (elsewhere place (block_placed place blocks) other refl))
     agrees place false other false g = rw other (k.agrees place ∙ sym (elsewhere place (block_placed place blocks) other refl))
 
 -- ---- the next block that has ended
@@ -416,17 +415,17 @@ pub next_ended : (e : EndedState) (blocks : List Block) (marks : List Mark) (bir
 next_ended e blocks marks births from o k own rise is = rw is (go (first_from from e.entries) refl)
   where
     -- the entry of a block that has ended
-    kept : (c : Block) → block_placed c.place blocks ≡ Some c → is_ended_at c.number marks ≡ true → (f : Entry ℕ) × (at_key c.place e.entries ≡ Some f)
+    kept : (c : Block) → block_placed c.place blocks ≡ Some c → is_ended_at c.number marks ≡ true → (f : KeyValue ℕ) × (at_key c.place e.entries ≡ Some f)
     kept c there ended = pick (at_key c.place e.entries) refl (k.agrees c.place ∙ ap (ended_number marks) there ∙ rw ended refl)
       where
-        pick : (a : Option (Entry ℕ)) → at_key c.place e.entries ≡ a → option_map (λ x. x.value) (at_key c.place e.entries) ≡ Some c.number → (f : Entry ℕ) × (at_key c.place e.entries ≡ Some f)
-        pick None a some = let no : None ≡ Some c.number = ap (option_map (λ (x : Entry ℕ). x.value)) (sym a) ∙ some in cc
+        pick : (a : Option (KeyValue ℕ)) → at_key c.place e.entries ≡ a → option_map (λ x. x.value) (at_key c.place e.entries) ≡ Some c.number → (f : KeyValue ℕ) × (at_key c.place e.entries ≡ Some f)
+        pick None a some = let no : None ≡ Some c.number = ap (option_map (λ (x : KeyValue ℕ). x.value)) (sym a) ∙ some in cc
         pick (Some f) a some = (f, a)
 
     own_places : AllByRecursion (λ c. block_placed c.place blocks ≡ Some c) blocks
     own_places = at-own place_key blocks own.places
 
-    go : (a : Option (Entry ℕ)) → first_from from e.entries ≡ a → IsNextEnded from marks blocks (option_map (λ x. x.value) a)
+    go : (a : Option (KeyValue ℕ)) → first_from from e.entries ≡ a → IsNextEnded from marks blocks (option_map (λ x. x.value) a)
     go None none = ap (λ bs. option_map (ended_told marks) (lowest bs)) (filter-none (passes_from from marks) blocks (AllByRecursion-weaker (λ c. block_placed c.place blocks ≡ Some c) (λ c. passes_from from marks c ≡ false) blocks (λ c there. fails c there (passes_from from marks c) refl) own_places))
       where
         fails : (c : Block) → block_placed c.place blocks ≡ Some c → (t : Bool) → passes_from from marks c ≡ t → t ≡ false
@@ -440,10 +439,10 @@ next_ended e blocks marks births from o k own rise is = rw is (go (first_from fr
     go (Some x) found = here (block_placed x.key blocks) refl
       where
         mine : number_kept x.key e.entries ≡ Some x.value
-        mine = ap (option_map (λ (y : Entry ℕ). y.value)) (first_own from e.entries x rise found)
+        mine = ap (option_map (λ (y : KeyValue ℕ). y.value)) (first_own from e.entries x rise found)
 
         from_on : nat_le from x.key ≡ true
-        from_on = let h = subst (λ (a : Option (Entry ℕ)). IfSome a (λ y. Contains e.entries y × (nat_le from y.key ≡ true))) found (find_passes (λ (y : Entry ℕ). nat_le from y.key) e.entries) in h.1
+        from_on = let h = subst (λ (a : Option (KeyValue ℕ)). IfSome a (λ y. Contains e.entries y × (nat_le from y.key ≡ true))) found (find_passes (λ (y : KeyValue ℕ). nat_le from y.key) e.entries) in h.1
 
         here : (a : Option Block) → block_placed x.key blocks ≡ a → IsNextEnded from marks blocks (Some x.value)
         here None there = let no : Some x.value ≡ None = sym mine ∙ k.agrees x.key ∙ ap (ended_number marks) there in cc

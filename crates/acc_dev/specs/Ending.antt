@@ -1,13 +1,12 @@
 -- How a device keeps the blocks whose mapping has ended: their numbers, by place. No public clause cites this module.
 use Rattle.std.specs.Prelude.{ℕ, ◌≡◌, ◌≤◌, ◌==◌, not, if◌then◌else◌, List, Option, Some, None, find, filter, length, option_map}
 use Rattle.acc_base.specs.declared.mappings.Block.{Block}
-use Rattle.acc_tree.specs.declared.entries.Entry.{Entry}
-use Rattle.acc_tree.specs.Listing.{at_key}
+use Rattle.acc_ordered.specs.Listing.{KeyValue, at_key}
 use Rattle.acc_dev.specs.Marks.{Mark, is_ended_at}
 
 -- their numbers by rising place, how many blocks are mapped, and how many more may be without memory
 pub record EndedState : Type 0 where
-  pub entries : List (Entry ℕ)
+  pub entries : List (KeyValue ℕ)
   pub mapped : ℕ
   pub room : ℕ
 
@@ -21,7 +20,7 @@ ended_number marks None = None
 ended_number marks (Some b) = if is_ended_at b.number marks then Some b.number else None
 
 -- the number that is kept for a place
-abbrev pub number_kept : ℕ → List (Entry ℕ) → Option ℕ
+abbrev pub number_kept : ℕ → List (KeyValue ℕ) → Option ℕ
 number_kept place entries = option_map (λ e. e.value) (at_key place entries)
 
 -- how many blocks are mapped

@@ -10,7 +10,7 @@ abbrev pub room_ready : Inside → List ℕ
 room_ready d = map (λ v. vec_capacity v) d.ready.items
 
 -- there are not too many, and each vector is empty. For each there is room in the holes, the slots, the index and the
--- tree of the blocks that have ended
+-- list of the blocks that have ended
 pub record HasRoom (d : Inside) : Type 0 where
   pub few : length d.ready.items ≤ 2 ^ 16
   pub empty : AllByRecursion (λ v. v.items ≡ []) d.ready.items

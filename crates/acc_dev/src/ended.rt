@@ -1,21 +1,20 @@
 //! The blocks whose mapping has ended, by place.
 
 ghost use Rattle.std.specs.Prelude.{◌≡◌, ◌+◌, ◌^◌, ◌<◌, ◌≤◌, [], true, false, None, IsSome, IfErr, OnOk, OnErr, option_map, if◌then◌else◌};
-ghost use Rattle.acc_tree.specs.Listing.{KeysRise, at_key, first_from, with_entry, without_key};
+ghost use Rattle.acc_ordered.specs.Listing.{KeysRise, keyed, at_key, first_from, with_entry, without_key};
 
 use acc_base::Fault;
-use acc_tree::{Entry, Tree};
+use acc_ordered::{OrderedList, Place};
 use std::alloc::Global;
 use std::marker::Model;
 
 /// The blocks whose mapping has ended, and how many are mapped.
 ///
-/// The next one from a device address on is found in a walk from the top of a tree. For each mapped block a node of it
-/// waits, so that the end of a mapping allocates nothing.
+/// They stand in an ordered list, which has room for each mapped block. So the end of a mapping allocates nothing.
 #[derive(Drop)]
 pub struct EndedBlocks {
     // The number of each block, by its place.
-    numbers: Tree<u64>,
+    numbers: OrderedList<u64, u64>,
     mapped: u64,
 }
 
@@ -37,7 +36,7 @@ impl EndedBlocks {
         ensures mapped { result.mapped ≡ 0 }
     {
         EndedBlocks {
-            numbers: Tree::new(alloc, 0),
+            numbers: OrderedList::new(alloc),
             mapped: 0,
         }
     }
@@ -70,15 +69,11 @@ impl EndedBlocks {
     pub fn end(&mut self, place: u64, block: u64)
         requires mapped { 1 ≤ self.old.mapped }
         requires new { at_key place self.old.entries ≡ None }
-        ensures entries { self.new.entries ≡ with_entry (record { key = place; size = 0; value = block }) self.old.entries }
+        ensures entries { self.new.entries ≡ with_entry (keyed place block) self.old.entries }
         ensures mapped { self.new.mapped + 1 ≡ self.old.mapped }
         ensures room { self.old.room ≤ self.new.room }
     {
-        self.numbers.insert(Entry {
-            key: u128::from(place),
-            size: 0,
-            value: block,
-        });
+        self.numbers.insert(place, block, Place::default());
         self.mapped -= 1;
     }
 
@@ -91,7 +86,7 @@ impl EndedBlocks {
         ensures room { self.old.room ≤ self.new.room }
     {
         if ended {
-            self.numbers.remove(u128::from(place));
+            self.numbers.remove(place, Place::default());
         } else {
             self.mapped -= 1;
         }
@@ -103,6 +98,6 @@ impl EndedBlocks {
         ensures rising { KeysRise self.now.entries }
     {
         self.numbers.laws();
-        Some(self.numbers.next(u128::from(from))?.value)
+        Some(*self.numbers.next(from)?.value)
     }
 }

@@ -53,11 +53,15 @@ module _ {T : Type 0} where
   least_set (f ∷ es) (suc i) value d lt = refl
 
   -- a row in which a value is written stays a row with its least key
+  pub row_long : (row new : List (KeyValue T)) (i : ℕ) (value : T) → i < length row → ((e : KeyValue T) → slice_get row i ≡ Some e → new ≡ set row i (record e { value = value })) → length new ≡ length row
+  row_long [] new i value lt h = absurd (omega arith)
+  row_long (e ∷ row) new i value lt h = ap length (h (get_or (e ∷ row) i e) (get_some (e ∷ row) i e lt)) ∙ length-set (e ∷ row) i (record (get_or (e ∷ row) i e) { value = value })
+
   pub row_written : (row new : List (KeyValue T)) (i : ℕ) (value : T) → i < length row → IsRow row → ((e : KeyValue T) → slice_get row i ≡ Some e → new ≡ set row i (record e { value = value })) → IsRow new × (least_key new ≡ least_key row)
   row_written row new i value lt whole written =
       let d : KeyValue T = record { key = 0; value = value } in
       let is = written (get_or row i d) (get_some row i d lt) in
-      let long = ap length is ∙ length-set row i (record (get_or row i d) { value = value }) in
+      let long = row_long row new i value lt written in
       (record { some = omega (arith, long, whole.some); most = omega (arith, long, whole.most) }, ap least_key is ∙ least_set row i value d lt)
 
   pub in_rows_kept : (firsts : List ℕ) (rows : List (List (KeyValue T))) (i : ℕ) (row new : List (KeyValue T)) → AreInRows firsts rows → IsRowAt rows i row → IsRow new → least_key new ≡ least_key row → KeysRise (side_by_side (set rows i new)) → AreInRows firsts (set rows i new)

@@ -13,3 +13,5 @@ pub mod Counting
 pub mod Halved
 pub mod Paired
 pub mod Written
+pub mod HalfFull
+pub mod Listed

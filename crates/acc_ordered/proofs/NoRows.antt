@@ -1,5 +1,5 @@
 -- Rows that are not there.
-use Rattle.std.proofs.Common.{◌≡◌, ◌<◌, ◌≤◌, refl, ap, Bool, true, List, [], ◌∷◌, ◌++◌, length, length-append, arith}
+use Rattle.std.proofs.Common.{◌≡◌, ◌<◌, ◌≤◌, ◌*◌, refl, ap, Bool, true, List, [], ◌∷◌, ◌++◌, length, length-append, arith}
 use Rattle.std.specs.Prelude.{◌==◌}
 use Rattle.std.specs.List.{AllByRecursion}
 use Rattle.std.proofs.lemmas.Bool.Decides.{nat_tests}
@@ -20,3 +20,7 @@ module _ {T : Type 0} where
   pub rows_few : (rows : List (List (KeyValue T))) → AllByRecursion IsRow rows → length rows ≤ length (side_by_side rows)
   rows_few [] each = omega arith
   rows_few (row ∷ rows) each = omega (arith, each.0.some, rows_few rows each.1, length-append row (side_by_side rows))
+
+  pub entries_few : (rows : List (List (KeyValue T))) → AllByRecursion IsRow rows → length (side_by_side rows) ≤ 64 * length rows
+  entries_few [] each = omega arith
+  entries_few (row ∷ rows) each = omega (arith, each.0.most, entries_few rows each.1, length-append row (side_by_side rows))

@@ -90,3 +90,19 @@ module _ {T : Type 0} where
     pub is : rows ≡ before ++ lower ∷ upper ∷ behind
     pub number_is : length before ≡ number
     pub few : length lower + length upper ≤ 64
+
+  -- a row and the next have more than 32 entries, or it is the last
+  abbrev pub AreApart : List (List (KeyValue T)) → ℕ → Type 0
+  AreApart rows number = (before : List (List (KeyValue T))) → (lower upper : List (KeyValue T)) → (behind : List (List (KeyValue T))) → rows ≡ before ++ lower ∷ upper ∷ behind → length before ≡ number → 32 < length lower + length upper
+
+  -- two rows became one
+  pub record IsJoined (old rows : List (List (KeyValue T))) (number : ℕ) : Type 0 where
+    pub before : List (List (KeyValue T))
+    pub lower : List (KeyValue T)
+    pub upper : List (KeyValue T)
+    pub whole : List (KeyValue T)
+    pub behind : List (List (KeyValue T))
+    pub old_is : old ≡ before ++ lower ∷ upper ∷ behind
+    pub new_is : rows ≡ before ++ whole ∷ behind
+    pub number_is : length before ≡ number
+    pub whole_is : whole ≡ lower ++ upper

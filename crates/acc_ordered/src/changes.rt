@@ -1,10 +1,9 @@
 //! How rows change.
-ghost use Rattle.std.specs.Bool.{OnTrue};
-ghost use Rattle.std.specs.Prelude.{◌≡◌, ◌+◌, ◌<◌, ◌≤◌, [], ◌∷◌, OnOk, OnErr, IfErr, Some, vec_len, vec_capacity, slice_get, slice_set as set, ℕ, List, length, map};
+ghost use Rattle.std.specs.Prelude.{◌≡◌, ◌+◌, ◌<◌, ◌≤◌, [], ◌∷◌, OnOk, OnErr, IfErr, Some, vec_len, vec_capacity, slice_get, slice_set as set, ℕ, List, length, map, ◌⊎◌, IsTrue, MatchBool};
 ghost use Rattle.std.specs.List.{AllByRecursion, insert, remove};
 ghost use Rattle.acc_ordered.specs.Listing.{KeyValue, KeysRise, keyed};
-ghost use Rattle.acc_ordered.specs.Laid.{side_by_side, IsRow, IsWaiting, AreInRows, AreRows};
-ghost use Rattle.acc_ordered.specs.Spots.{index_of, IsTaken, IsInRow, HasPlace, IsCutInTwo, HasEntries, IsAmongOthers, FitTogether};
+ghost use Rattle.acc_ordered.specs.Laid.{side_by_side, IsRow, IsWaiting, AreInRows, AreRows, AreHalfFull, AreOneShort};
+ghost use Rattle.acc_ordered.specs.Spots.{index_of, IsTaken, IsInRow, HasPlace, IsCutInTwo, HasEntries, IsAmongOthers, FitTogether, AreApart, IsJoined};
 
 use crate::keys::Key;
 use crate::places::Place;
@@ -45,9 +44,10 @@ pub fn make_rows<K: Key, T: Copy>(
 ) -> Result<(), Fault>
     requires rows { AreRows K.number firsts.old rows.old spare.old }
     ensures rows { AreRows K.number firsts.new rows.new spare.new }
-    ensures entries { side_by_side rows.new.items ≡ side_by_side rows.old.items }
+    ensures same { rows.new.items ≡ rows.old.items }
     ensures ok { OnOk result (count ≤ vec_len spare.new) }
     ensures spare { vec_len spare.old ≤ vec_len spare.new }
+    ensures not_more { (most : ℕ) → vec_len spare.old ≤ most → count ≤ most → vec_len spare.new ≤ most }
     ensures only { IfErr result (λ fault. fault ≡ Fault.Memory) }
     ensures memory { OnErr result (vec_len spare.old < count) }
 {
@@ -73,7 +73,9 @@ pub fn start<K: Key, T: Copy>(
     requires room { 1 ≤ vec_len spare.old }
     ensures rows { AreRows K.number firsts.new rows.new spare.new }
     ensures entries { side_by_side rows.new.items ≡ keyed (K.number key) value ∷ [] }
+    ensures half_full { AreHalfFull rows.new.items }
     ensures spare { vec_len spare.old ≤ vec_len spare.new + 1 }
+    ensures total { vec_len rows.new + vec_len spare.new ≡ vec_len rows.old + vec_len spare.old }
 {
     let mut row = spare.take_last();
     row.insert_at(0, key, value);
@@ -85,8 +87,9 @@ pub fn start<K: Key, T: Copy>(
 /// together, so rows are nearly full after entries that come by rising keys. No row before others gets a small one
 /// beside it, which might come and go with each entry, and would move the others.
 fn cut_for(at: usize, is_last: bool) -> usize
-    ensures some { 0 < result }
+    ensures half { 32 ≤ result }
     ensures not_all { result < 64 }
+    ensures last { result ≡ 32 ⊎ IsTrue is_last }
 {
     if at == WIDTH && is_last {
         WIDTH - 1
@@ -112,6 +115,7 @@ fn split<K: Key, T: Copy>(
     ensures entries { side_by_side rows.new.items ≡ side_by_side rows.old.items }
     ensures cut { IsCutInTwo rows.old.items rows.new.items row cut }
     ensures spare { vec_len spare.old ≡ vec_len spare.new + 1 }
+    ensures total { vec_len rows.new ≡ vec_len rows.old + 1 }
 {
     let mut upper = spare.take_last();
     rows[row].cut(cut, &mut upper);
@@ -128,12 +132,15 @@ pub fn make_place<K: Key, T: Copy>(
 ) -> Place
     requires rows { AreRows K.number firsts.old rows.old spare.old }
     requires within { IsInRow rows.old.items place }
+    requires half_full { AreHalfFull rows.old.items }
     requires room { 1 ≤ vec_len spare.old }
     ensures rows { AreRows K.number firsts.new rows.new spare.new }
     ensures entries { side_by_side rows.new.items ≡ side_by_side rows.old.items }
     ensures number { index_of rows.new.items result ≡ index_of rows.old.items place }
     ensures place { HasPlace rows.new.items result }
+    ensures half_full { AreHalfFull rows.new.items }
     ensures spare { vec_len spare.old ≤ vec_len spare.new + 1 }
+    ensures total { vec_len rows.new + vec_len spare.new ≡ vec_len rows.old + vec_len spare.old }
 {
     if rows[place.row].len() < WIDTH {
         return place;
@@ -161,7 +168,9 @@ pub fn put<K: Key, T: Copy>(
     requires in_rows { AreInRows (map K.number firsts.old.items) rows.old.items }
     requires place { HasPlace rows.old.items place }
     requires rising { KeysRise (insert (side_by_side rows.old.items) (index_of rows.old.items place) (keyed (K.number key) value)) }
+    requires half_full { AreHalfFull rows.old.items }
     ensures in_rows { AreInRows (map K.number firsts.new.items) rows.new.items }
+    ensures half_full { AreHalfFull rows.new.items }
     ensures entries { side_by_side rows.new.items ≡ insert (side_by_side rows.old.items) (index_of rows.old.items place) (keyed (K.number key) value) }
     ensures len { vec_len rows.new ≡ vec_len rows.old }
     ensures capacity { vec_capacity rows.new ≡ vec_capacity rows.old }
@@ -181,9 +190,12 @@ fn take_row<K: Key, T: Copy>(
 )
     requires rows { AreRows K.number firsts.old rows.old spare.old }
     requires alone { HasEntries rows.old.items row 1 }
+    requires half_full { AreHalfFull rows.old.items }
     ensures rows { AreRows K.number firsts.new rows.new spare.new }
     ensures entries { side_by_side rows.new.items ≡ remove (side_by_side rows.old.items) (index_of rows.old.items (record { row = row; at = 0 })) }
+    ensures half_full { AreHalfFull rows.new.items }
     ensures spare { vec_len spare.old ≤ vec_len spare.new }
+    ensures total { vec_len rows.new + vec_len spare.new ≡ vec_len rows.old + vec_len spare.old }
 {
     firsts.remove(row);
     let mut empty = rows.remove(row);
@@ -195,7 +207,9 @@ fn take_row<K: Key, T: Copy>(
 fn shorten<K: Key, T: Copy>(firsts: &mut Vec<K>, rows: &mut Vec<Row<K, T>>, place: Place)
     requires in_rows { AreInRows (map K.number firsts.old.items) rows.old.items }
     requires among { IsAmongOthers rows.old.items place }
+    requires half_full { AreHalfFull rows.old.items }
     ensures in_rows { AreInRows (map K.number firsts.new.items) rows.new.items }
+    ensures one_short { AreOneShort rows.new.items place.row }
     ensures entries { side_by_side rows.new.items ≡ remove (side_by_side rows.old.items) (index_of rows.old.items place) }
     ensures len { vec_len rows.new ≡ vec_len rows.old }
     ensures capacity { vec_capacity rows.new ≡ vec_capacity rows.old }
@@ -210,7 +224,7 @@ fn shorten<K: Key, T: Copy>(firsts: &mut Vec<K>, rows: &mut Vec<Row<K, T>>, plac
 fn are_few<K: Key, T: Copy>(rows: &[Row<K, T>], row: usize) -> bool
     requires each { AllByRecursion IsRow rows.now }
     requires within { row < length rows.now }
-    ensures { OnTrue result (FitTogether rows.now row) }
+    ensures { MatchBool result (FitTogether rows.now row) (AreApart rows.now row) }
 {
     row + 1 < rows.len() && rows[row].len() + rows[row + 1].len() <= WIDTH / 2
 }
@@ -225,8 +239,9 @@ fn join<K: Key, T: Copy>(
     requires rows { AreRows K.number firsts.old rows.old spare.old }
     requires few { FitTogether rows.old.items row }
     ensures rows { AreRows K.number firsts.new rows.new spare.new }
-    ensures entries { side_by_side rows.new.items ≡ side_by_side rows.old.items }
+    ensures joined { IsJoined rows.old.items rows.new.items row }
     ensures spare { vec_len spare.old ≤ vec_len spare.new }
+    ensures total { vec_len rows.new + vec_len spare.new ≡ vec_len rows.old + vec_len spare.old }
 {
     firsts.remove(row + 1);
     let mut upper = rows.remove(row + 1);
@@ -244,9 +259,12 @@ fn join_few<K: Key, T: Copy>(
 )
     requires rows { AreRows K.number firsts.old rows.old spare.old }
     requires within { row < vec_len rows.old }
+    requires one_short { AreOneShort rows.old.items row }
     ensures rows { AreRows K.number firsts.new rows.new spare.new }
     ensures entries { side_by_side rows.new.items ≡ side_by_side rows.old.items }
+    ensures half_full { AreHalfFull rows.new.items }
     ensures spare { vec_len spare.old ≤ vec_len spare.new }
+    ensures total { vec_len rows.new + vec_len spare.new ≡ vec_len rows.old + vec_len spare.old }
 {
     if are_few(rows, row) {
         join(firsts, rows, spare, row);
@@ -264,9 +282,12 @@ pub fn take_out<K: Key, T: Copy>(
 )
     requires rows { AreRows K.number firsts.old rows.old spare.old }
     requires taken { IsTaken rows.old.items place }
+    requires half_full { AreHalfFull rows.old.items }
     ensures rows { AreRows K.number firsts.new rows.new spare.new }
     ensures entries { side_by_side rows.new.items ≡ remove (side_by_side rows.old.items) (index_of rows.old.items place) }
+    ensures half_full { AreHalfFull rows.new.items }
     ensures spare { vec_len spare.old ≤ vec_len spare.new }
+    ensures total { vec_len rows.new + vec_len spare.new ≡ vec_len rows.old + vec_len spare.old }
 {
     if rows[place.row].len() == 1 {
         take_row(firsts, rows, spare, place.row);
@@ -281,6 +302,7 @@ pub fn write<K: Key, T: Copy>(rows: &mut Vec<Row<K, T>>, place: Place, value: T)
     requires { IsTaken rows.old.items place }
     ensures entries { (entry : KeyValue T) → slice_get (side_by_side rows.old.items) (index_of rows.old.items place) ≡ Some entry → side_by_side rows.new.items ≡ set (side_by_side rows.old.items) (index_of rows.old.items place) (record entry { value = value }) }
     ensures in_rows { (firsts : List ℕ) → AreInRows firsts rows.old.items → KeysRise (side_by_side rows.new.items) → AreInRows firsts rows.new.items }
+    ensures half_full { AreHalfFull rows.old.items → AreHalfFull rows.new.items }
     ensures len { vec_len rows.new ≡ vec_len rows.old }
     ensures capacity { vec_capacity rows.new ≡ vec_capacity rows.old }
 {

@@ -13,12 +13,16 @@ use acc_base::{Fault, Steps};
 use std::alloc::Global;
 use std::marker::Model;
 
+/// The greatest number of rows of a list.
+const ROWS_MAX: u64 = 1 << 57;
+
 /// Entries by rising key, and room for more of them.
 ///
 /// They stand in rows of up to 64, keys apart from values, and the least key of each row in a list of its own. A look-up
 /// is a search in that list and one in a row, and neither takes a branch by a key. A change moves entries of one row or
 /// two. If a row comes or goes, it also moves the list of rows behind it, which grows with the number of entries. Memory
-/// for them is asked for by [`OrderedList::reserve`] alone: an entry more uses up at most one row that waits.
+/// for them is asked for by [`OrderedList::reserve`] alone. An entry more uses up at most one row that waits. Many more
+/// need fewer rows, since two rows beside each other have more than 32 entries.
 ///
 /// A call that takes a [`Place`] looks there first.
 #[derive(Drop)]
@@ -30,6 +34,8 @@ pub struct OrderedList<K: Key, T: Copy> {
     rows: Vec<Row<K, T>>,
     // Rows without entries, which wait for more.
     spare: Vec<Row<K, T>>,
+    // How many entries there are.
+    len: u64,
 }
 
 impl<K: Key, T: Copy> Model for OrderedList<K, T> {
@@ -55,6 +61,7 @@ impl<K: Key, T: Copy> OrderedList<K, T> {
             firsts: Vec::new(alloc),
             rows: Vec::new(alloc),
             spare: Vec::new(alloc),
+            len: 0,
         }
     }
 
@@ -70,12 +77,24 @@ impl<K: Key, T: Copy> OrderedList<K, T> {
         ensures only { IfErr result (λ fault. fault ≡ Fault.Memory) }
         ensures memory { OnErr result (self.old.room < count) }
     {
+        if count <= self.spare.len() as u64 {
+            return Ok(());
+        }
+        let Some(entries) = self.len.checked_add(count) else {
+            return Err(Fault::Memory);
+        };
+        // Each two rows beside each other have more than half of the entries of one. So these rows are always enough.
+        let enough = entries.saturating_add(15) / 16 + 1;
+        if enough > ROWS_MAX {
+            return Err(Fault::Memory);
+        }
+        let waiting = count.min(enough - self.rows.len() as u64);
         make_rows(
             self.alloc,
             &mut self.firsts,
             &mut self.rows,
             &mut self.spare,
-            count as usize,
+            waiting as usize,
         )
     }
 
@@ -176,6 +195,7 @@ impl<K: Key, T: Copy> OrderedList<K, T> {
         ensures entries { self.new.entries ≡ with_entry (keyed (K.number key) value) self.old.entries }
         ensures room { self.old.room ≤ self.new.room + 1 }
     {
+        self.len += 1;
         if self.rows.is_empty() {
             start(
                 &mut self.firsts,
@@ -200,6 +220,7 @@ impl<K: Key, T: Copy> OrderedList<K, T> {
     {
         let place = locate(&self.firsts, &self.rows, key, near);
         take_out(&mut self.firsts, &mut self.rows, &mut self.spare, place);
+        self.len -= 1;
     }
 
     /// Writes the value of a key that is there. It is looked for first near a place.
@@ -225,12 +246,13 @@ impl<K: Key, T: Copy> OrderedList<K, T> {
         ensures ok { IfOk result (λ copied. copied.items ≡ told_in (C.told telling.now) self.now.entries) }
         ensures only { IfErr result (λ fault. fault ≡ Fault.Memory) }
     {
-        copy_rows(alloc, &self.rows, telling)
+        copy_rows(alloc, &self.rows, self.len, telling)
     }
 
-    /// That the keys rise. Nothing is done.
+    /// That the keys rise, and that the room is a `u64`. Nothing is done.
     pub fn laws(&self)
-        ensures { KeysRise self.now.entries }
+        ensures rising { KeysRise self.now.entries }
+        ensures limit { self.now.room < 2 ^ 64 }
     {
         let _ = &self.rows;
     }

@@ -7,7 +7,7 @@ use Rattle.acc_ordered.specs.Laid.{IsWaiting}
 use Rattle.acc_ordered.proofs.Numbers.{remove_numbers}
 use Rattle.acc_ordered.proofs.Placing.{row_is_row}
 use Rattle.acc_ordered.proofs.Reading.{read_row}
-use Rattle.acc_ordered.proofs.Joining.{upper_at, lower_at, old_lower_at, joined, side_joined, in_rows_joined, whole_row}
+use Rattle.acc_ordered.proofs.Joining.{upper_at, lower_at, old_lower_at, joined, in_rows_joined, whole_row}
 use Rattle.acc_ordered.proofs.changes.join.Goals as goal
 
 pub append-requires : goal.append-requires
@@ -17,13 +17,13 @@ append-requires g c =
     let lower = read_row c.remove-upper.new.self.items c.args.row f.lower c.index_mut.result.now (rw c.remove-upper.ensures.items (lower_at c.args.rows.now.items c.args.row (c.args.row + 1) f refl)) c.index_mut.ensures.value in
     omega (arith, f.few, ap length upper, ap length lower)
 
-pub returns-clause-entries : goal.returns-clause-entries
-returns-clause-entries g c =
+pub returns-clause-joined : goal.returns-clause-joined
+returns-clause-joined g c =
     let f = c.requires.few in
     let upper = read_row c.args.rows.now.items (c.args.row + 1) f.upper c.remove-upper.result (upper_at c.args.rows.now.items c.args.row (c.args.row + 1) f refl) c.remove-upper.ensures.value in
     let lower = read_row c.remove-upper.new.self.items c.args.row f.lower c.index_mut.result.now (rw c.remove-upper.ensures.items (lower_at c.args.rows.now.items c.args.row (c.args.row + 1) f refl)) c.index_mut.ensures.value in
     let is : c.append.new.self ≡ f.lower ++ f.upper = c.append.ensures ∙ ap (λ (es : List (KeyValue g.row.T.Denot)). es ++ c.remove-upper.result) (sym lower) ∙ ap (λ (es : List (KeyValue g.row.T.Denot)). f.lower ++ es) (sym upper) in
-    rw c.remove-upper.ensures.items (side_joined _ _ _ (joined c.args.rows.now.items c.args.row (c.args.row + 1) c.append.new.self f refl is))
+    rw c.remove-upper.ensures.items (joined c.args.rows.now.items c.args.row (c.args.row + 1) c.append.new.self f refl is)
 
 pub returns-clause-rows : goal.returns-clause-rows
 returns-clause-rows g c =

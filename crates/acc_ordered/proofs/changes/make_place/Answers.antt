@@ -1,7 +1,9 @@
-use Rattle.std.proofs.Common.{arith}
+use Rattle.std.proofs.Common.{◌≡◌, ◌+◌, ◌⊎◌, inl, inr, length, arith}
+use Rattle.acc_base.proofs.Results.{equal}
 use Rattle.acc_ordered.proofs.Placing.{row_is_row}
 use Rattle.acc_ordered.proofs.Reading.{read_at, read_bound}
 use Rattle.acc_ordered.proofs.Changing.{lower_at, upper_at, lower_long, upper_long, cut_same, cut_next}
+use Rattle.acc_ordered.proofs.HalfFull.{half_cut}
 use Rattle.acc_ordered.proofs.changes.make_place.Goals as goal
 
 pub returns-then-len-lt-WIDTH-clause-place : goal.returns-then-len-lt-WIDTH-clause-place
@@ -49,3 +51,13 @@ returns-else-place-cut-clause-place g c =
       bound = omega (arith, long, most, bound);
       free = omega (arith, long);
     }
+
+pub returns-then-place-cut-clause-half_full : goal.returns-then-place-cut-clause-half_full
+returns-then-place-cut-clause-half_full g c =
+    let last : (c.cut_for-cut.result ≡ 32) ⊎ (c.args.place.row + 1 ≡ length c.args.rows.now.items) = elim c.cut_for-cut.ensures.last [ inl half ↦ inl half | inr is ↦ inr (omega (arith, equal (c.args.place.row + 1) c.len-2.result is)) ] in
+    half_cut c.args.rows.now.items c.split.new.rows.items c.args.place.row c.cut_for-cut.result c.split.ensures.cut c.cut_for-cut.ensures.half c.cut_for-cut.ensures.not_all last c.requires.rows.in_rows.each c.requires.half_full
+
+pub returns-else-place-cut-clause-half_full : goal.returns-else-place-cut-clause-half_full
+returns-else-place-cut-clause-half_full g c =
+    let last : (c.cut_for-cut.result ≡ 32) ⊎ (c.args.place.row + 1 ≡ length c.args.rows.now.items) = elim c.cut_for-cut.ensures.last [ inl half ↦ inl half | inr is ↦ inr (omega (arith, equal (c.args.place.row + 1) c.len-2.result is)) ] in
+    half_cut c.args.rows.now.items c.split.new.rows.items c.args.place.row c.cut_for-cut.result c.split.ensures.cut c.cut_for-cut.ensures.half c.cut_for-cut.ensures.not_all last c.requires.rows.in_rows.each c.requires.half_full

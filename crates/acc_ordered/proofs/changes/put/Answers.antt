@@ -1,8 +1,10 @@
-use Rattle.std.proofs.Common.{subst, sym, List}
+use Rattle.std.proofs.Common.{subst, sym, ap, List, length, arith}
 use Rattle.std.specs.Prelude.{map}
 use Rattle.std.proofs.lemmas.List.{map-set}
+use Rattle.std.proofs.lemmas.List.Edits.{length-insert}
 use Rattle.acc_ordered.specs.Listing.{KeyValue, KeysRise, keyed, entry_in}
 use Rattle.acc_ordered.proofs.Changing.{roomy, put_row, row_more, least_got, in_rows_set}
+use Rattle.acc_ordered.proofs.HalfFull.{longer_set}
 use Rattle.acc_ordered.proofs.changes.put.Goals as goal
 
 pub insert_at-requires-clause-within : goal.insert_at-requires-clause-within
@@ -29,3 +31,9 @@ pub returns-clause-entries : goal.returns-clause-entries
 returns-clause-entries g c =
     let r = roomy c.args.rows.now.items c.args.place c.index_mut-row.result.now c.requires.in_rows.each c.requires.place c.index_mut-row.ensures.value in
     put_row c.args.rows.now.items c.args.place c.index_mut-row.result.now c.insert_at.new.self (keyed (g.K.Key.number c.args.key) c.args.value) r.at r.bound c.insert_at.ensures
+
+pub returns-clause-half_full : goal.returns-clause-half_full
+returns-clause-half_full g c =
+    let e = keyed (g.K.Key.number c.args.key) c.args.value in
+    let r = roomy c.args.rows.now.items c.args.place c.index_mut-row.result.now c.requires.in_rows.each c.requires.place c.index_mut-row.ensures.value in
+    longer_set c.args.rows.now.items c.args.place.row c.index_mut-row.result.now c.insert_at.new.self r.at (omega (arith, ap length c.insert_at.ensures, length-insert c.index_mut-row.result.now c.args.place.at e r.bound)) c.requires.half_full

@@ -1,10 +1,12 @@
-use Rattle.std.proofs.Common.{subst, sym, List}
+use Rattle.std.proofs.Common.{subst, sym, ap, List, length, arith}
 use Rattle.std.specs.Prelude.{map}
 use Rattle.std.proofs.lemmas.List.{map-set}
+use Rattle.std.proofs.lemmas.List.Edits.{length-remove}
 use Rattle.acc_ordered.specs.Listing.{KeyValue, KeysRise, entry_in}
 use Rattle.acc_ordered.specs.Laid.{side_by_side}
 use Rattle.acc_ordered.specs.Spots.{index_of}
 use Rattle.acc_ordered.proofs.Changing.{one_of, take_from_row, row_less, least_got, in_rows_set, rises_without}
+use Rattle.acc_ordered.proofs.HalfFull.{shorter_set}
 use Rattle.acc_ordered.proofs.changes.shorten.Goals as goal
 
 pub remove_at-requires : goal.remove_at-requires
@@ -27,3 +29,8 @@ pub returns-clause-entries : goal.returns-clause-entries
 returns-clause-entries g c =
     let r = one_of c.args.rows.now.items c.args.place c.index_mut-row.result.now c.requires.in_rows.each c.requires.among c.index_mut-row.ensures.value in
     take_from_row c.args.rows.now.items c.args.place c.index_mut-row.result.now c.remove_at.new.self r.at r.bound c.remove_at.ensures
+
+pub returns-clause-one_short : goal.returns-clause-one_short
+returns-clause-one_short g c =
+    let r = one_of c.args.rows.now.items c.args.place c.index_mut-row.result.now c.requires.in_rows.each c.requires.among c.index_mut-row.ensures.value in
+    shorter_set c.args.rows.now.items c.args.place.row c.index_mut-row.result.now c.remove_at.new.self r.at (omega (arith, ap length c.remove_at.ensures, length-remove c.index_mut-row.result.now c.args.place.at r.bound)) c.requires.half_full

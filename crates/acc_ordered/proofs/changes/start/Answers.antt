@@ -32,3 +32,10 @@ returns-clause-entries g c =
     let waits = last_waits c.args.spare.now.items c.take_last-row.new.self.items c.take_last-row.result c.requires.rows.waiting c.take_last-row.ensures.items in
     let is : c.insert_at.new.self ≡ e ∷ [] = c.insert_at.ensures ∙ ap (λ (es : List (KeyValue g.row.T.Denot)). insert es 0 e) waits.1 in
     rw (c.push_reserved.ensures.items, c.requires.none) (ap (λ (es : List (KeyValue g.row.T.Denot)). es ++ []) is)
+
+pub returns-clause-half_full : goal.returns-clause-half_full
+returns-clause-half_full g c =
+    let e = keyed (g.K.Key.number c.args.key) c.args.value in
+    let waits = last_waits c.args.spare.now.items c.take_last-row.new.self.items c.take_last-row.result c.requires.rows.waiting c.take_last-row.ensures.items in
+    let is : c.insert_at.new.self ≡ e ∷ [] = c.insert_at.ensures ∙ ap (λ (es : List (KeyValue g.row.T.Denot)). insert es 0 e) waits.1 in
+    rw (c.push_reserved.ensures.items, c.requires.none) (omega (arith, ap length is), tt)

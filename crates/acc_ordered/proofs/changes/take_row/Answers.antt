@@ -5,6 +5,7 @@ use Rattle.acc_ordered.specs.Laid.{IsWaiting}
 use Rattle.acc_ordered.proofs.Numbers.{remove_numbers}
 use Rattle.acc_ordered.proofs.Reading.{read_row, read_at}
 use Rattle.acc_ordered.proofs.Changing.{side_without, in_rows_without}
+use Rattle.acc_ordered.proofs.HalfFull.{half_without}
 use Rattle.acc_ordered.proofs.changes.take_row.Goals as goal
 
 pub returns-clause-rows : goal.returns-clause-rows
@@ -24,3 +25,9 @@ returns-clause-entries g c =
     let at = read_at c.args.rows.now.items c.args.row c.requires.alone.row c.remove-empty.result c.requires.alone.row_is c.remove-empty.ensures.value in
     let one : length c.remove-empty.result ≡ 1 = sym (ap length (read_row c.args.rows.now.items c.args.row c.requires.alone.row c.remove-empty.result c.requires.alone.row_is c.remove-empty.ensures.value)) ∙ c.requires.alone.count_is in
     rw c.remove-empty.ensures.items (side_without c.args.rows.now.items c.args.row c.remove-empty.result at one)
+
+pub returns-clause-half_full : goal.returns-clause-half_full
+returns-clause-half_full g c =
+    let at = read_at c.args.rows.now.items c.args.row c.requires.alone.row c.remove-empty.result c.requires.alone.row_is c.remove-empty.ensures.value in
+    let one : length c.remove-empty.result ≡ 1 = sym (ap length (read_row c.args.rows.now.items c.args.row c.requires.alone.row c.remove-empty.result c.requires.alone.row_is c.remove-empty.ensures.value)) ∙ c.requires.alone.count_is in
+    rw c.remove-empty.ensures.items (half_without c.args.rows.now.items c.args.row c.remove-empty.result at one c.requires.half_full)

@@ -27,7 +27,7 @@ pub returns-clause-steps : goal.returns-clause-steps
 returns-clause-steps g c = λ d few.
     let is : side_by_side c.self.inside.rows.items ≡ c.args.self.now.entries = ap (λ (l : Listing g.row.T.Denot). l.entries) c.self.view_is in
     let long = ap length is in
-    let fewer = rows_few c.self.inside.rows.items c.self.invariant.in_rows.each in
+    let fewer = rows_few c.self.inside.rows.items c.self.invariant.rows.in_rows.each in
     let none : c.is_empty.result ≡ (length c.self.inside.rows.items == 0) = search rules in
     let some : 0 < length c.self.inside.rows.items = grind (arith, nat_tests, none, c.if-is_empty.false) in
     let taken = c.place_of-place.ensures.steps d (omega (arith, few, long, fewer, ap length c.deref-2.ensures.value)) in

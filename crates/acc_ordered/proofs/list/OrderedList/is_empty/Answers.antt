@@ -9,5 +9,5 @@ pub returns : goal.returns
 returns g c =
     let is : side_by_side c.self.inside.rows.items ≡ c.args.self.now.entries = ap (λ (l : Listing g.row.T.Denot). l.entries) c.self.view_is in
     let none : c.is_empty.result ≡ (length c.self.inside.rows.items == 0) = search rules in
-    let told = no_row c.self.inside.rows.items c.is_empty.result c.self.invariant.in_rows.each none in
+    let told = no_row c.self.inside.rows.items c.is_empty.result c.self.invariant.rows.in_rows.each none in
     rw (← is) told

@@ -136,35 +136,15 @@ impl CounterList {
         }
     }
 
-    /// The counter of the first pointer of a block at or above an address, or else the first counter of a later block.
-    fn first_from(&self, block: u64, pointer: u64) -> Option<Attachment>
-        ensures found { result ≡ find (is_from block pointer) self.now.counters }
-        ensures rising { EachPair IsBefore self.now.counters }
-    {
-        self.counts.laws();
-        if self.highest < block {
-            return None;
-        }
-        match self.counts.next(key_of(block, pointer)) {
-            Some(found) => Some(to_counter(found.key, *found.value)),
-            None => None,
-        }
-    }
-
     /// The least address at or above `from` at which an attached pointer of a block begins.
     pub fn next(&self, block: u64, from: u64) -> Option<u64>
         ensures { result ≡ next_pointer block from self.now.counters }
     {
-        let counter = self.first_from(block, from)?;
-        if counter.block == block {
-            Some(counter.pointer)
-        } else {
-            None
-        }
+        self.next_near(block, from, Place::default()).0
     }
 
-    /// As [`CounterList::first_from`], and where that counter stands. It is looked for first at a place and right behind
-    /// it.
+    /// The counter of the first pointer of a block at or above an address, or else the first counter of a later block,
+    /// and where it stands. It is looked for first at a place and right behind it.
     fn first_near(&self, block: u64, pointer: u64, near: Place) -> (Option<Attachment>, Place)
         ensures found { result.0 ≡ find (is_from block pointer) self.now.counters }
         ensures rising { EachPair IsBefore self.now.counters }
@@ -200,7 +180,8 @@ impl CounterList {
         ensures { result ≡ is_skipped block self.now.counters address }
     {
         // A pointer that begins more than seven bytes below ends before the address.
-        match self.first_from(block, address.saturating_sub(7)) {
+        let first = address.saturating_sub(7);
+        match self.first_near(block, first, Place::default()).0 {
             Some(counter) => begins_by(counter, block, address),
             None => false,
         }

@@ -16,7 +16,7 @@ returns-in-Some-clause-found c =
     (ap Some c.to_counter.ensures ∙ ap (option_map counter_in) first ∙ first-counters c.args.block c.args.pointer c.self.inside.counts.entries lt)
 
 pub returns-in-Some-clause-rising : goal.returns-in-Some-clause-rising
-returns-in-Some-clause-rising c = subst (λ (s : CountersState). EachPair IsBefore s.counters) c.self.view_is (rising_counters c.self.inside.counts.entries c.laws.ensures)
+returns-in-Some-clause-rising c = subst (λ (s : CountersState). EachPair IsBefore s.counters) c.self.view_is (rising_counters c.self.inside.counts.entries c.laws.ensures.rising)
 
 pub returns-in-None-clause-found : goal.returns-in-None-clause-found
 returns-in-None-clause-found c =
@@ -26,7 +26,7 @@ returns-in-None-clause-found c =
     (ap (option_map counter_in) first ∙ first-counters c.args.block c.args.pointer c.self.inside.counts.entries lt)
 
 pub returns-in-None-clause-rising : goal.returns-in-None-clause-rising
-returns-in-None-clause-rising c = subst (λ (s : CountersState). EachPair IsBefore s.counters) c.self.view_is (rising_counters c.self.inside.counts.entries c.laws.ensures)
+returns-in-None-clause-rising c = subst (λ (s : CountersState). EachPair IsBefore s.counters) c.self.view_is (rising_counters c.self.inside.counts.entries c.laws.ensures.rising)
 
 pub returns-then-self-block-clause-found : goal.returns-then-self-block-clause-found
 returns-then-self-block-clause-found c =
@@ -34,4 +34,4 @@ returns-then-self-block-clause-found c =
     (none_from_above c.self.inside.highest c.args.block c.args.pointer c.self.inside.counts.entries c.self.invariant c.if-self-block.true)
 
 pub returns-then-self-block-clause-rising : goal.returns-then-self-block-clause-rising
-returns-then-self-block-clause-rising c = subst (λ (s : CountersState). EachPair IsBefore s.counters) c.self.view_is (rising_counters c.self.inside.counts.entries c.laws.ensures)
+returns-then-self-block-clause-rising c = subst (λ (s : CountersState). EachPair IsBefore s.counters) c.self.view_is (rising_counters c.self.inside.counts.entries c.laws.ensures.rising)

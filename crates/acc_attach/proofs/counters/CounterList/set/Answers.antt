@@ -20,7 +20,7 @@ returns-clause-counters c =
     subst (λ (s : CountersState). counters_in c.set.new.self.entries ≡ with_count c.args.block c.args.pointer c.args.count s.counters) c.self.view_is
     (ap counters_in c.set.ensures.entries
     ∙ ap (λ (k : ℕ). counters_in (with_value k c.args.count c.self.inside.counts.entries)) c.key_of.ensures
-    ∙ written-counters c.args.block c.args.pointer c.args.count c.self.inside.counts.entries lt c.requires.some c.laws.ensures there)
+    ∙ written-counters c.args.block c.args.pointer c.args.count c.self.inside.counts.entries lt c.requires.some c.laws.ensures.rising there)
 
 pub invariant_of-self : goal.invariant_of-self
 invariant_of-self c = rw c.set.ensures.entries (up_to-written c.self.inside.highest c.key_of.result c.args.count c.self.inside.counts.entries c.self.invariant)

@@ -1,10 +1,10 @@
 /*
- * What an order of calls costs as more and more are alive: regions, mapped arrays and leases that come and go, by
- * doubling from 4,000 to 64,000. For each it prints nanoseconds a call and the longest single call in microseconds,
- * both with one look at the clock. And it prints how many bytes the library holds for each that came at first, with its
- * copy in the base of the trace.
+ * What an order of calls costs as more and more are alive: regions, mapped arrays, leases and attached pointers that
+ * come and go, by doubling from 4,000 to 64,000. For each it prints nanoseconds a call and the longest single call in
+ * microseconds, both with one look at the clock. And it prints how many bytes the library holds for each that came at
+ * first, with its copy in the base of the trace.
  *
- * Usage: growth [KIND..], of the kinds `regions`, `arrays` and `leases`; all of them if none is named.
+ * Usage: growth [KIND..], of the kinds `regions`, `arrays`, `leases` and `pointers`; all of them if none is named.
  */
 #define _POSIX_C_SOURCE 200809L
 #include "lamwiest.h"
@@ -27,6 +27,7 @@ enum {
 #define APART UINT64_C(64)
 #define ARRAY(n) (LW_HOST_BASE + APART * (uint64_t)(n))
 #define MEMORY (UINT64_C(64) << 20)
+#define POINTER(n) (LW_HOST_BASE + MEMORY / 2 + 8 * (uint64_t)(n))
 
 /* A table with what is alive on it: by its place, an address, or the number of a region or of a lease. */
 typedef struct world {
@@ -105,6 +106,20 @@ static void gather(world *world, size_t place)
     must(lw_gather(&world->table, world->alive[place], &world->fault), "gather");
 }
 
+static void attach(world *world, size_t place)
+{
+    lw_item item = {.clause = LW_ATTACH, .start = POINTER(place)};
+
+    must(lw_enter_data(&world->table, &item, 1, LW_NO_QUEUE_GIVEN, &world->fault), "attach");
+}
+
+static void detach(world *world, size_t place)
+{
+    lw_item item = {.clause = LW_DETACH, .start = POINTER(place)};
+
+    must(lw_exit_data(&world->table, &item, 1, 0, LW_NO_QUEUE_GIVEN, &world->fault), "detach");
+}
+
 static void begin_arrays(world *world, size_t most)
 {
     (void)world;
@@ -129,10 +144,24 @@ static void begin_leases(world *world, size_t most)
     must(lw_enter(&world->table, &item, 1, &world->region, &world->fault), "enter");
 }
 
+/* One array of pointers, each of which points to the first of the small arrays. */
+static void begin_pointers(world *world, size_t most)
+{
+    lw_item item = {.clause = LW_COPYIN, .start = POINTER(0), .len = 8 * most};
+    uint64_t target = ARRAY(0);
+
+    for (size_t n = 0; n < most; n++) {
+        must(lw_host_write(&world->table, POINTER(n), (const uint8_t *)&target, 8, &world->fault), "write");
+    }
+    map(world, 0);
+    must(lw_enter_data(&world->table, &item, 1, LW_NO_QUEUE_GIVEN, &world->fault), "enter data");
+}
+
 static const kind kinds[] = {
     {"regions", begin_regions, enter, leave},
     {"arrays", begin_arrays, map, unmap},
     {"leases", begin_leases, lend, gather},
+    {"pointers", begin_pointers, attach, detach},
 };
 
 /* ---- Orders ---- */

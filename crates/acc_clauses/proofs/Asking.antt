@@ -41,10 +41,6 @@ queue_map f queue (x ∷ xs) each = (each x, queue_map f queue xs each)
 length-leave : (holdings : List Holding) → length (leave_tasks holdings) ≡ length holdings
 length-leave holdings = length-map (reverse holdings) ExitRegion ∙ length-reverse holdings
 
--- it undoes the last of its holdings first
-pub leave_at : (holdings : List Holding) (n : ℕ) (e : Holding) (d : Task) → n < length (leave_tasks holdings) → ExitRegion (get_or holdings (length holdings - 1 - n) e) ≡ get_or (leave_tasks holdings) n d
-leave_at holdings n e d there = grind (arith, nat_tests, length-map, length-leave, get_or-map, get_or-reverse)
-
 -- ---- what holds of the tasks of a directive
 
 -- at most 64 tasks, all of one kind, which name the directive's queue

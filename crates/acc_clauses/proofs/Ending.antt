@@ -17,7 +17,6 @@ use Rattle.acc_base.specs.Bytes.{host_made, memories_made, memories_kept, memori
 use Rattle.acc_base.specs.Accounts.{IsMemoryOf}
 use Rattle.acc_base.proofs.Lookups.{at-without_same}
 use Rattle.acc_base.proofs.KeptMemories.{memories_kept-without}
-use Rattle.acc_base.proofs.Memories.{recounted-block}
 use Rattle.acc_present.specs.Present.{PresentState, with_ranges}
 use Rattle.acc_present.specs.Present as present
 use Rattle.acc_dev.specs.Marks.{pins_at, is_ended_at, IsMarkOf}

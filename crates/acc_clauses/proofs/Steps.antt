@@ -12,9 +12,7 @@ use Rattle.acc_base.specs.Tasks.{queue_of, recounted}
 use Rattle.acc_base.specs.Transfers.{at_once, queues_after}
 use Rattle.acc_base.specs.Steps.{act_row, act_step, with_range_changed}
 use Rattle.acc_base.specs.Bytes.{step_state}
-use Rattle.acc_base.proofs.Results.{equal, equal_self}
 use Rattle.acc_base.proofs.Lookups.{at-none, at-changed}
-use Rattle.acc_base.proofs.Counting.{with_same, with_new}
 use Rattle.acc_base.proofs.Memories.{recounted-block}
 use Rattle.acc_present.specs.Present.{PresentTable, PresentState, with_ranges}
 use Rattle.acc_present.specs.Present as present

@@ -104,11 +104,6 @@ asked_turn i xs ys x tasks d within item more so = grind (arith, nat_tests, drop
 pub few_turn : (i : ℕ) (xs ys : List Acted) (x : Acted) → ys ≡ xs ++ x ∷ [] → length xs ≡ i → length ys ≡ i + 1
 few_turn i xs ys x more few = rw more (omega (arith, length-append xs (x ∷ []), few))
 
--- what was noted turned round is told
-pub told_turned : (turned dids : List Did) → 0 < length turned → told_of turned dids ≡ turned
-told_turned [] dids some = absurd (omega (arith, some))
-told_turned (d ∷ ds) dids some = refl
-
 -- one alone stands where it stood
 pub reverse_few : (dids : List Did) → length dids ≤ 1 → reverse dids ≡ dids
 reverse_few [] few = refl

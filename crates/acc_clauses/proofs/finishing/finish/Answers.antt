@@ -2,8 +2,6 @@ use Rattle.std.proofs.Common.{◌≡◌, ◌+◌, ap, subst, length, arith}
 use Rattle.std.proofs.lemmas.Bool.Decides.{nat_tests}
 use Rattle.acc_base.specs.Devices.{OneDevice}
 use Rattle.acc_base.specs.Waits.{drained}
-use Rattle.acc_clauses.specs.Words.{Directive}
-use Rattle.acc_clauses.specs.Acts.{CanFinish}
 use Rattle.acc_clauses.specs.Contents.{Numbers}
 use Rattle.acc_clauses.specs.Devices.{state_beside}
 use Rattle.acc_clauses.proofs.Finished.{finished_enter, finished_exit, finished_wait, finished_step}

@@ -1,6 +1,4 @@
 use Rattle.std.proofs.Common.{arith}
-use Rattle.acc_clauses.specs.Contents.{Contents, Numbers}
-use Rattle.acc_clauses.specs.Devices.{contents_beside}
 use Rattle.acc_clauses.proofs.Copying.{host_written}
 use Rattle.acc_clauses.proofs.stores.Store.host_write.Goals as goal
 

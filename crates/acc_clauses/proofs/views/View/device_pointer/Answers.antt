@@ -1,9 +1,5 @@
 use Rattle.std.proofs.Common.{◌≡◌, sym, subst, false, arith}
-use Rattle.std.specs.Prelude.{IsSome}
 use Rattle.std.proofs.lemmas.Bool.{false≢true}
-use Rattle.acc_base.specs.Blocks.{block_at}
-use Rattle.acc_base.specs.Loans.{is_lent}
-use Rattle.acc_clauses.specs.Devices.{Seen}
 use Rattle.acc_clauses.proofs.AimsJudged.{pointer_there, pointer_fits}
 use Rattle.acc_clauses.proofs.views.View.device_pointer.Goals as goal
 

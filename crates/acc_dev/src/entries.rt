@@ -103,7 +103,7 @@ pub fn make_room(
     ensures spare { holes.old.spare ≤ holes.new.spare }
     ensures slab_capacity { slab.old.capacity ≤ slab.new.capacity }
     ensures room_index { index.old.room ≤ index.new.room }
-    ensures room_nodes { ended.old.room ≤ ended.new.room }
+    ensures room_rows { ended.old.room ≤ ended.new.room }
     ensures succeeds { count ≤ holes.old.spare → HasRoomFor slab.old count → count ≤ index.old.room → count ≤ ended.old.room → IsOk result }
     ensures only { IfErr result (λ fault. fault ≡ Fault.Memory) }
 {
@@ -144,7 +144,7 @@ pub fn put(
     ensures room_index { index.old.room ≤ index.new.room + 1 }
     ensures ended { ended.new.entries ≡ ended.old.entries }
     ensures mapped { ended.new.mapped ≡ ended.old.mapped + 1 }
-    ensures room_nodes { ended.old.room ≤ ended.new.room + 1 }
+    ensures room_rows { ended.old.room ≤ ended.new.room + 1 }
 {
     let len = bytes.len() as u64;
     let place = holes.take_reserved(len);

@@ -63,7 +63,7 @@ room_left c =
     let r = c.self.invariant.2 in
     let room = c.in_ok-make_room.ensures in
     let put = c.put.ensures in
-    record { few = r.few; empty = r.empty; holes = omega (arith, room.room_taken, put.spare); slots = omega (arith, room.room_slot, put.slots, put.slab_capacity); entries = omega (arith, room.room_entry, put.room_index); ended = omega (arith, room.room_ended, put.room_nodes) }
+    record { few = r.few; empty = r.empty; holes = omega (arith, room.room_taken, put.spare); slots = omega (arith, room.room_slot, put.slots, put.slab_capacity); entries = omega (arith, room.room_entry, put.room_index); ended = omega (arith, room.room_ended, put.room_rows) }
 
 pub invariant_of-self-2 : goal.invariant_of-self-2
 invariant_of-self-2 c =

@@ -33,7 +33,7 @@ invariant_of-self c =
     let left : Inside = record { alloc = s.alloc; holes = c.put.new.holes; slab = c.put.new.slab; index = c.put.new.index; ended_blocks = c.put.new.ended; births = s.births + 1; ready = c.pop_front.new.self } in (
       put.kept,
       born_counted s.index.entries c.put.new.index.entries s.births put.index.0 c.self.invariant.1 births put.index.1,
-      room_used s left c.in-Some.bytes c.self.invariant.2 c.in-Some.ensures.items put.spare put.slots put.slab_capacity put.room_index put.room_nodes,
+      room_used s left c.in-Some.bytes c.self.invariant.2 c.in-Some.ensures.items put.spare put.slots put.slab_capacity put.room_index put.room_rows,
       ended_put s.ended_blocks s.ended_blocks c.put.new.ended s.slab.slots s.slab.slots c.put.new.slab.slots s.index.entries s.index.entries c.put.new.index.entries s.births _ _ c.self.invariant.3 c.self.invariant.1 refl refl refl refl put.blocks put.marks put.ended put.mapped,
     )
 

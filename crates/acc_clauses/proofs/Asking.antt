@@ -1,8 +1,8 @@
 -- What a directive asks, and the verdict on it.
-use Rattle.std.proofs.Common.{ℕ, zero, suc, ◌≡◌, ◌-◌, ◌<◌, ◌≤◌, refl, ap, subst, ◌∙◌, true, false, List, [], ◌∷◌, length, get_or, arith, Option, None, Result, Ok, Err, inl, inr}
+use Rattle.std.proofs.Common.{ℕ, zero, suc, ◌≡◌, ◌<◌, ◌≤◌, refl, ap, subst, ◌∙◌, true, false, List, [], ◌∷◌, length, get_or, arith, Option, None, Result, Ok, Err, inl, inr}
 use Rattle.std.specs.Prelude.{nat_lt, map, reverse, ⊤, MatchResult}
 use Rattle.std.proofs.lemmas.Bool.Decides.{nat_tests}
-use Rattle.std.proofs.lemmas.List.{length-map, length-reverse, get_or-map, get_or-reverse}
+use Rattle.std.proofs.lemmas.List.{length-map, length-reverse}
 use Rattle.std.specs.List.{list_all, list_any, AllByRecursion}
 use Rattle.acc_clauses.specs.Words.{Directive, Holding, Task, Did, Fault}
 use Rattle.acc_base.specs.declared.directives.Directive.TheVariants.{Enter, Exit, EnterData, ExitData, Update}

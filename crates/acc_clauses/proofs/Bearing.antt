@@ -8,7 +8,7 @@ use Rattle.acc_base.specs.declared.tasks.Task.TheVariants.{Enter}
 use Rattle.acc_base.specs.declared.events.Step.TheVariants.{Born}
 use Rattle.acc_base.specs.Section.{covers, is_within, host_memory}
 use Rattle.acc_base.specs.Records.{Memory, State}
-use Rattle.acc_base.specs.Ranges.{changed_at, with_range, bare_range, risen}
+use Rattle.acc_base.specs.Ranges.{with_range, bare_range, risen}
 use Rattle.acc_base.specs.Blocks.{block_at}
 use Rattle.acc_base.specs.Queues.{pins_of}
 use Rattle.acc_base.specs.Clauses.{copies_in, is_zeroed}
@@ -22,7 +22,6 @@ use Rattle.acc_base.proofs.Memories.{recounted-block, recounted-section}
 use Rattle.acc_base.proofs.Pointers.{fresh-clear}
 use Rattle.acc_host.specs.Host.{bytes_in}
 use Rattle.acc_present.specs.Present.{PresentState, with_ranges}
-use Rattle.acc_present.specs.Present as present
 use Rattle.acc_dev.specs.Marks.{new_mark, IsMarkOf}
 use Rattle.acc_dev.specs.Device.{DeviceState}
 use Rattle.acc_clauses.specs.Contents.{WithHost, AreMarked, IsMarkRight, state_of, room_of, bare_state}

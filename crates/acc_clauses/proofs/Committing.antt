@@ -1,7 +1,7 @@
 -- Before the tasks of a plan each that leaves a region finds what it held, and the register is ready for its directive.
 -- After them the store is sound.
-use Rattle.std.proofs.Common.{ℕ, ◌≡◌, ◌<◌, ◌≤◌, ◌^◌, refl, sym, ◌∙◌, ap, subst, false, cond, List, [], ◌∷◌, map, length, Option, Some, Ok, arith}
-use Rattle.std.specs.Prelude.{◌==◌, reverse, option_map, IsSome, not}
+use Rattle.std.proofs.Common.{ℕ, ◌≡◌, ◌<◌, ◌≤◌, ◌^◌, refl, sym, ◌∙◌, ap, subst, false, cond, List, [], ◌∷◌, map, length, Some, Ok, arith}
+use Rattle.std.specs.Prelude.{◌==◌, reverse, not}
 use Rattle.std.specs.List.{AllByRecursion}
 use Rattle.std.proofs.lemmas.Bool.Decides.{nat_tests}
 use Rattle.std.proofs.lemmas.Grind.{reverse_onto}

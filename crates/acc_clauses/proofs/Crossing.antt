@@ -8,7 +8,6 @@ use Rattle.acc_queues.proofs.Crossing.{queues_send}
 use Rattle.acc_attach.proofs.Crossing.{attached_send}
 use Rattle.acc_present.proofs.Crossing.{present_send}
 use Rattle.acc_dev.proofs.Crossing.{device_send}
-use Rattle.acc_host.specs.contracts.memories.HostMem as HostMem
 use Rattle.acc_base.specs.contracts.configs.Config as Config
 use Rattle.acc_clauses.specs.contracts.environments.Environment as Environment
 use Rattle.acc_clauses.specs.contracts.devices.DeviceData as DeviceData

@@ -1,11 +1,11 @@
 -- While a queue is emptied, none of the transfers that are left is of a block that is lent.
 use Rattle.std.proofs.lemmas.Bool.Decides.{nat_tests}
-use Rattle.std.proofs.Common.{ℕ, zero, suc, ◌+◌, ◌≡◌, refl, sym, ◌∙◌, ap, List, [], ◌∷◌, Some, Ok, take, drop, replicate, false, arith}
+use Rattle.std.proofs.Common.{ℕ, zero, suc, ◌+◌, ◌≡◌, refl, sym, ◌∙◌, ap, List, [], ◌∷◌, Some, Ok, take, drop, replicate, arith}
 use Rattle.std.specs.Prelude.{slice_set}
 use Rattle.std.specs.List.{flat_map}
 use Rattle.acc_clauses.specs.Words.{Loan, Transfer}
-use Rattle.acc_base.specs.Loans.{is_lent, not_lent, none_lent}
-use Rattle.acc_base.specs.Queues.{queue_at, head_of, popped}
+use Rattle.acc_base.specs.Loans.{not_lent, none_lent}
+use Rattle.acc_base.specs.Queues.{queue_at, popped}
 use Rattle.acc_base.specs.Records.{Records, State}
 use Rattle.acc_base.specs.Steps.{released}
 use Rattle.acc_base.specs.Waits.{stepped, drained}

@@ -1,16 +1,16 @@
 -- What the end of a mapping leaves of the parts: the copy to host memory, and then the range and the block.
 use Rattle.std.proofs.lemmas.Bool.Decides.{nat_tests}
-use Rattle.std.proofs.Common.{ℕ, ◌≡◌, ◌≤◌, refl, sym, ◌∙◌, ap, Bool, true, false, cond, List, [], Option, Some, None, arith}
+use Rattle.std.proofs.Common.{ℕ, ◌≡◌, ◌≤◌, refl, sym, ◌∙◌, ap, Bool, true, false, cond, [], Option, Some, None, arith}
 use Rattle.std.specs.Prelude.{IsSome, is_none}
 use Rattle.std.specs.List.{AllZip}
 use Rattle.acc_base.specs.Loans.{is_lent}
 use Rattle.acc_clauses.specs.Words.{Range, Task, Transfer}
 use Rattle.acc_base.specs.declared.events.Step.TheVariants.{Dropped}
 use Rattle.acc_base.specs.Records.{Records, State}
-use Rattle.acc_base.specs.Ranges.{range_of, changed_at, without_range, ends_by}
+use Rattle.acc_base.specs.Ranges.{range_of, without_range}
 use Rattle.acc_base.specs.Blocks.{block_at}
 use Rattle.acc_base.specs.Attachments.{without_attachments}
-use Rattle.acc_base.specs.Tasks.{queue_of, recounted}
+use Rattle.acc_base.specs.Tasks.{queue_of}
 use Rattle.acc_base.specs.Transfers.{gives_bytes, transfer_at, at_once, queues_after}
 use Rattle.acc_base.specs.Steps.{is_in_use, released, records_after_end, act_row, act_step}
 use Rattle.acc_base.specs.Bytes.{host_made, memories_made, memories_kept, memories_released, step_state}
@@ -24,7 +24,7 @@ use Rattle.acc_dev.specs.Device.{DeviceState, IsEnded, IsRetired}
 use Rattle.acc_attach.specs.Attached.{AttachedState}
 use Rattle.acc_clauses.specs.Contents.{WithHost, AreMarked, state_of, bare_state, bare_numbers}
 use Rattle.acc_clauses.specs.Overlays.{puts_by}
-use Rattle.acc_clauses.specs.Acts.{CanCount, CanDrop, IsEnter, given_state, moved_state, IsChangedBy, IsGivenBy, IsActedBy}
+use Rattle.acc_clauses.specs.Acts.{CanDrop, given_state, moved_state, IsChangedBy, IsGivenBy, IsActedBy}
 use Rattle.acc_clauses.proofs.Changes.{state_from_parts, room_same, both}
 use Rattle.acc_clauses.proofs.Marked.{IsMarkAt, mark_told, marks_ended, marks_gone}
 use Rattle.acc_clauses.proofs.Putting.{unused, used_pinned}

@@ -11,7 +11,7 @@ use Rattle.acc_base.specs.Ranges.{start_of}
 use Rattle.acc_base.specs.Blocks.{block_at}
 use Rattle.acc_base.specs.Clauses.{is_attach, section_named, copies_in}
 use Rattle.acc_base.specs.Tasks.{section_of, queue_of}
-use Rattle.acc_base.specs.Transfers.{gives_bytes, first_address, transfer_at, transfer_of}
+use Rattle.acc_base.specs.Transfers.{gives_bytes, transfer_at, transfer_of}
 use Rattle.acc_base.specs.Steps.{act_row, act_step}
 use Rattle.acc_base.specs.Bytes.{bytes_of, step_state}
 use Rattle.acc_clauses.specs.Contents.{WithHost, room_of, bare_state}

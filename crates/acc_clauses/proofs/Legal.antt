@@ -16,7 +16,7 @@ use Rattle.acc_base.specs.Records.{Records, Memory, State}
 use Rattle.acc_base.specs.Ranges.{where_is, range_of}
 use Rattle.acc_base.specs.Blocks.{block_at}
 use Rattle.acc_base.specs.Tasks.{section_of}
-use Rattle.acc_base.specs.Accounts.{IsHostSection, IsMapped, IsCounted, IsMemoryOf, AreRecordsSound, AreMemoriesSized}
+use Rattle.acc_base.specs.Accounts.{IsCounted, IsMemoryOf, AreRecordsSound, AreMemoriesSized}
 use Rattle.acc_base.proofs.Results.{equal}
 use Rattle.acc_base.proofs.Elements.{AllByRecursion-weaker, found_has}
 use Rattle.acc_base.proofs.Lookups.{at-own}

@@ -7,8 +7,8 @@ use Rattle.acc_clauses.specs.Words.{Section, Range, Counter, Task, Step, Did}
 use Rattle.acc_base.specs.declared.events.Step.TheVariants.{Born}
 use Rattle.acc_base.specs.Limits.{Limits, IsWithinBounds}
 use Rattle.acc_base.specs.Records.{Records}
-use Rattle.acc_base.specs.Ranges.{where_is, where_is_apart, counter_of, bare_range}
-use Rattle.acc_base.specs.Tasks.{section_of, recounted}
+use Rattle.acc_base.specs.Ranges.{where_is, where_is_apart, counter_of}
+use Rattle.acc_base.specs.Tasks.{section_of}
 use Rattle.acc_base.specs.Steps.{records_after_birth, records_after_end, released, with_range_changed, act_row, act_step, act, act_all}
 use Rattle.acc_base.specs.History.{AreJudged}
 use Rattle.acc_base.specs.Accounts.{AreRecordsSound}

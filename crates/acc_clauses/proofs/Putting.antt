@@ -19,7 +19,7 @@ use Rattle.acc_queues.specs.Queued.{QueuesState, AreRoomsKept, IsRoomTaken, spar
 use Rattle.acc_dev.specs.Marks.{pins_at, is_ended_at, IsMarkOf}
 use Rattle.acc_dev.specs.Device.{DeviceState, IsPinned, IsUnpinned, IsRetired}
 use Rattle.acc_attach.specs.Attached.{AttachedState}
-use Rattle.acc_clauses.specs.Contents.{WithHost, AreMarked, bare_state}
+use Rattle.acc_clauses.specs.Contents.{WithHost, AreMarked}
 use Rattle.acc_clauses.specs.Acts.{IsMovedBy, IsSteppedBy}
 use Rattle.acc_clauses.proofs.Changes.{state_from_parts, room_same, none_taken}
 use Rattle.acc_clauses.proofs.Marked.{IsMarkAt, mark_told, pins_popped, marks_put, marks_unpinned, marks_drained}

@@ -27,7 +27,7 @@ use Rattle.acc_base.proofs.Aimed.{leave_sound, exit_sound, move_sound, says_aime
 use Rattle.acc_base.proofs.Walked.{records-act_state}
 use Rattle.acc_base.proofs.Loaned.{loans-act}
 use Rattle.acc_base.proofs.Memories.{step_sized, aimed_sized, act_sized}
-use Rattle.acc_clauses.specs.Contents.{WithHost, state_of, AreSizedBy, ArePartsSound, bare_state}
+use Rattle.acc_clauses.specs.Contents.{WithHost, AreSizedBy, ArePartsSound, bare_state}
 use Rattle.acc_clauses.specs.Acts.{IsJudged, IsMappedAround, IsKnown, CanMove, CanAct, CanAim, CanEnter, CanLeave, CanQueue, CanDo, IsDoneBy}
 use Rattle.acc_clauses.proofs.Legal.{mapped_around, can_move, can_by}
 use Rattle.acc_clauses.proofs.Changes.{changed_sound}

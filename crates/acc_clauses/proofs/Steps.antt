@@ -1,18 +1,18 @@
 -- What the steps of items leave of the parts that change counters, and what all steps need of the present table.
 use Rattle.std.proofs.lemmas.Bool.Decides.{nat_tests}
-use Rattle.std.proofs.Common.{ℕ, ◌≡◌, ◌<◌, refl, sym, ap, subst, Bool, true, false, List, [], ◌∷◌, Option, Some, None, arith}
+use Rattle.std.proofs.Common.{ℕ, ◌≡◌, refl, sym, ap, Bool, true, false, List, [], ◌∷◌, Option, Some, None, arith}
 use Rattle.std.specs.Prelude.{◌==◌, IsSome}
 use Rattle.std.specs.List.{AllByRecursion}
-use Rattle.acc_clauses.specs.Words.{Section, Item, UpdateClause, Counter, Range, Task, Transfer}
+use Rattle.acc_clauses.specs.Words.{Item, UpdateClause, Range, Task, Transfer}
 use Rattle.acc_base.specs.declared.tasks.Task.TheVariants.{Move}
 use Rattle.acc_base.specs.declared.events.Step.TheVariants.{Nothing, Counted, Dropped}
 use Rattle.acc_base.specs.Records.{State}
-use Rattle.acc_base.specs.Ranges.{range_of, changed_at, with_range, without_range, bare_range, counter_in, counter_of, ends_by}
+use Rattle.acc_base.specs.Ranges.{range_of, changed_at}
 use Rattle.acc_base.specs.Tasks.{queue_of, recounted}
 use Rattle.acc_base.specs.Transfers.{at_once, queues_after}
 use Rattle.acc_base.specs.Steps.{act_row, act_step, with_range_changed}
 use Rattle.acc_base.specs.Bytes.{step_state}
-use Rattle.acc_base.proofs.Lookups.{at-none, at-changed}
+use Rattle.acc_base.proofs.Lookups.{at-none}
 use Rattle.acc_base.proofs.Memories.{recounted-block}
 use Rattle.acc_present.specs.Present.{PresentTable, PresentState, with_ranges}
 use Rattle.acc_present.specs.Present as present

@@ -14,7 +14,7 @@ use Rattle.acc_base.proofs.Legality.{IsJudgedItem, item_judged}
 use Rattle.acc_clauses.specs.declared.acted.Acted.{Acted}
 use Rattle.acc_clauses.specs.Overlays.{IsPlanned, AreUnmixed, tasks_in, dids_in, records_after, state_after}
 use Rattle.std.specs.Prelude.{reverse}
-use Rattle.acc_clauses.specs.Planned.{IsJudgedNext, told_of}
+use Rattle.acc_clauses.specs.Planned.{IsJudgedNext}
 use Rattle.acc_clauses.proofs.Laws.{unmixed_front}
 
 -- what was done before what is still judged

@@ -2,7 +2,7 @@
 use Rattle.std.specs.Prelude.{ℕ, ◌≡◌, ◌+◌, ◌<◌, ◌≤◌, ◌⊎◌, ◌^◌, Bool, true, false, ◌&&◌, List, [], ◌∷◌, ◌++◌, length, replicate, if◌then◌else◌, Option, Some, None, is_some, is_none, IsSome, Ok, ⊤}
 use Rattle.std.specs.List.{AllByRecursion}
 use Rattle.acc_base.specs.declared.addresses.TheConstants.{MEMORY_MAX}
-use Rattle.acc_clauses.specs.Words.{Directive, Section, Item, RegionClause, Range, Holding, Task, Step, Did, Aim, Transfer}
+use Rattle.acc_clauses.specs.Words.{Directive, Section, Item, RegionClause, Range, Task, Step, Did, Aim, Transfer}
 use Rattle.acc_base.specs.declared.directives.Directive.TheVariants as directives
 use Rattle.acc_base.specs.declared.mappings.Found.TheVariants.{Absent}
 use Rattle.acc_base.specs.declared.tasks.Task.TheVariants.{Enter, ExitRegion, ExitData, Move}

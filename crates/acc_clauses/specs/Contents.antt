@@ -1,5 +1,5 @@
 -- What contracts see of a store: the limits, the state, and the room for more. And what holds of the parts of a device.
-use Rattle.std.specs.Prelude.{ℕ, ◌≡◌, ◌<◌, List, is_none, length}
+use Rattle.std.specs.Prelude.{ℕ, ◌≡◌, List, is_none, length}
 use Rattle.std.specs.List.{AllByRecursion}
 use Rattle.acc_clauses.specs.Words.{Range, Transfer}
 use Rattle.acc_base.specs.Limits.{Limits, IsWithinBounds}

@@ -1,4 +1,4 @@
-use Rattle.std.proofs.Common.{◌≡◌, ◌∙◌, refl, sym, ap, arith}
+use Rattle.std.proofs.Common.{◌∙◌, refl, sym, ap, arith}
 use Rattle.acc_base.specs.Limits.{Limits}
 use Rattle.acc_clauses.specs.Contents.{bare_numbers}
 use Rattle.acc_clauses.specs.Devices.{state_beside}

@@ -1,4 +1,4 @@
-use Rattle.std.proofs.Common.{◌≡◌, ◌<◌, ◌∙◌, refl, sym, ap, arith, length}
+use Rattle.std.proofs.Common.{◌<◌, ◌∙◌, refl, sym, ap, arith, length}
 use Rattle.std.proofs.lemmas.List.{drop_more}
 use Rattle.acc_base.specs.Limits.{Limits}
 use Rattle.acc_clauses.specs.Contents.{Contents, bare_numbers}

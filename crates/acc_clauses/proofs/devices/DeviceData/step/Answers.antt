@@ -1,4 +1,4 @@
-use Rattle.std.proofs.Common.{◌≡◌, ◌∙◌, sym, subst, take, length, Ok, arith}
+use Rattle.std.proofs.Common.{◌≡◌, ◌∙◌, sym, subst, take, length, Ok}
 use Rattle.acc_base.specs.Queues.{queue_at}
 use Rattle.acc_base.specs.Loans.{none_lent}
 use Rattle.acc_base.specs.Waits.{stepped}

@@ -3,7 +3,7 @@ use Rattle.std.proofs.lemmas.List.{length-replicate}
 use Rattle.acc_clauses.specs.Contents.{Contents, Numbers}
 use Rattle.acc_clauses.specs.Devices.{DeviceContents, Parked, contents_beside}
 use Rattle.acc_clauses.specs.Stored.{IsStoreSound}
-use Rattle.acc_clauses.proofs.Spared.{HaveRisen, store_beside}
+use Rattle.acc_clauses.proofs.Spared.{store_beside}
 use Rattle.acc_clauses.proofs.stores.Store.exchange.Goals as goal
 
 pub invariant_of-self : goal.invariant_of-self

@@ -1,4 +1,4 @@
-use Rattle.std.proofs.Common.{◌≡◌, sym, subst, false, arith}
+use Rattle.std.proofs.Common.{arith}
 use Rattle.std.proofs.lemmas.Bool.{false≢true}
 use Rattle.acc_clauses.proofs.AimsJudged.{pointer_there, pointer_fits}
 use Rattle.acc_clauses.proofs.views.View.device_pointer.Goals as goal

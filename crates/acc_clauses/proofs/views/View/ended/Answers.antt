@@ -1,4 +1,4 @@
-use Rattle.std.proofs.Common.{arith, []}
+use Rattle.std.proofs.Common.{arith}
 use Rattle.acc_clauses.specs.Contents.{beside}
 use Rattle.acc_clauses.proofs.Standing.{ended_is}
 use Rattle.acc_clauses.proofs.views.View.ended.Goals as goal

@@ -1,12 +1,10 @@
 -- How many nodes a balanced tree has at least, how high it is at most, and what a node says of its whole tree.
-use Rattle.std.proofs.Common.{◌≡◌, ℕ, zero, suc, ◌+◌, ◌*◌, ◌^◌, ◌<◌, ◌≤◌, List, [], ◌∷◌, ◌++◌, length, length-append, refl, ap, sym, ◌∙◌, inl, inr, arith, max, Option, Some, Box}
-use Rattle.std.specs.declared.alloc.Global.{Global}
+use Rattle.std.proofs.Common.{◌≡◌, ℕ, zero, suc, ◌+◌, ◌*◌, ◌^◌, ◌<◌, ◌≤◌, List, [], ◌∷◌, ◌++◌, length, length-append, inl, inr, arith, max}
 use Rattle.std.proofs.Math.Nat.{pow-suc}
 use Rattle.std.proofs.lemmas.Bool.{cases_lt}
 use Rattle.std.proofs.lemmas.Nat.{pow_pos}
 use Rattle.acc_base.specs.Holes.{greatest}
-use Rattle.acc_placement.specs.Shape.{Shape}
-use Rattle.acc_placement.specs.Nodes.{holes_in, height_of, high, tree_of, shape_of, IsTall, IsEven, IsSide, IsNodeSound}
+use Rattle.acc_placement.specs.Nodes.{holes_in, height_of, high, tree_of, shape_of, IsTall, IsEven, IsNodeSound}
 use Rattle.acc_placement.specs.declared.nodes.Node.TheInside.{Inside}
 
 tall_join : (hl hr nl nr : ℕ) → IsTall hl nl → IsTall hr nr → hl ≤ hr + 1 → hr ≤ hl + 1 → IsTall (max hl hr + 1) (nl + (nr + 1))

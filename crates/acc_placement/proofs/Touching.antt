@@ -1,5 +1,5 @@
 -- Giving a range back: which holes it touches, and what the holes are with it.
-use Rattle.std.proofs.Common.{◌≡◌, ℕ, zero, suc, ◌+◌, ◌-◌, ◌^◌, ◌<◌, ◌≤◌, ◌⊎◌, ◌%◌, Bool, true, false, cond, List, [], ◌∷◌, ◌++◌, inl, inr, arith, refl, subst, sym, ap, ◌∙◌, length, length-append, append_assoc, Option, Some, None, IsSome}
+use Rattle.std.proofs.Common.{◌≡◌, ℕ, zero, suc, ◌+◌, ◌-◌, ◌^◌, ◌<◌, ◌≤◌, ◌%◌, Bool, true, false, cond, List, [], ◌∷◌, ◌++◌, inl, inr, arith, refl, subst, sym, ap, ◌∙◌, length, length-append, append_assoc, Option, Some, None, IsSome}
 use Rattle.std.specs.Prelude.{All, ◌==◌, nat_lt, nat_le, IfSome}
 use Rattle.std.specs.List.{AllByRecursion}
 use Rattle.std.specs.Option.{option_or}
@@ -14,7 +14,7 @@ use Rattle.acc_placement.specs.Ranges.{IsAligned}
 use Rattle.acc_placement.specs.Changes.{IsAround, IsFilled, MayGrow, end_after, piece}
 use Rattle.acc_placement.proofs.Rising.{low_le-after, rising_from, rising_join, in_parts, in_join_left, in_join_right, total-append}
 use Rattle.acc_placement.proofs.Alignment.{All-left, All-right}
-use Rattle.acc_placement.proofs.Steps.{Sides, sides, places_from, before_none, with_behind, at_here, range_here, without_here, rising_without}
+use Rattle.acc_placement.proofs.Steps.{sides, places_from, before_none, with_behind, at_here, range_here, without_here, rising_without}
 
 -- ---- a range, or nothing where it has no addresses
 

@@ -1,4 +1,4 @@
-use Rattle.std.proofs.Common.{◌≡◌, ◌+◌, ◌<◌, ◌≤◌, ◌∷◌, ◌++◌, ◌^◌, ℕ, List, arith, sym, ap, subst, ◌∙◌}
+use Rattle.std.proofs.Common.{◌≤◌, ◌∷◌, ◌++◌, ℕ, List, arith, sym, ap, subst, ◌∙◌}
 use Rattle.acc_base.specs.Holes.{greatest}
 use Rattle.acc_placement.specs.Listing.{first_large, without_front}
 use Rattle.acc_placement.specs.Nodes.{holes_in, tree_of}

@@ -1,4 +1,4 @@
-use Rattle.std.proofs.Common.{◌≡◌, ◌∷◌, ◌++◌, ◌^◌, ℕ, List, arith, sym, ap, ◌∙◌}
+use Rattle.std.proofs.Common.{◌≡◌, ◌∷◌, ◌++◌, ℕ, List, arith, sym, ap, ◌∙◌}
 use Rattle.acc_placement.specs.Listing.{with_hole}
 use Rattle.acc_placement.specs.Nodes.{holes_in, tree_of}
 use Rattle.acc_placement.proofs.Steps.{with_left, with_right}

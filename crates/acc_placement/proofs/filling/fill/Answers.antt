@@ -1,4 +1,4 @@
-use Rattle.std.proofs.Common.{◌+◌, ◌-◌, ◌^◌, length, arith, ap, ◌∙◌}
+use Rattle.std.proofs.Common.{◌^◌, length, arith, ap, ◌∙◌}
 use Rattle.acc_placement.specs.Listing.{with_range}
 use Rattle.acc_placement.proofs.Touching.{merged, filled, put_alone, length_alone, grown_behind, grown_before, grown_both, length_both, there_behind}
 use Rattle.acc_placement.proofs.filling.fill.Goals as goal

@@ -1,4 +1,4 @@
-use Rattle.std.proofs.Common.{◌≡◌, ◌∷◌, ◌++◌, arith, sym, ap, ◌∙◌}
+use Rattle.std.proofs.Common.{arith, sym, ap, ◌∙◌}
 use Rattle.acc_placement.specs.Shape.{Shape}
 use Rattle.acc_placement.specs.Listing.{first_large}
 use Rattle.acc_placement.specs.Nodes.{holes_in}

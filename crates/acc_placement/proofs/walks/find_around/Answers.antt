@@ -1,9 +1,9 @@
-use Rattle.std.proofs.Common.{◌≡◌, ◌∷◌, ◌++◌, ◌^◌, ℕ, sym, ap, ◌∙◌, Some}
+use Rattle.std.proofs.Common.{ℕ, sym, ap, ◌∙◌, Some}
 use Rattle.std.specs.Option.{option_or}
 use Rattle.acc_base.proofs.Options.{or_or}
 use Rattle.acc_placement.specs.Listing.{first_from, last_before}
 use Rattle.acc_placement.specs.Nodes.{holes_in}
-use Rattle.acc_placement.proofs.Steps.{Sides, before_left, before_right, from_left, from_right}
+use Rattle.acc_placement.proofs.Steps.{before_left, before_right, from_left, from_right}
 use Rattle.acc_placement.proofs.Opened.{IsOpened, opened}
 use Rattle.acc_placement.proofs.walks.find_around.Goals as goal
 

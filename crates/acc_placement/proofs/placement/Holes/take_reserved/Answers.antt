@@ -1,4 +1,4 @@
-use Rattle.std.proofs.Common.{◌≡◌, ℕ, refl, ◌+◌, ◌^◌, ◌<◌, arith, subst, sym}
+use Rattle.std.proofs.Common.{ℕ, refl, ◌+◌, ◌<◌, arith, subst, sym}
 use Rattle.acc_placement.specs.Changes.{IsCut}
 use Rattle.acc_placement.specs.Ranges.{IsFit}
 use Rattle.acc_placement.specs.Space.{Space, IsCanonical}

@@ -1,4 +1,4 @@
-use Rattle.std.proofs.Common.{◌≡◌, ◌^◌, ℕ, arith, sym, ap, subst, ◌∙◌, List, length}
+use Rattle.std.proofs.Common.{◌^◌, ℕ, arith, sym, ap, subst, ◌∙◌, List, length}
 use Rattle.acc_base.specs.Holes.{IsRising}
 use Rattle.acc_placement.specs.Listing.{Listing, with_range}
 use Rattle.acc_placement.specs.Nodes.{holes_in}

@@ -1,4 +1,4 @@
-use Rattle.std.proofs.Common.{◌≡◌, ◌<◌, ◌^◌, ℕ, arith, refl, sym, ap, subst, ◌∙◌, List, length, Some, IsSome}
+use Rattle.std.proofs.Common.{◌≡◌, ◌<◌, ◌^◌, ℕ, arith, refl, sym, ap, subst, ◌∙◌, List, length, IsSome}
 use Rattle.acc_base.specs.Holes.{IsRising}
 use Rattle.acc_placement.specs.Listing.{Listing, first_large, without_place, without_front}
 use Rattle.acc_placement.specs.Nodes.{holes_in}

@@ -1,9 +1,9 @@
--- Taking the front of a hole, and giving a range back.
+-- Taking the front of a hole.
 use Rattle.std.proofs.Common.{◌≡◌, ℕ, ◌+◌, ◌-◌, ◌<◌, ◌≤◌, List, ◌∷◌, ◌++◌, inl, inr, arith}
 use Rattle.std.proofs.lemmas.Bool.{cases_lt}
 use Rattle.acc_base.specs.Holes.{IsRising}
-use Rattle.acc_placement.specs.Changes.{IsCut, IsFilled}
-use Rattle.acc_placement.proofs.Rising.{end_after, in_bounds, before_after, rising_from, rising_front, rising_back, rising_join, in_join_left, in_join_right, in_parts, total-append}
+use Rattle.acc_placement.specs.Changes.{IsCut, end_after}
+use Rattle.acc_placement.proofs.Rising.{in_bounds, before_after, rising_from, rising_front, rising_back, rising_join, in_join_left, in_join_right, in_parts, total-append}
 
 -- what is known where a list of holes is parted round one of them
 record Parts (low : ℕ) (l : List (ℕ × ℕ)) (x : ℕ × ℕ) (r : List (ℕ × ℕ)) (high : ℕ) : Type 0 where
@@ -57,21 +57,4 @@ cut_front low l x r high n less s =
         | inr (inr j) ↦ in_join_right l new a (inr j)
       ];
       was_free = λ a w. in_join_right l (x ∷ r) a (inl (omega arith, omega arith));
-    }
-
--- putting a range that touches neither the ranges before nor those after
-pub fill_between : (low : ℕ) (l r : List (ℕ × ℕ)) (high p n : ℕ) → IsRising low l high → end_after low l ≤ p → 0 < n → p + n ≤ high → IsRising (p + n + 1) r high → IsFilled low high (l ++ r) (l ++ (p, n) ∷ r) p n
-fill_between low l r high p n s below pos fits t =
-    record {
-      rising = rising_join low l ((p, n) ∷ r) high s (below, pos, fits, t);
-      used = omega (arith, total-append l r, total-append l ((p, n) ∷ r));
-      free = λ a i. elim (in_parts l ((p, n) ∷ r) a i) [
-        | inl j ↦ inl (in_join_left l r a j)
-        | inr (inl j) ↦ inr j
-        | inr (inr j) ↦ inl (in_join_right l r a j)
-      ];
-      kept = λ a u. elim u [
-        | inl i ↦ elim (in_parts l r a i) [ inl j ↦ in_join_left l ((p, n) ∷ r) a j | inr j ↦ in_join_right l ((p, n) ∷ r) a (inr j) ]
-        | inr w ↦ in_join_right l ((p, n) ∷ r) a (inl w)
-      ];
     }

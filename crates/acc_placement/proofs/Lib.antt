@@ -5,9 +5,11 @@ pub mod Cutting
 pub mod Giving
 pub mod Partitions
 pub mod Outside
-pub mod HoleTrees
-pub mod Merging
-pub mod Filling
 pub mod Rest
 pub mod Fitting
+pub mod Steps
+pub mod Tall
+pub mod Opened
+pub mod Fronts
+pub mod Touching
 pub mod Crossing

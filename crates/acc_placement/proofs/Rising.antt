@@ -3,11 +3,7 @@ use Rattle.std.proofs.Common.{◌≡◌, ℕ, suc, ◌+◌, ◌<◌, ◌≤◌, 
 use Rattle.std.specs.Prelude.{All}
 use Rattle.acc_base.specs.Holes.{IsIn, IsRising, total, IsDisjoint}
 use Rattle.acc_placement.specs.Ranges.{IsFit}
-
--- the least place after the ranges at which another may begin
-abbrev pub end_after : ℕ → List (ℕ × ℕ) → ℕ
-end_after low [] = low
-end_after low (h ∷ t) = end_after (h.0 + h.1 + 1) t
+use Rattle.acc_placement.specs.Changes.{end_after}
 
 -- ranges that rise from a place rise from each lower one
 pub rising_from : (b a : ℕ) (t : List (ℕ × ℕ)) (high : ℕ) → a ≤ b → IsRising b t high → IsRising a t high

@@ -1,6 +1,10 @@
 pub mod Ranges
 pub mod Space
-pub mod HoleTree
+pub mod Listing
+pub mod Shape
+pub mod Nodes
+pub mod NodeFalls
+pub mod Trees
 pub mod Holes
 pub mod HoleIter
 pub mod Changes

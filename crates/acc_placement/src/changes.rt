@@ -1,80 +1,132 @@
-//! How ranges are taken from a tree of holes by place, and how they come back.
+//! Holes put into a tree, changed in it and taken out of it.
+ghost use Rattle.std.specs.Prelude.{◌≡◌, ◌+◌, ◌^◌, ◌<◌, ◌≤◌, length, Some, IsSome, IfSome};
+ghost use Rattle.acc_base.specs.Holes.{IsRising, greatest as greatest_of};
+ghost use Rattle.acc_placement.specs.Listing.{at_place, first_large, with_hole, with_range, without_place, without_front};
+ghost use Rattle.acc_placement.specs.Nodes.{holes_in, height_of, IsTree, IsLeaf, IsLowered};
 
-ghost use Rattle.std.specs.Prelude.{◌≡◌, ℕ, ◌+◌, ◌-◌, ◌%◌, ◌^◌, ◌<◌, ◌≤◌, length, All, IfSome};
-ghost use Rattle.acc_base.specs.Holes.{IsRising, IsIn};
-ghost use Rattle.acc_base.specs.Section.{Spans};
-ghost use Rattle.acc_placement.specs.Ranges.{IsAligned, IsFit, IsLeastFit};
-ghost use Rattle.acc_placement.specs.HoleTree.{holes_in, size_ending, size_beginning};
-ghost use Rattle.acc_placement.specs.Changes.{IsCut, IsFilled, NeedsAtMost};
+use crate::balances::{balance, merge};
+use crate::nodes::{Link, Node, greatest, height, split, write};
 
-use acc_tree::{Entry, Tree};
-
-/// Takes the front of the first hole that has `size` bytes, and returns its place.
-pub fn cut(holes: &mut Tree<()>, size: u64) -> u64
-    requires rising { IsRising 0 (holes_in holes.old.entries) (2 ^ 41) }
-    requires some { 0 < size }
-    requires fits { (q : ℕ) × IsFit (holes_in holes.old.entries) size q }
-    ensures place { IsLeastFit (holes_in holes.old.entries) size result }
-    ensures cut { (low high : ℕ) → IsRising low (holes_in holes.old.entries) high → IsCut low high (holes_in holes.old.entries) (holes_in holes.new.entries) result size }
-    ensures aligned { All IsAligned (holes_in holes.old.entries) → size % 16 ≡ 0 → All IsAligned (holes_in holes.new.entries) × (result % 16 ≡ 0) }
-    ensures nodes { length holes.new.entries + holes.new.room ≡ length holes.old.entries + holes.old.room }
+/// Puts a hole into a tree, in a node that waits. Nodes on the way change in place, but for those that turn.
+pub fn insert(tree: &mut Link, node: Box<Node>, hole: (u64, u64))
+    requires leaf { IsLeaf node.value }
+    requires is_tree { IsTree tree.old }
+    requires limit { height_of tree.old < 2 ^ 29 }
+    requires rising { IsRising 0 (holes_in tree.old) (2 ^ 41) }
+    ensures holes { holes_in tree.new ≡ with_hole hole (holes_in tree.old) }
+    ensures is_tree { IsTree tree.new }
+    ensures not_lower { height_of tree.old ≤ height_of tree.new }
+    ensures not_higher { height_of tree.new ≤ height_of tree.old + 1 }
 {
-    holes.take_front(size).key as u64
-}
-
-/// Puts a range that is not free into the holes, merged with those that it touches. A hole that grows stays where it is
-/// in the tree.
-pub fn fill(holes: &mut Tree<()>, place: u64, size: u64)
-    requires rising { IsRising 0 (holes_in holes.old.entries) (2 ^ 41) }
-    requires limit { place + size ≤ 2 ^ 41 }
-    requires not_empty { 0 < size }
-    requires not_free { (a : ℕ) → Spans place size a → IsIn (holes_in holes.old.entries) a → ⊥ }
-    requires room { NeedsAtMost (holes_in holes.old.entries) place size (length holes.old.entries + holes.old.room) }
-    ensures filled { (low high : ℕ) → IsRising low (holes_in holes.old.entries) high → low ≤ place → place + size ≤ high → IsFilled low high (holes_in holes.old.entries) (holes_in holes.new.entries) place size }
-    ensures aligned { All IsAligned (holes_in holes.old.entries) → place % 16 ≡ 0 → size % 16 ≡ 0 → All IsAligned (holes_in holes.new.entries) }
-    ensures nodes { length holes.new.entries + holes.new.room ≡ length holes.old.entries + holes.old.room }
-{
-    let end = place + size;
-    let near = holes.around(place as u128);
-    let front = size_before(near.before, place);
-    let back = size_from(near.from, end);
-    let key = (place - front) as u128;
-    let size = front + size + back;
-    if front == 0 {
-        if back == 0 {
-            holes.insert(Entry {
-                key,
-                size,
-                value: (),
-            });
-        } else {
-            holes.grow(end as u128, key, size);
-        }
-    } else if back == 0 {
-        holes.grow(key, key, size);
+    let Some(mut top) = tree.take() else {
+        *tree = Some(write(node, hole));
+        return;
+    };
+    let n = &mut *top;
+    if hole.0 < n.place {
+        insert(&mut n.left, node, hole);
+        n.greatest_left = greatest(&n.left);
+        n.height_left = height(&n.left);
     } else {
-        holes.remove(end as u128);
-        holes.grow(key, key, size);
+        insert(&mut n.right, node, hole);
+        n.greatest_right = greatest(&n.right);
+        n.height_right = height(&n.right);
+    }
+    *tree = Some(balance(top));
+}
+
+/// Takes the node of a place out of a tree. Nodes on the way change in place, but for those that turn.
+pub fn remove(tree: &mut Link, place: u64) -> Box<Node>
+    requires is_tree { IsTree tree.old }
+    requires limit { height_of tree.old < 2 ^ 29 }
+    requires rising { IsRising 0 (holes_in tree.old) (2 ^ 41) }
+    requires there { IsSome (at_place place (holes_in tree.old)) }
+    ensures leaf { IsLeaf result.value }
+    ensures holes { holes_in tree.new ≡ without_place place (holes_in tree.old) }
+    ensures length { length (holes_in tree.new) + 1 ≡ length (holes_in tree.old) }
+    ensures is_tree { IsTree tree.new }
+    ensures height { IsLowered (height_of tree.old) (height_of tree.new) }
+{
+    let Some(mut top) = tree.take() else {
+        unreachable!()
+    };
+    let n = &mut *top;
+    let here = n.place;
+    if place == here {
+        let (left, node, right) = split(top);
+        *tree = merge(left, right);
+        return node;
+    }
+    let freed = if place < here {
+        let freed = remove(&mut n.left, place);
+        n.greatest_left = greatest(&n.left);
+        n.height_left = height(&n.left);
+        freed
+    } else {
+        let freed = remove(&mut n.right, place);
+        n.greatest_right = greatest(&n.right);
+        n.height_right = height(&n.right);
+        freed
+    };
+    *tree = Some(balance(top));
+    freed
+}
+
+/// Writes another place and a size that is no less at a place that is there. The greatest sizes are raised on the way
+/// down, so nothing is left to do on a way up.
+pub fn grow(tree: &mut Link, place: u64, to: u64, size: u64)
+    requires is_tree { IsTree tree.old }
+    requires rising { IsRising 0 (holes_in tree.old) (2 ^ 41) }
+    requires there { IsSome (at_place place (holes_in tree.old)) }
+    requires not_less { IfSome (at_place place (holes_in tree.old)) (λ h. h.1 ≤ size) }
+    ensures holes { holes_in tree.new ≡ with_range place to size (holes_in tree.old) }
+    ensures is_tree { IsTree tree.new }
+    ensures height { height_of tree.new ≡ height_of tree.old }
+{
+    let Some(node) = tree else { unreachable!() };
+    let node: &mut Node = node;
+    if place < node.place {
+        node.greatest_left = node.greatest_left.max(size);
+        grow(&mut node.left, place, to, size);
+    } else if node.place < place {
+        node.greatest_right = node.greatest_right.max(size);
+        grow(&mut node.right, place, to, size);
+    } else {
+        node.place = to;
+        node.size = size;
     }
 }
 
-/// The size of a hole that ends at `end`, or 0 where it ends elsewhere or there is none.
-fn size_before(hole: Option<Entry<()>>, end: u64) -> u64
-    requires limit { IfSome hole (λ h. h.key + h.size < 2 ^ 128) }
-    ensures { result ≡ size_ending hole end }
+/// Takes the first `size` bytes of the first hole that is so large, where it is larger, and returns how it was. A hole
+/// that is just so large stays, and its node is to be taken out. No node moves here.
+pub fn cut_front(tree: &mut Link, size: u64) -> (u64, u64)
+    requires is_tree { IsTree tree.old }
+    requires rising { IsRising 0 (holes_in tree.old) (2 ^ 41) }
+    requires some { 0 < size }
+    requires fits { size ≤ greatest_of (holes_in tree.old) }
+    ensures hole { first_large size (holes_in tree.old) ≡ Some result }
+    ensures cut { size < result.1 → holes_in tree.new ≡ without_front size (holes_in tree.old) }
+    ensures whole { result.1 ≡ size → holes_in tree.new ≡ holes_in tree.old }
+    ensures length { length (holes_in tree.new) ≡ length (holes_in tree.old) }
+    ensures is_tree { IsTree tree.new }
+    ensures height { height_of tree.new ≡ height_of tree.old }
 {
-    match hole {
-        Some(hole) if hole.key + hole.size as u128 == end as u128 => hole.size,
-        _ => 0,
-    }
-}
-
-/// The size of a hole that begins at `start`, or 0 where it begins elsewhere or there is none.
-fn size_from(hole: Option<Entry<()>>, start: u64) -> u64
-    ensures { result ≡ size_beginning hole start }
-{
-    match hole {
-        Some(hole) if hole.key == start as u128 => hole.size,
-        _ => 0,
+    let Some(node) = tree else { unreachable!() };
+    let node: &mut Node = node;
+    if node.greatest_left >= size {
+        let hole = cut_front(&mut node.left, size);
+        node.greatest_left = greatest(&node.left);
+        hole
+    } else if node.size < size {
+        let hole = cut_front(&mut node.right, size);
+        node.greatest_right = greatest(&node.right);
+        hole
+    } else {
+        let hole = (node.place, node.size);
+        if node.size > size {
+            node.place += size;
+            node.size -= size;
+        }
+        hole
     }
 }

@@ -8,11 +8,11 @@ ghost use Rattle.acc_placement.specs.Ranges.{all_rounded, IsFit, IsLeastFit, IsF
 ghost use Rattle.acc_placement.specs.Space.{IsCanonical, IsFresh, IsSameSpace, IsPartition, IsTaken, IsTakenFrom, IsGivenBack};
 
 use crate::beside::past;
-use crate::changes::{cut, fill};
+use crate::filling::fill;
 use crate::hole_iter::HoleIter;
 use crate::rounding::rounded;
+use crate::tree::Tree;
 use acc_base::{Fault, Free, MEMORY_MAX, Steps};
-use acc_tree::{Entry, Tree};
 use std::alloc::Global;
 use std::marker::Model;
 
@@ -26,9 +26,8 @@ use std::marker::Model;
 pub struct Holes {
     base: u64,
     size: u64,
-    // Each has its place as its key. With the nodes that wait there are more than there are taken ranges, so that
-    // `give_back` needs no memory.
-    holes: Tree<()>,
+    // With the nodes that wait there are more than there are taken ranges, so that `give_back` needs no memory.
+    holes: Tree,
     taken: u64,
     used: u64,
 }
@@ -63,13 +62,9 @@ impl Holes {
         ensures partition { IfOk result (λ holes. IsPartition holes []) }
         ensures only { IfErr result (λ fault. fault ≡ Fault.Memory) }
     {
-        let mut holes = Tree::new(alloc, ());
+        let mut holes = Tree::new(alloc);
         holes.reserve(1)?;
-        holes.insert(Entry {
-            key: base as u128,
-            size,
-            value: (),
-        });
+        holes.insert((base, size));
         Ok(Holes {
             base,
             size,
@@ -126,7 +121,7 @@ impl Holes {
         ensures canonical { IsCanonical self.now }
     {
         let hole = self.holes.first_fit_counted(rounded(need), steps)?;
-        Some(hole.key as u64)
+        Some(hole.0)
     }
 
     /// Makes room for `count` more taken ranges, at most 2^32, so that so many calls of [`Holes::take_reserved`] need
@@ -161,11 +156,10 @@ impl Holes {
         ensures spare { self.old.spare ≤ self.new.spare + 1 }
     {
         let size = rounded(need);
-        self.holes.laws();
-        let place = cut(&mut self.holes, size);
+        let hole = self.holes.take_front(size);
         self.taken += 1;
         self.used += size;
-        place
+        hole.0
     }
 
     /// Where [`Holes::take`] would place `need` bytes after takes of the listed places and lengths. It is the least
@@ -200,8 +194,7 @@ impl Holes {
         ensures value { result ≡ find (λ h. nat_le from h.0 && nat_le size h.1) self.now.holes }
         ensures canonical { IsCanonical self.now }
     {
-        let hole = self.holes.first_fit_from(from as u128, size)?;
-        Some((hole.key as u64, hole.size))
+        self.holes.first_fit_from(from, size)
     }
 
     /// Gives back a range that was taken at `place` with this need and not given back since. The new hole is merged
@@ -261,8 +254,7 @@ impl Holes {
     pub fn next_hole(&self, from: u64) -> Option<(u64, u64)>
         ensures { result ≡ find (λ h. nat_le from h.0) self.now.holes }
     {
-        let hole = self.holes.next(from as u128)?;
-        Some((hole.key as u64, hole.size))
+        self.holes.around(from).1
     }
 
     /// The bounds of the space, and that its holes are multiples of 16, rise and do not touch. Nothing is done.

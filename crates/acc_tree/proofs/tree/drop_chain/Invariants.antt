@@ -1,8 +1,0 @@
-use Rattle.acc_tree.specs.Nodes.{length_of, IsChain}
-use Rattle.acc_tree.proofs.tree.drop_chain.Given as goal
-
-abbrev pub invariant-loop-rest : goal.invariant-loop-rest
-invariant-loop-rest g l = IsChain l.rest
-
-abbrev pub decreases-loop-rest : goal.decreases-loop-rest
-decreases-loop-rest g l = length_of l.rest

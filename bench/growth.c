@@ -148,11 +148,14 @@ static void begin_leases(world *world, size_t most)
 static void begin_pointers(world *world, size_t most)
 {
     lw_item item = {.clause = LW_COPYIN, .start = POINTER(0), .len = 8 * most};
-    uint64_t target = ARRAY(0);
+    uint64_t *pointers = malloc(8 * most);
 
+    must(pointers ? LW_DONE : LW_MEMORY, "pointers");
     for (size_t n = 0; n < most; n++) {
-        must(lw_host_write(&world->table, POINTER(n), (const uint8_t *)&target, 8, &world->fault), "write");
+        pointers[n] = ARRAY(0);
     }
+    must(lw_host_write(&world->table, item.start, (const uint8_t *)pointers, item.len, &world->fault), "write");
+    free(pointers);
     map(world, 0);
     must(lw_enter_data(&world->table, &item, 1, LW_NO_QUEUE_GIVEN, &world->fault), "enter data");
 }

@@ -45,8 +45,8 @@ use std::marker::Model;
 /// A number finds its block mostly in one step, and else by a binary search. Its entry stays in its place while others
 /// are given back. Once more than half of the entries are of blocks that are gone, these are cleared away. Beside that
 /// a birth and a block that is given back cost what the placement costs for its holes. A birth also writes its bytes,
-/// and moves the lists that grow where there is no room for one block more. [`Device::ended`] finds its block by a search
-/// in a list.
+/// and moves the lists that grow where there is no room for one block more. A block that has ended also costs a change of
+/// the list of these, in which [`Device::ended`] searches.
 #[derive(Drop)]
 pub struct Device {
     pub(crate) alloc: Global,

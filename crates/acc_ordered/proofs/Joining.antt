@@ -66,10 +66,6 @@ module _ {T : Type 0} where
       }
       told false is = pair_apart rows i n lower upper next lt is_lower is_upper (omega (arith, leb-false (a + b) 32 is, long_a, long_b))
 
-  -- behind the last row is none
-  pub last_apart : (rows : List (List (KeyValue T))) (i : ℕ) → length rows ≤ i + 1 → AreApart rows i
-  last_apart rows i end before lower upper behind is number_is = absurd (omega (arith, end, ap length is, length-append before (lower ∷ upper ∷ behind), number_is))
-
   -- rows before and after the next row went
   pub upper_at : (rows : List (List (KeyValue T))) (number n : ℕ) → (f : FitTogether rows number) → n ≡ number + 1 → IsRowAt rows n f.upper
   upper_at rows number n f next = record {

@@ -5,7 +5,7 @@ use Rattle.acc_ordered.specs.Listing.{Listing}
 use Rattle.acc_ordered.specs.declared.list.OrderedList.TheInside.{Inside}
 use Rattle.acc_ordered.specs.Laid.{side_by_side, AreRows, AreHalfFull}
 
--- how many more entries certainly find a row: one for each row that waits, or as many as leave each row a quarter full
+-- how many more entries certainly find a row: one for each row that waits, or 16 for each row but one, less the entries
 abbrev pub room_for : ℕ → ℕ → ℕ → ℕ
 room_for rows waiting entries = max waiting (16 * (rows + waiting) - (entries + 16))
 

@@ -81,7 +81,7 @@ module _ {T : Type 0} where
     pub bound : place.at < length row
     pub others : 1 < length row
 
-  -- one row has place for all entries of a row and the next
+  -- a row and the next have at most 32 entries
   pub record FitTogether (rows : List (List (KeyValue T))) (number : ℕ) : Type 0 where
     pub before : List (List (KeyValue T))
     pub lower : List (KeyValue T)
@@ -89,7 +89,7 @@ module _ {T : Type 0} where
     pub behind : List (List (KeyValue T))
     pub is : rows ≡ before ++ lower ∷ upper ∷ behind
     pub number_is : length before ≡ number
-    pub few : length lower + length upper ≤ 64
+    pub few : length lower + length upper ≤ 32
 
   -- a row and the next have more than 32 entries, or it is the last
   abbrev pub AreApart : List (List (KeyValue T)) → ℕ → Type 0

@@ -89,7 +89,8 @@ pub fn start<K: Key, T: Copy>(
 fn cut_for(at: usize, is_last: bool) -> usize
     ensures half { 32 ≤ result }
     ensures not_all { result < 64 }
-    ensures last { result ≡ 32 ⊎ IsTrue is_last }
+    ensures behind { at ≡ 64 → IsTrue is_last → result ≡ 63 }
+    ensures middle { result ≡ 32 ⊎ (at ≡ 64) × IsTrue is_last }
 {
     if at == WIDTH && is_last {
         WIDTH - 1

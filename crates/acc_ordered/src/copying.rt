@@ -1,5 +1,5 @@
 //! Copies of all entries in rows.
-ghost use Rattle.std.specs.Prelude.{◌≡◌, IfOk, IfErr};
+ghost use Rattle.std.specs.Prelude.{◌≡◌, length, IfOk, IfErr};
 ghost use Rattle.acc_ordered.specs.Laid.{side_by_side};
 ghost use Rattle.acc_ordered.specs.Listing.{told_in};
 
@@ -9,13 +9,14 @@ use crate::rows::Row;
 use acc_base::Fault;
 use std::alloc::Global;
 
-/// A copy of each entry in rows, which are `len`, in a vector of their own.
+/// A copy of each of the `len` entries in rows, in a vector of their own.
 pub fn copy_rows<K: Key, T: Copy, U: Copy, C: Telling<K, T, U>>(
     alloc: Global,
     rows: &[Row<K, T>],
     len: u64,
     telling: &C,
 ) -> Result<Vec<U>, Fault>
+    requires { len ≡ length (side_by_side rows.now) }
     ensures ok { IfOk result (λ copied. copied.items ≡ told_in (C.told telling.now) (side_by_side rows.now)) }
     ensures only { IfErr result (λ fault. fault ≡ Fault.Memory) }
 {

@@ -69,7 +69,8 @@ impl<K: Key, T: Copy> OrderedList<K, T> {
     ///
     /// # Errors
     ///
-    /// [`Fault::Memory`] alone, where the room was missing. The entries are as before, and the room never shrinks here.
+    /// [`Fault::Memory`] alone, where the room was missing, or would take more than 2^57 rows. The entries are as before,
+    /// and the room never shrinks here.
     pub fn reserve(&mut self, count: u64) -> Result<(), Fault>
         ensures ok { OnOk result (count ≤ self.new.room) }
         ensures entries { self.new.entries ≡ self.old.entries }

@@ -5,7 +5,7 @@ use Rattle.std.specs.declared.alloc.Global.{Global}
 use Rattle.std.proofs.lemmas.Bool.Decides.{nat_tests}
 use Rattle.acc_base.specs.Holes.{IsRising, greatest}
 use Rattle.acc_placement.specs.Shape.{Shape}
-use Rattle.acc_placement.specs.Listing.{at_place, with_range}
+use Rattle.acc_placement.specs.Listing.{at_place, with_hole_moved}
 use Rattle.acc_placement.specs.Nodes.{holes_in, height_of, length_of, high, tree_of, shape_of, IsTree, IsEven, IsSide}
 use Rattle.acc_placement.specs.declared.nodes.Node.TheInside.{Inside}
 use Rattle.acc_placement.proofs.Steps.{Sides, sides, same_over}
@@ -31,23 +31,23 @@ opened tree b n is view =
 
 -- ---- a side in which a hole grows
 
-pub length-with_range : (place to size : ℕ) (hs : List (ℕ × ℕ)) → length (with_range place to size hs) ≡ length hs
-length-with_range place to size [] = refl
-length-with_range place to size (h ∷ hs) = omega (arith, length-with_range place to size hs)
+pub length-with_hole_moved : (place to size : ℕ) (hs : List (ℕ × ℕ)) → length (with_hole_moved place to size hs) ≡ length hs
+length-with_hole_moved place to size [] = refl
+length-with_hole_moved place to size (h ∷ hs) = omega (arith, length-with_hole_moved place to size hs)
 
-greatest-with_range : (place to size low : ℕ) (hs : List (ℕ × ℕ)) (high : ℕ) → IsRising low hs high → IsSome (at_place place hs) → IfSome (at_place place hs) (λ h. h.1 ≤ size) → greatest (with_range place to size hs) ≡ max (greatest hs) size
-greatest-with_range place to size low [] high s there le = cc
-greatest-with_range place to size low (h ∷ hs) high s there le = go (λ u v. greatest-with_range place to size (h.0 + h.1 + 1) hs high s.3 u v) (h.0 == place) refl there le
+greatest-with_hole_moved : (place to size low : ℕ) (hs : List (ℕ × ℕ)) (high : ℕ) → IsRising low hs high → IsSome (at_place place hs) → IfSome (at_place place hs) (λ h. h.1 ≤ size) → greatest (with_hole_moved place to size hs) ≡ max (greatest hs) size
+greatest-with_hole_moved place to size low [] high s there le = cc
+greatest-with_hole_moved place to size low (h ∷ hs) high s there le = go (λ u v. greatest-with_hole_moved place to size (h.0 + h.1 + 1) hs high s.3 u v) (h.0 == place) refl there le
   where
-    go : (IsSome (at_place place hs) → IfSome (at_place place hs) (λ g. g.1 ≤ size) → greatest (with_range place to size hs) ≡ max (greatest hs) size) → (b : Bool) → (h.0 == place) ≡ b → IsSome (cond b (Some h) (at_place place hs)) → IfSome (cond b (Some h) (at_place place hs)) (λ g. g.1 ≤ size) → max (cond b (to, size) h).1 (greatest (with_range place to size hs)) ≡ max (max h.1 (greatest hs)) size
-    go rest true t some fits = let same : with_range place to size hs ≡ hs = same_over place to size h hs (grind (arith, nat_tests)) (sides low [] h hs high s).over in rw same (omega arith)
+    go : (IsSome (at_place place hs) → IfSome (at_place place hs) (λ g. g.1 ≤ size) → greatest (with_hole_moved place to size hs) ≡ max (greatest hs) size) → (b : Bool) → (h.0 == place) ≡ b → IsSome (cond b (Some h) (at_place place hs)) → IfSome (cond b (Some h) (at_place place hs)) (λ g. g.1 ≤ size) → max (cond b (to, size) h).1 (greatest (with_hole_moved place to size hs)) ≡ max (max h.1 (greatest hs)) size
+    go rest true t some fits = let same : with_hole_moved place to size hs ≡ hs = same_over place to size h hs (grind (arith, nat_tests)) (sides low [] h hs high s).over in rw same (omega arith)
     go rest false t some fits = omega (arith, rest some fits)
 
-pub side_grown : (old new : Option (Box Shape Global)) (g h place to size : ℕ) → IsSide old g h → IsRising 0 (holes_in old) (2 ^ 41) → IsSome (at_place place (holes_in old)) → IfSome (at_place place (holes_in old)) (λ k. k.1 ≤ size) → holes_in new ≡ with_range place to size (holes_in old) → IsTree new → height_of new ≡ height_of old → IsSide new (max g size) h
+pub side_grown : (old new : Option (Box Shape Global)) (g h place to size : ℕ) → IsSide old g h → IsRising 0 (holes_in old) (2 ^ 41) → IsSome (at_place place (holes_in old)) → IfSome (at_place place (holes_in old)) (λ k. k.1 ≤ size) → holes_in new ≡ with_hole_moved place to size (holes_in old) → IsTree new → height_of new ≡ height_of old → IsSide new (max g size) h
 side_grown old new g h place to size side rising there le is is_tree high =
     record {
       is_tree = is_tree;
-      greatest_is = omega (arith, side.greatest_is, ap greatest is, greatest-with_range place to size 0 (holes_in old) (2 ^ 41) rising there le);
+      greatest_is = omega (arith, side.greatest_is, ap greatest is, greatest-with_hole_moved place to size 0 (holes_in old) (2 ^ 41) rising there le);
       height_is = side.height_is ∙ sym high;
-      tall = rw (high, is, length-with_range place to size (holes_in old)) side.tall;
+      tall = rw (high, is, length-with_hole_moved place to size (holes_in old)) side.tall;
     }

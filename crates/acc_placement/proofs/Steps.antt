@@ -10,7 +10,7 @@ use Rattle.std.proofs.lemmas.List.Folds.{find-append}
 use Rattle.acc_base.specs.Holes.{IsRising}
 use Rattle.acc_base.proofs.Elements.{AllByRecursion-weaker, find-none, find-behind, find-front}
 use Rattle.acc_base.proofs.Options.{or_none, or_or}
-use Rattle.acc_placement.specs.Listing.{at_place, first_from, last_before, with_hole, without_place, with_range}
+use Rattle.acc_placement.specs.Listing.{at_place, first_from, last_before, with_hole, without_place, with_hole_moved}
 use Rattle.acc_placement.proofs.Rising.{rising_from}
 
 -- holes that rise begin from there on
@@ -59,11 +59,11 @@ kept : (place : ℕ) (hs : List (ℕ × ℕ)) → AllByRecursion (λ h. (h.0 == 
 kept place [] others = refl
 kept place (h ∷ hs) others = rw others.0 (ap (λ k. h ∷ k) (kept place hs others.1))
 
-same_ranges : (place to size : ℕ) (hs : List (ℕ × ℕ)) → AllByRecursion (λ h. (h.0 == place) ≡ false) hs → with_range place to size hs ≡ hs
+same_ranges : (place to size : ℕ) (hs : List (ℕ × ℕ)) → AllByRecursion (λ h. (h.0 == place) ≡ false) hs → with_hole_moved place to size hs ≡ hs
 same_ranges place to size [] others = refl
 same_ranges place to size (h ∷ hs) others = rw others.0 (ap (λ k. h ∷ k) (same_ranges place to size hs others.1))
 
-pub same_over : (place to size : ℕ) (x : ℕ × ℕ) (r : List (ℕ × ℕ)) → place ≤ x.0 → AllByRecursion (λ h. x.0 < h.0) r → with_range place to size r ≡ r
+pub same_over : (place to size : ℕ) (x : ℕ × ℕ) (r : List (ℕ × ℕ)) → place ≤ x.0 → AllByRecursion (λ h. x.0 < h.0) r → with_hole_moved place to size r ≡ r
 same_over place to size x r le over = same_ranges place to size r (others_over place x r le over)
 
 -- ---- the hole before a place
@@ -150,20 +150,20 @@ module _ {low high : ℕ} {l : List (ℕ × ℕ)} {x : ℕ × ℕ} {r : List (�
       let t : (x.0 == place) ≡ false = grind (arith, nat_tests) in
       filter-append (λ h. not (h.0 == place)) l (x ∷ r) ∙ rw t (ap (λ hs. hs ++ x ∷ without_place place r) (kept place l (others_under place x l (omega arith) d.under)))
 
-  pub range_left : (to size : ℕ) → place < x.0 → with_range place to size (l ++ x ∷ r) ≡ with_range place to size l ++ x ∷ r
+  pub range_left : (to size : ℕ) → place < x.0 → with_hole_moved place to size (l ++ x ∷ r) ≡ with_hole_moved place to size l ++ x ∷ r
   range_left to size less =
       let t : (x.0 == place) ≡ false = grind (arith, nat_tests) in
-      map-append (λ h. cond (h.0 == place) (to, size) h) l (x ∷ r) ∙ rw t (ap (λ hs. with_range place to size l ++ x ∷ hs) (same_over place to size x r (omega arith) d.over))
+      map-append (λ h. cond (h.0 == place) (to, size) h) l (x ∷ r) ∙ rw t (ap (λ hs. with_hole_moved place to size l ++ x ∷ hs) (same_over place to size x r (omega arith) d.over))
 
-  pub range_here : (to size : ℕ) → x.0 ≡ place → with_range place to size (l ++ x ∷ r) ≡ l ++ (to, size) ∷ r
+  pub range_here : (to size : ℕ) → x.0 ≡ place → with_hole_moved place to size (l ++ x ∷ r) ≡ l ++ (to, size) ∷ r
   range_here to size is =
       let t : (x.0 == place) ≡ true = grind (arith, nat_tests) in
       map-append (λ h. cond (h.0 == place) (to, size) h) l (x ∷ r) ∙ rw t (rw (same_ranges place to size l (others_under place x l (omega arith) d.under), same_over place to size x r (omega arith) d.over) refl)
 
-  pub range_right : (to size : ℕ) → x.0 < place → with_range place to size (l ++ x ∷ r) ≡ l ++ x ∷ with_range place to size r
+  pub range_right : (to size : ℕ) → x.0 < place → with_hole_moved place to size (l ++ x ∷ r) ≡ l ++ x ∷ with_hole_moved place to size r
   range_right to size less =
       let t : (x.0 == place) ≡ false = grind (arith, nat_tests) in
-      map-append (λ h. cond (h.0 == place) (to, size) h) l (x ∷ r) ∙ rw t (ap (λ hs. hs ++ x ∷ with_range place to size r) (same_ranges place to size l (others_under place x l (omega arith) d.under)))
+      map-append (λ h. cond (h.0 == place) (to, size) h) l (x ∷ r) ∙ rw t (ap (λ hs. hs ++ x ∷ with_hole_moved place to size r) (same_ranges place to size l (others_under place x l (omega arith) d.under)))
 
 -- a hole between two lists, taken out by its place
 pub taken_out : (place : ℕ) (hs l m r : List (ℕ × ℕ)) (x : ℕ × ℕ) (low high : ℕ) → IsRising low hs high → hs ≡ l ++ m ++ r → m ≡ x ∷ [] → x.0 ≡ place → without_place place hs ≡ l ++ r

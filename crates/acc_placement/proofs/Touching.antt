@@ -9,7 +9,7 @@ use Rattle.std.proofs.lemmas.List.Elements.{All-append, All-cons}
 use Rattle.acc_base.specs.Holes.{IsIn, IsRising, total}
 use Rattle.acc_base.specs.Section.{Spans}
 use Rattle.acc_base.proofs.Elements.{AllByRecursion-weaker}
-use Rattle.acc_placement.specs.Listing.{at_place, first_from, last_before, size_ending, size_beginning, with_hole, with_range, without_place}
+use Rattle.acc_placement.specs.Listing.{at_place, first_from, last_before, size_ending, size_beginning, with_hole, with_hole_moved, without_place}
 use Rattle.acc_placement.specs.Ranges.{IsAligned}
 use Rattle.acc_placement.specs.Changes.{IsAround, IsFilled, MayGrow, end_after, piece}
 use Rattle.acc_placement.proofs.Rising.{low_le-after, rising_from, rising_join, in_parts, in_join_left, in_join_right, total-append}
@@ -138,13 +138,13 @@ last_limit p low (h ∷ hs) high s = go (last_before p hs) (nat_lt h.0 p) (last_
 -- a hole that grows where it stands
 pub record IsGrown (place to size : ℕ) (hs new : List (ℕ × ℕ)) : Type 0 where
   pub may : IsRising 0 new (2 ^ 41) → MayGrow place to size hs
-  pub is : with_range place to size hs ≡ new
+  pub is : with_hole_moved place to size hs ≡ new
 
 grown : (low high place old to size : ℕ) (hs l r : List (ℕ × ℕ)) → IsRising low hs high → hs ≡ l ++ (place, old) ∷ r → old ≤ size → IsGrown place to size hs (l ++ (to, size) ∷ r)
 grown low high place old to size hs l r s is le =
     let d = sides low l (place, old) r high (subst (λ (k : List (ℕ × ℕ)). IsRising low k high) is s) in
     let found : at_place place hs ≡ Some (place, old) = ap (at_place place) is ∙ at_here d place refl in
-    let new : with_range place to size hs ≡ l ++ (to, size) ∷ r = ap (with_range place to size) is ∙ range_here d place to size refl in
+    let new : with_hole_moved place to size hs ≡ l ++ (to, size) ∷ r = ap (with_hole_moved place to size) is ∙ range_here d place to size refl in
     record { may = λ rising. record { there = rw found refl; not_less = rw found le; rising = rw new rising }; is = new }
 
 module _ (low : ℕ) (hs : List (ℕ × ℕ)) (high p n front back : ℕ) (a : IsAround low hs high p n front back) where

@@ -2,7 +2,7 @@
 use Rattle.std.specs.Prelude.{ℕ, zero, suc, ◌≡◌, ◌+◌, ◌-◌, ◌%◌, ◌^◌, ◌≤◌, ◌⊎◌, List, [], ◌∷◌, ◌++◌, length, All, IfSome, IsSome}
 use Rattle.acc_base.specs.Holes.{IsIn, IsRising, total}
 use Rattle.acc_base.specs.Section.{Spans}
-use Rattle.acc_placement.specs.Listing.{at_place, with_range}
+use Rattle.acc_placement.specs.Listing.{at_place, with_hole_moved}
 use Rattle.acc_placement.specs.Ranges.{IsAligned, all_rounded}
 
 -- the new ranges are the old ones without the n addresses from p on, and rise
@@ -50,7 +50,7 @@ pub record IsAround (low : ℕ) (hs : List (ℕ × ℕ)) (high p n front back : 
 pub record MayGrow (place to size : ℕ) (hs : List (ℕ × ℕ)) : Type 0 where
   pub there : IsSome (at_place place hs)
   pub not_less : IfSome (at_place place hs) (λ h. h.1 ≤ size)
-  pub rising : IsRising 0 (with_range place to size hs) (2 ^ 41)
+  pub rising : IsRising 0 (with_hole_moved place to size hs) (2 ^ 41)
 
 -- none of the n addresses from q on is taken by the listed places and lengths
 abbrev pub IsBeside : List (ℕ × ℕ) → ℕ → ℕ → Type 0

@@ -54,8 +54,8 @@ abbrev pub without_place : ℕ → List (ℕ × ℕ) → List (ℕ × ℕ)
 without_place place holes = filter (λ h. not (h.0 == place)) holes
 
 -- the holes with another place and size at a place
-abbrev pub with_range : ℕ → ℕ → ℕ → List (ℕ × ℕ) → List (ℕ × ℕ)
-with_range place to size holes = map (λ h. if h.0 == place then (to, size) else h) holes
+abbrev pub with_hole_moved : ℕ → ℕ → ℕ → List (ℕ × ℕ) → List (ℕ × ℕ)
+with_hole_moved place to size holes = map (λ h. if h.0 == place then (to, size) else h) holes
 
 -- a hole whose first `size` bytes are taken, before others; it goes where nothing of it is left
 abbrev pub cut_before : ℕ → ℕ × ℕ → List (ℕ × ℕ) → List (ℕ × ℕ)

@@ -16,16 +16,16 @@ pub fn balance(top: Box<Node>) -> Box<Node>
 {
     let (left, right) = (top.height_left, top.height_right);
     if left > right + 1 {
-        lean_left(top)
+        turn_from_left(top)
     } else if right > left + 1 {
-        lean_right(top)
+        turn_from_right(top)
     } else {
         top
     }
 }
 
 /// Turns a tree of which the left side is higher by two.
-fn lean_left(top: Box<Node>) -> Box<Node>
+fn turn_from_left(top: Box<Node>) -> Box<Node>
     requires alone { top.value.behind ≡ 0 }
     requires two_higher { top.value.left ≡ top.value.right + 2 }
     requires limit { top.value.left < 2 ^ 30 }
@@ -49,7 +49,7 @@ fn lean_left(top: Box<Node>) -> Box<Node>
 }
 
 /// Turns a tree of which the right side is higher by two.
-fn lean_right(top: Box<Node>) -> Box<Node>
+fn turn_from_right(top: Box<Node>) -> Box<Node>
     requires alone { top.value.behind ≡ 0 }
     requires two_higher { top.value.right ≡ top.value.left + 2 }
     requires limit { top.value.right < 2 ^ 30 }

@@ -1,7 +1,7 @@
 //! Holes put into a tree, changed in it and taken out of it.
 ghost use Rattle.std.specs.Prelude.{◌≡◌, ◌+◌, ◌^◌, ◌<◌, ◌≤◌, length, Some, IsSome, IfSome};
 ghost use Rattle.acc_base.specs.Holes.{IsRising, greatest as greatest_of};
-ghost use Rattle.acc_placement.specs.Listing.{at_place, first_large, with_hole, with_range, without_place, without_front};
+ghost use Rattle.acc_placement.specs.Listing.{at_place, first_large, with_hole, with_hole_moved, without_place, without_front};
 ghost use Rattle.acc_placement.specs.Nodes.{holes_in, height_of, IsTree, IsLeaf, IsLowered};
 
 use crate::balances::{balance, merge};
@@ -79,7 +79,7 @@ pub fn grow(tree: &mut Link, place: u64, to: u64, size: u64)
     requires rising { IsRising 0 (holes_in tree.old) (2 ^ 41) }
     requires there { IsSome (at_place place (holes_in tree.old)) }
     requires not_less { IfSome (at_place place (holes_in tree.old)) (λ h. h.1 ≤ size) }
-    ensures holes { holes_in tree.new ≡ with_range place to size (holes_in tree.old) }
+    ensures holes { holes_in tree.new ≡ with_hole_moved place to size (holes_in tree.old) }
     ensures is_tree { IsTree tree.new }
     ensures height { height_of tree.new ≡ height_of tree.old }
 {

@@ -1,7 +1,7 @@
 //! A balanced tree of holes, each found by its place in a walk from the top.
 ghost use Rattle.std.specs.Prelude.{◌≡◌, ℕ, ◌+◌, ◌*◌, ◌^◌, ◌<◌, ◌≤◌, [], length, Some, IsSome, IfErr, OnOk, OnErr, MatchBool};
 ghost use Rattle.acc_base.specs.Holes.{IsRising, greatest as greatest_of};
-ghost use Rattle.acc_placement.specs.Listing.{at_place, first_from, last_before, first_large, first_large_from, with_hole, with_range, without_place, without_front};
+ghost use Rattle.acc_placement.specs.Listing.{at_place, first_from, last_before, first_large, first_large_from, with_hole, with_hole_moved, without_place, without_front};
 ghost use Rattle.acc_placement.specs.Changes.{MayGrow};
 ghost use Rattle.acc_placement.specs.Nodes.{length_of, IsChain};
 
@@ -175,7 +175,7 @@ impl Tree {
     /// it has. It touches no other then, so each hole stays where it is in the tree. It needs no memory.
     pub fn grow(&mut self, place: u64, to: u64, size: u64)
         requires { MayGrow place to size self.old.holes }
-        ensures holes { self.new.holes ≡ with_range place to size self.old.holes }
+        ensures holes { self.new.holes ≡ with_hole_moved place to size self.old.holes }
         ensures room { self.new.room ≡ self.old.room }
     {
         changes::grow(&mut self.root, place, to, size);

@@ -34,7 +34,7 @@ returns-clause-rows g c =
     let whole = row_is_row c.args.rows.now.items c.args.row f.lower c.requires.rows.in_rows.each (old_lower_at c.args.rows.now.items c.args.row f) in
     let j = joined c.args.rows.now.items c.args.row (c.args.row + 1) c.append.new.self f refl is in
     record {
-      in_rows = rw (c.remove.ensures.items, c.remove-upper.ensures.items, remove_numbers g.K.Key.number c.args.firsts.now.items (c.args.row + 1)) (in_rows_joined (map g.K.Key.number c.args.firsts.now.items) c.args.rows.now.items (set (remove c.args.rows.now.items (c.args.row + 1)) c.args.row c.append.new.self) c.args.row (c.args.row + 1) c.requires.rows.in_rows j (whole_row f.lower f.upper c.append.new.self whole f.few is) refl);
+      in_rows = rw (c.remove.ensures.items, c.remove-upper.ensures.items, remove_numbers g.K.Key.number c.args.firsts.now.items (c.args.row + 1)) (in_rows_joined (map g.K.Key.number c.args.firsts.now.items) c.args.rows.now.items (set (remove c.args.rows.now.items (c.args.row + 1)) c.args.row c.append.new.self) c.args.row (c.args.row + 1) c.requires.rows.in_rows j (whole_row f.lower f.upper c.append.new.self whole (omega (arith, f.few)) is) refl);
       waiting = rw c.push_reserved.ensures.items (AllByRecursion-append IsWaiting c.args.spare.now.items (c.clear.new.self ∷ []) c.requires.rows.waiting (c.clear.ensures, tt));
       places_firsts = omega (arith, c.requires.rows.places_firsts);
       places_rows = omega (arith, c.requires.rows.places_rows);

@@ -1,4 +1,4 @@
-use Rattle.std.proofs.Common.{ℕ, ◌≡◌, ◌+◌, ◌-◌, refl, subst, arith}
+use Rattle.std.proofs.Common.{ℕ, ◌≡◌, ◌-◌, subst, arith}
 use Rattle.acc_ordered.specs.Spots.{AreApart}
 use Rattle.acc_ordered.proofs.Joining.{side_joined}
 use Rattle.acc_ordered.proofs.HalfFull.{joined_next, joined_before, not_joined}

@@ -54,10 +54,10 @@ returns-else-place-cut-clause-place g c =
 
 pub returns-then-place-cut-clause-half_full : goal.returns-then-place-cut-clause-half_full
 returns-then-place-cut-clause-half_full g c =
-    let last : (c.cut_for-cut.result ≡ 32) ⊎ (c.args.place.row + 1 ≡ length c.args.rows.now.items) = elim c.cut_for-cut.ensures.last [ inl half ↦ inl half | inr is ↦ inr (omega (arith, equal (c.args.place.row + 1) c.len-2.result is)) ] in
+    let last : (c.cut_for-cut.result ≡ 32) ⊎ (c.args.place.row + 1 ≡ length c.args.rows.now.items) = elim c.cut_for-cut.ensures.middle [ inl half ↦ inl half | inr is ↦ inr (omega (arith, equal (c.args.place.row + 1) c.len-2.result is.1)) ] in
     half_cut c.args.rows.now.items c.split.new.rows.items c.args.place.row c.cut_for-cut.result c.split.ensures.cut c.cut_for-cut.ensures.half c.cut_for-cut.ensures.not_all last c.requires.rows.in_rows.each c.requires.half_full
 
 pub returns-else-place-cut-clause-half_full : goal.returns-else-place-cut-clause-half_full
 returns-else-place-cut-clause-half_full g c =
-    let last : (c.cut_for-cut.result ≡ 32) ⊎ (c.args.place.row + 1 ≡ length c.args.rows.now.items) = elim c.cut_for-cut.ensures.last [ inl half ↦ inl half | inr is ↦ inr (omega (arith, equal (c.args.place.row + 1) c.len-2.result is)) ] in
+    let last : (c.cut_for-cut.result ≡ 32) ⊎ (c.args.place.row + 1 ≡ length c.args.rows.now.items) = elim c.cut_for-cut.ensures.middle [ inl half ↦ inl half | inr is ↦ inr (omega (arith, equal (c.args.place.row + 1) c.len-2.result is.1)) ] in
     half_cut c.args.rows.now.items c.split.new.rows.items c.args.place.row c.cut_for-cut.result c.split.ensures.cut c.cut_for-cut.ensures.half c.cut_for-cut.ensures.not_all last c.requires.rows.in_rows.each c.requires.half_full

@@ -1,6 +1,6 @@
 use Rattle.std.proofs.Common.{◌≤◌, ◌∷◌, ◌++◌, ℕ, List, IsSome, arith, sym, ap, ◌∙◌}
 use Rattle.std.specs.Prelude.{IfSome}
-use Rattle.acc_placement.specs.Listing.{at_place, with_range}
+use Rattle.acc_placement.specs.Listing.{at_place, with_hole_moved}
 use Rattle.acc_placement.specs.Nodes.{holes_in}
 use Rattle.acc_placement.proofs.Steps.{at_left, at_right, range_left, range_here, range_right}
 use Rattle.acc_placement.proofs.Opened.{IsOpened, opened, side_grown}
@@ -63,17 +63,17 @@ returns-then-place-node-clause-holes t c =
     let n = c.node.inside in
     let x : ℕ × ℕ = (n.place, n.size) in
     let o : IsOpened c.args.tree.now n = opened c.args.tree.now c.in-Some.node n c.in-Some.is (c.node.view_is ∙ c.deref_mut-node.ensures.value) in
-    ap (λ (k : List (ℕ × ℕ)). k ++ x ∷ holes_in n.right) c.grow.ensures.holes ∙ sym (ap (with_range c.args.place c.args.to c.args.size) o.whole ∙ range_left (o.sides c.requires.rising) c.args.place c.args.to c.args.size c.if-place-node.true)
+    ap (λ (k : List (ℕ × ℕ)). k ++ x ∷ holes_in n.right) c.grow.ensures.holes ∙ sym (ap (with_hole_moved c.args.place c.args.to c.args.size) o.whole ∙ range_left (o.sides c.requires.rising) c.args.place c.args.to c.args.size c.if-place-node.true)
 
 pub returns-then-node-place-clause-holes : goal.returns-then-node-place-clause-holes
 returns-then-node-place-clause-holes t c =
     let n = c.node.inside in
     let x : ℕ × ℕ = (n.place, n.size) in
     let o : IsOpened c.args.tree.now n = opened c.args.tree.now c.in-Some.node n c.in-Some.is (c.node.view_is ∙ c.deref_mut-node.ensures.value) in
-    ap (λ (k : List (ℕ × ℕ)). holes_in n.left ++ x ∷ k) c.grow-then-node-place.ensures.holes ∙ sym (ap (with_range c.args.place c.args.to c.args.size) o.whole ∙ range_right (o.sides c.requires.rising) c.args.place c.args.to c.args.size c.if-node-place.true)
+    ap (λ (k : List (ℕ × ℕ)). holes_in n.left ++ x ∷ k) c.grow-then-node-place.ensures.holes ∙ sym (ap (with_hole_moved c.args.place c.args.to c.args.size) o.whole ∙ range_right (o.sides c.requires.rising) c.args.place c.args.to c.args.size c.if-node-place.true)
 
 pub returns-else-node-place-clause-holes : goal.returns-else-node-place-clause-holes
 returns-else-node-place-clause-holes t c =
     let n = c.node.inside in
     let o : IsOpened c.args.tree.now n = opened c.args.tree.now c.in-Some.node n c.in-Some.is (c.node.view_is ∙ c.deref_mut-node.ensures.value) in
-    sym (ap (with_range c.args.place c.args.to c.args.size) o.whole ∙ range_here (o.sides c.requires.rising) c.args.place c.args.to c.args.size (omega (arith, c.if-place-node.false, c.if-node-place.false)))
+    sym (ap (with_hole_moved c.args.place c.args.to c.args.size) o.whole ∙ range_here (o.sides c.requires.rising) c.args.place c.args.to c.args.size (omega (arith, c.if-place-node.false, c.if-node-place.false)))

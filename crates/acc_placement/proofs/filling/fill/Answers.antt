@@ -1,5 +1,5 @@
 use Rattle.std.proofs.Common.{◌^◌, length, arith, ap, ◌∙◌}
-use Rattle.acc_placement.specs.Listing.{with_range}
+use Rattle.acc_placement.specs.Listing.{with_hole_moved}
 use Rattle.acc_placement.proofs.Touching.{merged, filled, put_alone, length_alone, grown_behind, grown_before, grown_both, length_both, there_behind}
 use Rattle.acc_placement.proofs.filling.fill.Goals as goal
 
@@ -71,7 +71,7 @@ returns-else-back-eq0-2-clause-filled c =
     let hs = c.args.holes.now.holes in
     λ low high s le limit.
     let a = c.touched-front.ensures low high s le limit in
-    rw (c.grow-else-back-eq0-2.ensures.holes ∙ ap (with_range _ _ _) c.remove.ensures.holes ∙ (grown_both low hs high c.args.place c.args.size c.touched-front.result.0 c.touched-front.result.1 a s (omega arith) (omega arith)).is) (filled low hs high c.args.place c.args.size c.touched-front.result.0 c.touched-front.result.1 a c.requires.not_empty)
+    rw (c.grow-else-back-eq0-2.ensures.holes ∙ ap (with_hole_moved _ _ _) c.remove.ensures.holes ∙ (grown_both low hs high c.args.place c.args.size c.touched-front.result.0 c.touched-front.result.1 a s (omega arith) (omega arith)).is) (filled low hs high c.args.place c.args.size c.touched-front.result.0 c.touched-front.result.1 a c.requires.not_empty)
 
 pub returns-then-back-eq0-clause-nodes : goal.returns-then-back-eq0-clause-nodes
 returns-then-back-eq0-clause-nodes c =
@@ -83,4 +83,4 @@ pub returns-else-back-eq0-2-clause-nodes : goal.returns-else-back-eq0-2-clause-n
 returns-else-back-eq0-2-clause-nodes c =
     let hs = c.args.holes.now.holes in
     let a = c.touched-front.ensures 0 (2 ^ 41) c.requires.rising (omega arith) c.requires.limit in
-    omega (arith, ap length (c.grow-else-back-eq0-2.ensures.holes ∙ ap (with_range _ _ _) c.remove.ensures.holes ∙ (grown_both 0 hs (2 ^ 41) c.args.place c.args.size c.touched-front.result.0 c.touched-front.result.1 a c.requires.rising (omega arith) (omega arith)).is), length_both 0 hs (2 ^ 41) c.args.place c.args.size c.touched-front.result.0 c.touched-front.result.1 a (omega arith) (omega arith), c.remove.ensures.room, c.grow-else-back-eq0-2.ensures.room)
+    omega (arith, ap length (c.grow-else-back-eq0-2.ensures.holes ∙ ap (with_hole_moved _ _ _) c.remove.ensures.holes ∙ (grown_both 0 hs (2 ^ 41) c.args.place c.args.size c.touched-front.result.0 c.touched-front.result.1 a c.requires.rising (omega arith) (omega arith)).is), length_both 0 hs (2 ^ 41) c.args.place c.args.size c.touched-front.result.0 c.touched-front.result.1 a (omega arith) (omega arith), c.remove.ensures.room, c.grow-else-back-eq0-2.ensures.room)

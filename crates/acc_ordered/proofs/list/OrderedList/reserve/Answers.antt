@@ -1,5 +1,4 @@
-use Rattle.std.proofs.Common.{◌≡◌, ◌+◌, ◌-◌, ◌*◌, ◌/◌, ◌^◌, ◌≤◌, length, vec_len, ap, arith}
-use Rattle.acc_ordered.specs.Laid.{side_by_side}
+use Rattle.std.proofs.Common.{◌-◌, ◌^◌, length, vec_len, ap, arith}
 use Rattle.acc_ordered.proofs.HalfFull.{few_rows}
 use Rattle.acc_ordered.proofs.list.OrderedList.reserve.Goals as goal
 

@@ -1,13 +1,13 @@
-//! The program `accrun` but for its streams: the words and options of its command line, what it does for them, and how
+//! The program `accrun` but for its streams: the words of its command line, what it does for its options, and how
 //! it ends.
 #![tactic(auto)]
 
 mod drills;
 mod endings;
 mod file_stores;
-mod options;
 mod picture_files;
 mod programs;
+mod suites;
 mod tools;
 mod words;
 

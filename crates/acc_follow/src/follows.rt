@@ -34,6 +34,8 @@ pub struct Views {
     pub pictures: bool,
     /// A page that shows the script step by step.
     pub page: bool,
+    /// Which line printed what ([`Beside::lines`]).
+    pub lines: bool,
 }
 
 impl Views {
@@ -70,6 +72,8 @@ pub struct Beside<'a, E, G> {
     pub reason: &'a mut Page,
     /// Gets the column of what is wrong in that line, from 1 on.
     pub column: &'a mut u64,
+    /// Gets for each line of the output the number of the line that printed it, where that is asked for.
+    pub lines: &'a mut Vec<u64>,
 }
 
 /// Runs a whole script as [`run`] does, and shows more of it.
@@ -92,6 +96,7 @@ pub fn follow<R: Threads + Wait + Sync + AllocGlobal, S: Source, O: Sink, E: Sin
         pictures,
         reason,
         column,
+        lines,
     } = beside;
     let mut follower = Follower {
         alloc: rt.alloc(),
@@ -107,8 +112,8 @@ pub fn follow<R: Threads + Wait + Sync + AllocGlobal, S: Source, O: Sink, E: Sin
         drawn: 0,
         stop: None,
     };
-    let ending = if setting.views.echo || setting.views.json {
-        run_copied(rt, setting, reader, out, &mut follower)
+    let ending = if setting.views.echo || setting.views.json || setting.views.lines {
+        run_copied(rt, setting, reader, out, lines, &mut follower)
     } else {
         run(
             rt,
@@ -129,6 +134,7 @@ fn run_copied<R: Threads + Wait + Sync + AllocGlobal, S: Source, O: Sink, X: Wat
     setting: Setting,
     reader: &mut S,
     out: &mut O,
+    lines: &mut Vec<u64>,
     watcher: &mut X,
 ) -> Result<Status, Fault>
     requires { (1 ≤ setting.parts) × (setting.parts ≤ 64) }
@@ -140,6 +146,7 @@ fn run_copied<R: Threads + Wait + Sync + AllocGlobal, S: Source, O: Sink, X: Wat
         alloc: rt.alloc(),
         echo: setting.views.echo,
         json: setting.views.json,
+        lines,
         copied: 0,
         failed: None,
     };

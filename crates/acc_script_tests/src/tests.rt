@@ -1,5 +1,5 @@
 //! What the program does over sources, sinks and files in memory: where one of them fails, where memory cannot grow, and
-//! with options that `tests/scripts` cannot show. How scripts end at limits that no option gives.
+//! with options that `tests/commands` cannot show. How scripts end at limits that no option gives.
 
 use acc_command::{FileStore, Unread, tool};
 use acc_script::{MemorySink, MemorySource, Sink, Source};
@@ -8,6 +8,7 @@ use std::fmt::Debug;
 use std::process::Abort;
 use std::sync::Wait;
 use std::thread::Threads;
+use worked::SUITE;
 
 mod chances;
 mod command_lines;
@@ -47,17 +48,27 @@ fn add_words(words: &mut Vec<String>, alloc: Global, text: &str) -> Result<(), A
     Ok(())
 }
 
-/// A store that has no file, and takes each as written.
+/// A store that has one script, `suite.acc`, and takes each file as written.
 #[derive(Drop)]
-struct NoFiles;
+struct OneScript {
+    /// The allocator.
+    alloc: Global,
+}
 
-impl FileStore for NoFiles {
-    fn read(&self, _name: &str) -> Result<Vec<u8>, Unread> {
-        Err(Unread::Because("there is none"))
+impl FileStore for OneScript {
+    fn read(&self, name: &str) -> Result<Vec<u8>, Unread> {
+        if name != "suite.acc" {
+            return Err(Unread::Absent);
+        }
+        let mut bytes = Vec::new(self.alloc);
+        match bytes.extend_from_slice(SUITE.as_bytes()) {
+            Ok(()) => Ok(bytes),
+            Err(_) => Err(Unread::Memory),
+        }
     }
 
-    fn write(&self, _name: &str, _bytes: &[u8]) -> bool {
-        true
+    fn write(&self, _name: &str, _bytes: &[u8]) -> Result<(), Unread> {
+        Ok(())
     }
 }
 
@@ -70,7 +81,8 @@ fn run_over<R: Threads + Wait + Sync + AllocGlobal, S: Source, O: Sink, E: Sink>
     err: &mut E,
 ) -> Result<u8, AllocError> {
     let words = words(rt.alloc(), options)?;
-    Ok(tool(rt, words, source, out, err, &NoFiles))
+    let files = OneScript { alloc: rt.alloc() };
+    Ok(tool(rt, words, source, out, err, &files))
 }
 
 /// Runs the program on a script in memory, and returns the status.

@@ -1,6 +1,6 @@
 //! What is left of a script where memory cannot grow. The gate refuses each growth of these tests in turn.
 
-use super::worked::{ATTACHED, COPYIN, ENDED_BLOCK, FINALIZED, KERNELS, SMALL_DEVICE};
+use super::worked::{ATTACHED, COPYIN, ENDED_BLOCK, FINALIZED, KERNELS, SMALL_DEVICE, TOLD};
 use super::{Row, run_script, same};
 use acc_script::ToWrite;
 use std::alloc::AllocError;
@@ -89,6 +89,11 @@ fn a_refused_growth_leaves_refusals_as_they_are(rt: HostRuntime) {
 #[test]
 fn a_refused_growth_leaves_what_a_script_with_a_page_prints(rt: HostRuntime) {
     check_scarce(&rt, &[PAGE]);
+}
+
+#[test]
+fn a_refused_growth_leaves_what_is_told_of_a_test(rt: HostRuntime) {
+    check_scarce(&rt, &[TOLD]);
 }
 
 #[test]

@@ -1,0 +1,52 @@
+//! Standard output and standard error, where nobody may read the output any more.
+
+use std::cell::Cell;
+use std::io::{self, ErrorKind, Write};
+
+/// What the program tells where standard output failed.
+const FAILED: &[u8] = b"accrun: 21 Write\n";
+
+/// A writer that notes where nobody reads what it writes.
+#[derive(Drop)]
+pub struct Output<'a, W> {
+    /// The writer.
+    pub inner: W,
+    /// Whether nobody reads.
+    pub is_closed: &'a Cell<bool>,
+}
+
+impl<W: Write> Write for Output<'_, W> {
+    fn write(&mut self, piece: &[u8]) -> io::Result<usize> {
+        let count = self.inner.write(piece);
+        if let Err(error) = &count {
+            self.is_closed.set(error.kind() == ErrorKind::BrokenPipe);
+        }
+        count
+    }
+
+    fn flush(&mut self) -> io::Result<()> {
+        self.inner.flush()
+    }
+}
+
+/// A writer that leaves out that standard output failed where nobody reads that: whoever closes a pipe has enough.
+#[derive(Drop)]
+pub struct Errors<'a, W> {
+    /// The writer.
+    pub inner: W,
+    /// Whether nobody reads standard output.
+    pub is_closed: &'a Cell<bool>,
+}
+
+impl<W: Write> Write for Errors<'_, W> {
+    fn write(&mut self, piece: &[u8]) -> io::Result<usize> {
+        if self.is_closed.get() && piece == FAILED {
+            return Ok(piece.len());
+        }
+        self.inner.write(piece)
+    }
+
+    fn flush(&mut self) -> io::Result<()> {
+        self.inner.flush()
+    }
+}

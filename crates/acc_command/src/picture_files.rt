@@ -1,8 +1,10 @@
 //! The files that pictures become.
 
-use crate::file_stores::FileStore;
+use crate::file_stores::{FileStore, Unread};
 use acc_base::Fault;
-use acc_follow::{Frame, Page, PictureSink, Stop};
+use acc_follow::{Frame, Page, PictureSink, Stop, Unkept};
+use acc_lines::Keeper;
+use acc_options::statements;
 use std::alloc::Global;
 
 /// Keeps pictures as files of these names.
@@ -12,6 +14,8 @@ pub struct PictureFiles<'a, 'b, D> {
     pub files: &'b D,
     /// The allocator.
     pub alloc: Global,
+    /// The file of the script, if there is one.
+    pub file: Option<&'a str>,
     /// The file of the picture at the end, if there is one.
     pub last: Option<&'a str>,
     /// The file of the pictures behind directives, without the number of the line.
@@ -22,25 +26,45 @@ pub struct PictureFiles<'a, 'b, D> {
 
 impl<D: FileStore> PictureSink for PictureFiles<'_, '_, D> {
     fn keep(&self, frame: Frame, picture: &[u8]) -> Result<(), Stop> {
-        let is_written = match frame {
+        let written = match frame {
             Frame::Last => self.files.write(self.last.unwrap_or(""), picture),
             Frame::Line(number) => self.write_numbered(number, picture)?,
             Frame::Each => self.files.write(self.page.unwrap_or(""), picture),
         };
-        if is_written {
-            Ok(())
-        } else {
-            Err(Stop::Picture(frame))
+        match written {
+            Ok(()) => Ok(()),
+            Err(unread) => Err(Stop::Picture(Unkept {
+                frame,
+                reason: unread.reason()?,
+            })),
+        }
+    }
+}
+
+impl<D: FileStore> Keeper for PictureFiles<'_, '_, D> {
+    fn file(&self) -> Option<&str> {
+        self.file
+    }
+
+    fn help(&self) -> &str {
+        statements()
+    }
+
+    fn save(&self, name: &str, script: &[u8]) -> Result<(), &'static str> {
+        match self.files.write(name, script) {
+            Ok(()) => Ok(()),
+            Err(unread) => Err(unread.reason().unwrap_or("there is no memory")),
         }
     }
 }
 
 impl<D: FileStore> PictureFiles<'_, '_, D> {
-    fn write_numbered(&self, number: u64, picture: &[u8]) -> Result<bool, Fault> {
+    fn write_numbered(&self, number: u64, picture: &[u8]) -> Result<Result<(), Unread>, Fault> {
         let mut page = Page::new(self.alloc);
         put_numbered(&mut page, self.each.unwrap_or(""), number);
-        let name = page.whole()?;
-        Ok(str::from_utf8(name).is_ok_and(|name| self.files.write(name, picture)))
+        // The name is that of the command line, with a number.
+        let name = str::from_utf8(page.whole()?).unwrap_or("");
+        Ok(self.files.write(name, picture))
     }
 }
 

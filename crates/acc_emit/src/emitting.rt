@@ -16,7 +16,7 @@ use std::sync::Wait;
 use std::thread::Threads;
 
 /// Returns a script as a C program with OpenACC 3.3 directives, which prints what the script prints and compares it.
-/// Its tables have these limits.
+/// Its tables have these limits. The program begins with the name of the script, if it has one, and its first comments.
 ///
 /// With `until_refusal` the program ends with the first directive that is refused, and has to fail there.
 ///
@@ -27,21 +27,23 @@ use std::thread::Threads;
 pub fn emit<R: Threads + Wait + Sync + AllocGlobal>(
     rt: &R,
     config: Config,
+    name: Option<&str>,
     script: &[u8],
     until_refusal: bool,
 ) -> Result<Page, EmitFault> {
     let mut emitter = Emitter::new(rt, config)?;
-    emit_whole(rt, &mut emitter, script, until_refusal)
+    emit_whole(rt, &mut emitter, name, script, until_refusal)
 }
 
 fn emit_whole<R: Threads + Wait + Sync + AllocGlobal>(
     rt: &R,
     emitter: &mut Emitter,
+    name: Option<&str>,
     script: &[u8],
     until_refusal: bool,
 ) -> Result<Page, EmitFault> {
     emit_lines(rt, emitter, script, until_refusal)?;
-    Ok(emitter.sheet.whole(rt.alloc())?)
+    Ok(emitter.sheet.whole(rt.alloc(), name, script)?)
 }
 
 fn emit_lines<R: Threads + Wait + Sync + AllocGlobal>(

@@ -1,10 +1,11 @@
 /*
  * What an order of calls costs as more and more are alive: regions, mapped arrays, leases and attached pointers that
- * come and go, by doubling from 4,000 to 64,000. For each it prints nanoseconds a call and the longest single call in
- * microseconds, both with one look at the clock. And it prints how many bytes the library holds for each that came at
- * first, with its copy in the base of the trace.
+ * come and go, by doubling from 4,000 to 64,000 or in the numbers that are given. For each it prints nanoseconds a
+ * call and the longest single call in microseconds, both with one look at the clock. And it prints how many bytes the
+ * library holds for each that came at first, with its copy in the base of the trace.
  *
- * Usage: growth [KIND..], of the kinds `regions`, `arrays`, `leases` and `pointers`; all of them if none is named.
+ * Usage: growth [KIND..] [NUMBER..], of the kinds `regions`, `arrays`, `leases` and `pointers`; all of them if none is
+ * named. There may be 2 to 65,536 regions, to 500,000 arrays or leases, and to 4,000,000 pointers.
  */
 #define _POSIX_C_SOURCE 200809L
 #include "lamwiest.h"
@@ -45,11 +46,12 @@ typedef struct kind {
     void (*go)(world *world, size_t place);
 } kind;
 
-/* The place of the one that goes in a step, which the next one takes. */
+/* The place of the one that goes in a step; where one comes at once, it takes that place. */
 typedef struct order {
     const char *name;
     size_t (*next)(uint64_t step, size_t count);
-    bool is_halved; /* whether the first half of them goes before, so that as many places are gone as are taken */
+    bool is_halved;  /* whether the first half of them goes before, so that as many places are gone as are taken */
+    bool is_drained; /* whether all go, and then all come, in place of one after the other */
 } order;
 
 static void must(uint32_t status, const char *call)
@@ -66,6 +68,45 @@ static uint64_t now(void)
 
     clock_gettime(CLOCK_MONOTONIC, &t);
     return (uint64_t)t.tv_sec * 1000000000 + (uint64_t)t.tv_nsec;
+}
+
+/* ---- Calls ---- */
+
+/* Folds the events, outside of what is timed. */
+static void fold(world *world)
+{
+    uint64_t folded;
+
+    must(lw_rebase(&world->table, &folded, &world->fault), "rebase");
+    world->events = 0;
+}
+
+/* How long calls took: all of them, and the longest. */
+typedef struct times {
+    uint64_t all;
+    uint64_t longest;
+} times;
+
+static void add(times *times, uint64_t from)
+{
+    uint64_t took = now() - from;
+
+    times->all += took;
+    times->longest = took > times->longest ? took : times->longest;
+}
+
+/* One goes or comes. */
+static void call(world *world, void (*act)(struct world *, size_t), size_t place, times *times)
+{
+    uint64_t from;
+
+    if (world->events == TRACE) {
+        fold(world);
+    }
+    from = now();
+    act(world, place);
+    add(times, from);
+    world->events++;
 }
 
 /* ---- Kinds ---- */
@@ -139,7 +180,7 @@ static void begin_leases(world *world, size_t most)
     lw_item item = {.clause = LW_PRESENT, .start = ARRAY(0), .len = LEN};
 
     for (size_t n = 0; n < most; n++) {
-        map(world, n);
+        call(world, map, n, &(times){0, 0});
     }
     must(lw_enter(&world->table, &item, 1, &world->region, &world->fault), "enter");
 }
@@ -192,23 +233,15 @@ static size_t beside_one(uint64_t step, size_t count)
 }
 
 static const order orders[] = {
-    {"first in", first_in, false},
-    {"last in", last_in, false},
-    {"no order", in_no_order, false},
-    {"half gone", in_no_order, true},
-    {"one stays", beside_one, false},
+    {"first in", first_in, false, false},
+    {"last in", last_in, false, false},
+    {"no order", in_no_order, false, false},
+    {"half gone", in_no_order, true, false},
+    {"one stays", beside_one, false, false},
+    {"all at once", first_in, false, true},
 };
 
 /* ---- Runs ---- */
-
-/* Folds the events, outside of what is timed. */
-static void fold(world *world)
-{
-    uint64_t folded;
-
-    must(lw_rebase(&world->table, &folded, &world->fault), "rebase");
-    world->events = 0;
-}
 
 static void make(world *world, size_t most)
 {
@@ -228,39 +261,22 @@ static void make(world *world, size_t most)
     fold(world);
 }
 
-/* How long calls took: all of them, and the longest. */
-typedef struct times {
-    uint64_t all;
-    uint64_t longest;
-} times;
-
-static uint64_t add(times *times, uint64_t from)
+/* As many go as come. */
+static void turn(world *world, const kind *kind, const order *order, size_t count, times *times)
 {
-    uint64_t to = now();
+    size_t first = order->is_halved ? count / 2 : 0;
 
-    times->all += to - from;
-    times->longest = to - from > times->longest ? to - from : times->longest;
-    return to;
-}
+    for (uint64_t n = 0; n < STEPS * count; n++) {
+        size_t place = first + order->next(n, count - first);
 
-/* One goes and the next one comes. */
-static void step(world *world, const kind *kind, size_t place, times *times)
-{
-    uint64_t from = now();
-
-    kind->go(world, place);
-    from = add(times, from);
-    kind->come(world, place);
-    add(times, from);
-    world->events += 2;
-}
-
-static void halve(world *world, const kind *kind, size_t count)
-{
-    for (size_t n = 0; n < count / 2; n++) {
-        kind->go(world, n);
+        call(world, kind->go, place, times);
+        if (!order->is_drained) {
+            call(world, kind->come, place, times);
+        }
+        for (size_t back = 0; order->is_drained && place == count - 1 && back < count; back++) {
+            call(world, kind->come, back, times);
+        }
     }
-    fold(world);
 }
 
 /* How many bytes the library holds. */
@@ -274,50 +290,92 @@ static size_t held(void)
 static void run(const kind *kind, const order *order, size_t count)
 {
     world world;
-    times times = {0, 0};
-    size_t before, more, steps = STEPS * count, first = order->is_halved ? count / 2 : 0;
+    times times = {0, 0}, untold = {0, 0};
+    size_t before, more;
 
-    make(&world, MOST + 1);
+    make(&world, count + 1);
     kind->begin(&world, count);
     fold(&world);
     before = held();
     for (size_t n = 0; n < count; n++) {
-        kind->come(&world, n);
+        call(&world, kind->come, n, &untold);
     }
     fold(&world);
     more = held() - before;
-    if (order->is_halved) {
-        halve(&world, kind, count);
+    for (size_t n = 0; order->is_halved && n < count / 2; n++) {
+        call(&world, kind->go, n, &untold);
     }
-    for (uint64_t n = 0; n < steps; n++) {
-        if (world.events + 2 > TRACE) {
-            fold(&world);
-        }
-        step(&world, kind, first + order->next(n, count - first), &times);
-    }
-    printf("%-8s %-10s %6zu %8.0f ns %8.1f us %6zu bytes\n", kind->name, order->name, count,
-           (double)times.all / (double)(2 * steps), (double)times.longest / 1000, more / count);
+    fold(&world);
+    turn(&world, kind, order, count, &times);
+    printf("%-8s %-11s %6zu %8.0f ns %8.1f us %6zu bytes\n", kind->name, order->name, count,
+           (double)times.all / (double)(2 * STEPS * count), (double)times.longest / 1000, more / count);
     lw_table_end(&world.table);
     free(world.alive);
 }
 
+/* ---- The command line ---- */
+
+/* The number that a word of the command line says; 0 for the name of a kind. */
+static size_t number(const char *word)
+{
+    char *end;
+    size_t said = strtoul(word, &end, 10);
+
+    return *end == 0 ? said : 0;
+}
+
+/* Whether a word is the name of a kind, or a number that a run can have. */
+static bool is_known(const char *word)
+{
+    for (size_t k = 0; k < sizeof kinds / sizeof *kinds; k++) {
+        if (strcmp(word, kinds[k].name) == 0) {
+            return true;
+        }
+    }
+    return number(word) >= 2;
+}
+
+/* Whether a kind is named, or none is. */
 static bool is_named(const char *name, int argc, char **argv)
 {
+    int kinds_named = 0;
+
     for (int n = 1; n < argc; n++) {
         if (strcmp(argv[n], name) == 0) {
             return true;
         }
+        kinds_named += number(argv[n]) == 0;
     }
-    return argc == 1;
+    return kinds_named == 0;
+}
+
+/* Runs a kind in an order, with each number that is given or else by doubling. */
+static void run_all(const kind *kind, const order *order, int argc, char **argv)
+{
+    bool is_given = false;
+
+    for (int n = 1; n < argc; n++) {
+        if (number(argv[n]) > 0) {
+            run(kind, order, number(argv[n]));
+            is_given = true;
+        }
+    }
+    for (size_t count = LEAST; !is_given && count <= MOST; count *= 2) {
+        run(kind, order, count);
+    }
 }
 
 int main(int argc, char **argv)
 {
+    for (int n = 1; n < argc; n++) {
+        if (!is_known(argv[n])) {
+            fprintf(stderr, "growth: '%s' is neither a kind nor a number from 2 on\n", argv[n]);
+            return 2;
+        }
+    }
     for (size_t k = 0; k < sizeof kinds / sizeof *kinds; k++) {
         for (size_t o = 0; is_named(kinds[k].name, argc, argv) && o < sizeof orders / sizeof *orders; o++) {
-            for (size_t count = LEAST; count <= MOST; count *= 2) {
-                run(&kinds[k], &orders[o], count);
-            }
+            run_all(&kinds[k], &orders[o], argc, argv);
         }
     }
     return EXIT_SUCCESS;

@@ -1,15 +1,16 @@
 -- A search among many keys by halves: what each of them leaves, and how many there are.
-use Rattle.std.proofs.Common.{ℕ, zero, suc, ◌≡◌, ◌+◌, ◌-◌, ◌*◌, ◌/◌, ◌^◌, ◌<◌, ◌≤◌, inl, inr, List, [], ◌∷◌, ◌++◌, length, get_or, take, drop, length-append, arith, sym, ap, subst, ◌∙◌}
+use Rattle.std.proofs.Common.{ℕ, zero, suc, ◌≡◌, ◌+◌, ◌-◌, ◌*◌, ◌/◌, ◌^◌, ◌<◌, ◌≤◌, inl, inr, List, [], ◌∷◌, ◌++◌, length, get_or, take, drop, length-append, arith, sym, ap, refl, append-nil, subst, ◌∙◌}
 use Rattle.std.specs.Prelude.{nat_lt}
 use Rattle.std.specs.Bool.{if◌then◌else◌}
 use Rattle.std.specs.List.{AllByRecursion, slice_range}
+use Rattle.std.proofs.lemmas.Bool.Decides.{nat_tests}
 use Rattle.std.proofs.lemmas.List.{take-append-drop, drop-drop, take-append-le, drop-append-le, length-take-le}
-use Rattle.acc_base.specs.Accounts.{EachPair}
 use Rattle.acc_base.specs.Splits.{IsSplitBy}
-use Rattle.acc_base.proofs.Elements.{AllByRecursion-append, all_in_front}
+use Rattle.acc_base.proofs.Elements.{AllByRecursion-append, AllByRecursion-weaker}
 use Rattle.acc_base.proofs.Keyed.{Rise}
 use Rattle.acc_ordered.proofs.Halving.{passed_up, failed_down, nothing_behind}
 use Rattle.acc_ordered.proofs.Counting.{one_cases, IsLow, IsHigh}
+use Rattle.acc_ordered.proofs.Placing.{pairs_front, pairs_behind, pairs_across}
 
 -- ---- how many halves
 
@@ -30,15 +31,6 @@ digits_step all left half first steps some twice before = λ d less.
     (has.0, omega (arith, had.1, has.1), has.2)
 
 -- ---- what they leave
-
--- what each two of joined lists have, each two of either have
-pairs_front : {X : Type 0} (R : X → X → Type 0) (xs ys : List X) → EachPair R (xs ++ ys) → EachPair R xs
-pairs_front R [] ys h = tt
-pairs_front R (x ∷ xs) ys h = (all_in_front (R x) xs ys h.0, pairs_front R xs ys h.1)
-
-pairs_behind : {X : Type 0} (R : X → X → Type 0) (xs ys : List X) → EachPair R (xs ++ ys) → EachPair R ys
-pairs_behind R [] ys h = h
-pairs_behind R (x ∷ xs) ys h = pairs_behind R xs ys h.1
 
 module _ {X : Type 0} (key : X → ℕ) (number : ℕ) where
   -- the items before a place lie below, and those behind so many more do not
@@ -113,3 +105,23 @@ module _ {X : Type 0} (key : X → ℕ) (number : ℕ) where
       let bound : low + len ≤ length xs = h.bound in
       let front : length (take low xs) ≡ low = length-take-le low xs (omega arith) in
       subst (λ (ys : List X). IsSplitBy (λ x. nat_lt (key x) number) ys (low + at)) (parts_of xs low (low + len) (omega arith)) (split_middle (take low xs) (slice_range xs low (low + len)) (drop (low + len) xs) (low + at) at (omega arith) h.passed h.failed s)
+
+  -- ---- in two parts
+
+  -- where the second part has none below, the place is in the first
+  pub split_first : (xs front behind : List X) (at : ℕ) (d : X) → front ++ behind ≡ xs → Rise key xs → (0 < length behind → number ≤ key (get_or behind 0 d)) → IsSplitBy (λ x. nat_lt (key x) number) front at → IsSplitBy (λ x. nat_lt (key x) number) xs at
+  split_first xs front behind at d are rise high s =
+      let all = subst (λ (ys : List X). Rise key ys) (sym are) rise in
+      subst (λ (ys : List X). IsSplitBy (λ x. nat_lt (key x) number) ys at) are (split_middle [] front behind at at (omega arith) tt (none_low behind (pairs_behind (λ x y. key x < key y) front behind all) high) s)
+    where
+      none_low : (ys : List X) → Rise key ys → (0 < length ys → number ≤ key (get_or ys 0 d)) → AllByRecursion (IsHigh key number) ys
+      none_low [] r h = tt
+      none_low (y ∷ ys) r h = failed_down key number (y ∷ ys) 0 d r (omega arith) (h (omega arith))
+
+  -- where its first one is, the place is in the second
+  pub split_second : (xs front behind : List X) (at : ℕ) (d : X) → front ++ behind ≡ xs → Rise key xs → 0 < length behind → key (get_or behind 0 d) < number → IsSplitBy (λ x. nat_lt (key x) number) behind at → IsSplitBy (λ x. nat_lt (key x) number) xs (length front + at)
+  split_second xs front [] at d are rise some low s = absurd (omega (arith, some))
+  split_second xs front (y ∷ ys) at d are rise some low s =
+      let all = subst (λ (zs : List X). Rise key zs) (sym are) rise in
+      let below = AllByRecursion-weaker (λ x. AllByRecursion (λ z. key x < key z) (y ∷ ys)) (IsLow key number) front (λ x h. let less : key x < key y = h.0 in grind (arith, nat_tests)) (pairs_across (λ x z. key x < key z) front (y ∷ ys) all) in
+      subst (λ (zs : List X). IsSplitBy (λ x. nat_lt (key x) number) zs (length front + at)) (ap (λ zs. front ++ zs) (append-nil (y ∷ ys)) ∙ are) (split_middle front (y ∷ ys) [] (length front + at) at refl below tt s)

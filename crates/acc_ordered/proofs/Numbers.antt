@@ -1,10 +1,22 @@
--- The least keys of rows, as the numbers that they stand for.
-use Rattle.std.proofs.Common.{ℕ, zero, suc, ◌≡◌, ◌<◌, refl, ap, subst, true, false, List, [], ◌∷◌, take, drop, insert, arith}
-use Rattle.std.specs.Prelude.{map, nat_lt}
+-- The least keys of rows, as the numbers that they stand for, and changes of queues that succeed.
+use Rattle.std.proofs.Common.{ℕ, zero, suc, ◌≡◌, ◌<◌, ◌≤◌, refl, sym, ap, subst, ◌∙◌, true, false, List, [], ◌∷◌, length, take, drop, insert, Option, Some, None, IsSome, Result, Ok, Err, arith}
+use Rattle.std.specs.Prelude.{map, nat_lt, OnOk, OnErr}
+use Rattle.std.specs.Option.{OnSome}
 use Rattle.std.specs.List.{AllByRecursion, remove}
 use Rattle.std.proofs.lemmas.List.{length-map}
 use Rattle.acc_base.specs.Accounts.{EachPair}
 use Rattle.acc_base.specs.Splits.{IsSplitBy}
+use Rattle.acc_ordered.specs.Listing.{KeyValue}
+use Rattle.acc_ordered.specs.Laid.{least_key, AreInRows}
+
+-- what can only fail for lack of places does not, where there are some
+pub ok_there : {X E P : Type 0} (r : Result X E) (n m : ℕ) → OnOk r P → OnErr r (m ≤ n) → n < m → P
+ok_there (Ok x) n m p full lt = p
+ok_there (Err e) n m p full lt = absurd (omega (arith, full))
+
+pub some_there : {X P : Type 0} (o : Option X) → OnSome o P → IsSome o → P
+some_there (Some x) p some = p
+some_there None p some = cc
 
 module _ {K : Type 0} (number : K → ℕ) where
   all_apart : (P : ℕ → Type 0) (ks : List K) → AllByRecursion P (map number ks) → AllByRecursion (λ k. P (number k)) ks
@@ -47,3 +59,7 @@ module _ {K : Type 0} (number : K → ℕ) where
   remove_numbers [] (suc n) = refl
   remove_numbers (j ∷ ks) zero = refl
   remove_numbers (j ∷ ks) (suc n) = ap (λ ns. number j ∷ ns) (remove_numbers ks n)
+
+  -- each row has a least key
+  pub firsts_long : {T : Type 0} (ks : List K) (rows : List (List (KeyValue T))) → AreInRows (map number ks) rows → length ks ≡ length rows
+  firsts_long ks rows h = sym (length-map ks number) ∙ ap length h.firsts_are ∙ length-map rows least_key

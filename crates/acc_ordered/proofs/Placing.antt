@@ -1,5 +1,5 @@
 -- A search among the least keys and then in one row finds the place of a key among all entries.
-use Rattle.std.proofs.Common.{ℕ, zero, suc, ◌≡◌, ◌+◌, ◌<◌, ◌≤◌, refl, sym, ap, subst, true, false, List, [], ◌∷◌, ◌++◌, length, take, drop, length-append, ◌-◌, ◌∙◌, arith}
+use Rattle.std.proofs.Common.{ℕ, zero, suc, ◌≡◌, ◌+◌, ◌<◌, ◌≤◌, refl, sym, ap, subst, true, false, List, [], ◌∷◌, ◌++◌, length, take, drop, length-append, ◌-◌, arith}
 use Rattle.std.specs.Prelude.{map, nat_lt}
 use Rattle.std.specs.List.{AllByRecursion}
 use Rattle.std.proofs.lemmas.Bool.Decides.{nat_tests}
@@ -10,7 +10,6 @@ use Rattle.acc_base.proofs.Elements.{AllByRecursion-weaker, AllByRecursion-appen
 use Rattle.acc_ordered.specs.Listing.{KeyValue, KeysRise}
 use Rattle.acc_ordered.specs.Laid.{side_by_side, least_key, IsRow, AreInRows}
 use Rattle.acc_ordered.specs.Spots.{index_of, IsRowAt, IsInRow, IsPlaceOf}
-use Rattle.acc_ordered.specs.declared.places.Place.{Place}
 use Rattle.acc_ordered.proofs.Laying.{row_number_at, sides_of_row}
 use Rattle.acc_ordered.proofs.Searched.{IsSplitAt}
 
@@ -24,7 +23,7 @@ pub pairs_behind : {X : Type 0} (R : X → X → Type 0) (xs ys : List X) → Ea
 pairs_behind R [] ys h = h
 pairs_behind R (x ∷ xs) ys h = pairs_behind R xs ys h.1
 
-pairs_across : {X : Type 0} (R : X → X → Type 0) (xs ys : List X) → EachPair R (xs ++ ys) → AllByRecursion (λ x. AllByRecursion (R x) ys) xs
+pub pairs_across : {X : Type 0} (R : X → X → Type 0) (xs ys : List X) → EachPair R (xs ++ ys) → AllByRecursion (λ x. AllByRecursion (R x) ys) xs
 pairs_across R [] ys h = tt
 pairs_across R (x ∷ xs) ys h = (all_behind (R x) xs ys h.0, pairs_across R xs ys h.1)
 
@@ -132,12 +131,6 @@ module _ {T : Type 0} where
       in_first : (rs : List (List (KeyValue T))) → 0 < length rs → IsInRow rs (record { row = 0; at = 0 })
       in_first [] some = absurd (omega arith)
       in_first (row ∷ rs) some = record { row = row; row_is = record { before = []; behind = rs; is = refl; number_is = refl }; bound = omega arith }
-
-  -- the first place is before all entries
-  pub before_all : (key : ℕ) (firsts : List ℕ) (rows : List (List (KeyValue T))) (place : Place) → AreInRows firsts rows → place.row ≡ 0 → place.at ≡ 0 → IsSplitBy (λ k. nat_lt k key) firsts 0 → IsPlaceOf key rows place
-  before_all key firsts rows place h row at split =
-      let same : record { row = 0; at = 0 } ≡ place = ap (λ r. record { row = r; at = 0 }) (sym row) ∙ ap (λ a. record { row = place.row; at = a }) (sym at) in
-      subst (λ (p : Place). IsPlaceOf key rows p) same (place_first key firsts rows h split)
 
   -- ---- how many there are
 

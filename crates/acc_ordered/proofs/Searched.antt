@@ -1,9 +1,10 @@
 -- Entries by rising key that are split at the place of a key: what a search finds there, and how they change there.
-use Rattle.std.proofs.Common.{ℕ, zero, suc, ◌≡◌, ◌<◌, refl, sym, ap, ◌∙◌, true, false, List, [], ◌∷◌, length, set, insert, Some, None, IsSome, arith}
+use Rattle.std.proofs.Common.{ℕ, zero, suc, ◌≡◌, ◌<◌, refl, sym, ap, ◌∙◌, true, false, List, [], ◌∷◌, length, take, drop, get_or, set, insert, Some, None, IsSome, ◌≤◌, inl, inr, arith}
 use Rattle.std.specs.Prelude.{◌==◌, slice_get, nat_lt, nat_le}
 use Rattle.std.specs.Bool.{if◌then◌else◌}
 use Rattle.std.specs.List.{AllByRecursion, remove}
 use Rattle.std.specs.Option.{option_or}
+use Rattle.std.proofs.lemmas.Bool.{cases_lt}
 use Rattle.std.proofs.lemmas.Bool.Decides.{nat_tests}
 use Rattle.acc_base.specs.Splits.{IsSplitBy}
 use Rattle.acc_base.proofs.Elements.{find_none}
@@ -11,6 +12,7 @@ use Rattle.acc_base.proofs.Splitting.{all_at}
 use Rattle.acc_base.proofs.Keyed as keyed
 use Rattle.acc_ordered.specs.Listing.{KeyValue, KeysRise, at_key, first_from, last_before, with_entry, without_key, with_value}
 use Rattle.acc_ordered.specs.Spots.{get_before}
+use Rattle.acc_ordered.proofs.Halving.{passed_up, failed_down, nothing_behind}
 use Rattle.acc_ordered.proofs.Laying.{got, get_some}
 
 module _ {T : Type 0} where
@@ -43,6 +45,24 @@ module _ {T : Type 0} where
       let rest = rest_of key e es (suc n) s in
       let there : n < length es = omega (arith, rest.bound) in
       ap (λ o. option_or o (if nat_lt e.key key then Some e else None)) (last_of_before key es (suc n) rest ∙ get_some es n e there) ∙ sym (get_some es n e there)
+
+  passed_before : (key : ℕ) (es : List (KeyValue T)) (n : ℕ) → KeysRise es → n ≤ length es → ((e : KeyValue T) → get_before es n ≡ Some e → e.key < key) → AllByRecursion (λ e. nat_lt e.key key ≡ true) (take n es)
+  passed_before key es zero r le low = tt
+  passed_before key [] (suc n) r le low = absurd (omega (arith, le))
+  passed_before key (e ∷ es) (suc n) r le low =
+      let lt : n < length (e ∷ es) = omega (arith, le) in
+      passed_up entry_key_of key (e ∷ es) n e r lt (low (get_or (e ∷ es) n e) (get_some (e ∷ es) n e lt))
+
+  failed_from : (key : ℕ) (es : List (KeyValue T)) (n : ℕ) → KeysRise es → ((e : KeyValue T) → slice_get es n ≡ Some e → key ≤ e.key) → AllByRecursion (λ e. nat_lt e.key key ≡ false) (drop n es)
+  failed_from key [] n r high = nothing_behind entry_key_of (λ e. nat_lt e.key key ≡ false) [] n (omega arith)
+  failed_from key (e ∷ es) n r high = elim (cases_lt n (length (e ∷ es))) [
+    | inl lt ↦ failed_down entry_key_of key (e ∷ es) n e r lt (high (get_or (e ∷ es) n e) (get_some (e ∷ es) n e lt))
+    | inr le ↦ nothing_behind entry_key_of (λ f. nat_lt f.key key ≡ false) (e ∷ es) n le
+  ]
+
+  -- the place behind a lower key, before one that is not, is that of a key
+  pub split_between : (key : ℕ) (es : List (KeyValue T)) (n : ℕ) → KeysRise es → n ≤ length es → ((e : KeyValue T) → get_before es n ≡ Some e → e.key < key) → ((e : KeyValue T) → slice_get es n ≡ Some e → key ≤ e.key) → IsSplitAt key es n
+  split_between key es n r le low high = record { bound = le; passed = passed_before key es n r le low; failed = failed_from key es n r high }
 
   -- an entry is the one of its key
   pub at_got : (key : ℕ) (es : List (KeyValue T)) (n : ℕ) (e : KeyValue T) → KeysRise es → slice_get es n ≡ Some e → e.key ≡ key → at_key key es ≡ Some e

@@ -4,6 +4,8 @@ use Rattle.std.specs.List.{AllByRecursion, flat_map}
 use Rattle.std.specs.Vec.{vec_len, vec_capacity}
 use Rattle.std.specs.declared.alloc.Global.{Global}
 use Rattle.std.specs.declared.vec.Vec.{Vec}
+use Rattle.std.specs.VecDeque.{deque_len, deque_capacity}
+use Rattle.std.specs.declared.collections.VecDeque.{VecDeque}
 use Rattle.acc_ordered.specs.Listing.{KeyValue, KeysRise}
 
 module _ {T : Type 0} where
@@ -59,9 +61,9 @@ module _ {T : Type 0} where
   AreOneShort rows number = (before : List (List (KeyValue T))) → (row : List (KeyValue T)) → (behind : List (List (KeyValue T))) → rows ≡ before ++ row ∷ behind → length before ≡ number → IsShortBetween before row behind
 
   -- rows, rows that wait, and place for all of them in each list
-  pub record AreRows {K : Type 0} (number : K → ℕ) (firsts : Vec K Global) (rows spare : Vec (List (KeyValue T)) Global) : Type 0 where
+  pub record AreRows {K : Type 0} (number : K → ℕ) (firsts : VecDeque K Global) (rows : VecDeque (List (KeyValue T)) Global) (spare : Vec (List (KeyValue T)) Global) : Type 0 where
     pub in_rows : AreInRows (map number firsts.items) rows.items
     pub waiting : AllByRecursion IsWaiting spare.items
-    pub places_firsts : vec_len rows + vec_len spare ≤ vec_capacity firsts
-    pub places_rows : vec_len rows + vec_len spare ≤ vec_capacity rows
-    pub places_spare : vec_len rows + vec_len spare ≤ vec_capacity spare
+    pub places_firsts : deque_len rows + vec_len spare ≤ deque_capacity firsts
+    pub places_rows : deque_len rows + vec_len spare ≤ deque_capacity rows
+    pub places_spare : deque_len rows + vec_len spare ≤ vec_capacity spare

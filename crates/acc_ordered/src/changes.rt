@@ -1,6 +1,7 @@
 //! How rows change.
 ghost use Rattle.std.specs.Prelude.{◌≡◌, ◌+◌, ◌<◌, ◌≤◌, [], ◌∷◌, OnOk, OnErr, IfErr, Some, vec_len, vec_capacity, slice_get, slice_set as set, ℕ, List, length, map, ◌⊎◌, IsTrue, MatchBool};
 ghost use Rattle.std.specs.List.{AllByRecursion, insert, remove};
+ghost use Rattle.std.specs.VecDeque.{deque_len, deque_capacity};
 ghost use Rattle.acc_ordered.specs.Listing.{KeyValue, KeysRise, keyed};
 ghost use Rattle.acc_ordered.specs.Laid.{side_by_side, IsRow, IsWaiting, AreInRows, AreRows, AreHalfFull, AreOneShort};
 ghost use Rattle.acc_ordered.specs.Spots.{index_of, IsTaken, IsInRow, HasPlace, IsCutInTwo, HasEntries, IsAmongOthers, FitTogether, AreApart, IsJoined};
@@ -10,6 +11,7 @@ use crate::places::Place;
 use crate::rows::{Row, WIDTH};
 use acc_base::Fault;
 use std::alloc::Global;
+use std::collections::VecDeque;
 
 /// Makes rows until `count` wait. There is place for them.
 fn make_waiting<K: Key, T: Copy>(
@@ -37,8 +39,8 @@ fn make_waiting<K: Key, T: Copy>(
 /// Makes rows until `count` wait, and place for them among the others.
 pub fn make_rows<K: Key, T: Copy>(
     alloc: Global,
-    firsts: &mut Vec<K>,
-    rows: &mut Vec<Row<K, T>>,
+    firsts: &mut VecDeque<K>,
+    rows: &mut VecDeque<Row<K, T>>,
     spare: &mut Vec<Row<K, T>>,
     count: usize,
 ) -> Result<(), Fault>
@@ -62,8 +64,8 @@ pub fn make_rows<K: Key, T: Copy>(
 
 /// The first entry, in a row that waited.
 pub fn start<K: Key, T: Copy>(
-    firsts: &mut Vec<K>,
-    rows: &mut Vec<Row<K, T>>,
+    firsts: &mut VecDeque<K>,
+    rows: &mut VecDeque<Row<K, T>>,
     spare: &mut Vec<Row<K, T>>,
     key: K,
     value: T,
@@ -75,12 +77,12 @@ pub fn start<K: Key, T: Copy>(
     ensures entries { side_by_side rows.new.items ≡ keyed (K.number key) value ∷ [] }
     ensures half_full { AreHalfFull rows.new.items }
     ensures spare { vec_len spare.old ≤ vec_len spare.new + 1 }
-    ensures total { vec_len rows.new + vec_len spare.new ≡ vec_len rows.old + vec_len spare.old }
+    ensures total { deque_len rows.new + vec_len spare.new ≡ deque_len rows.old + vec_len spare.old }
 {
     let mut row = spare.take_last();
     row.insert_at(0, key, value);
-    rows.push_reserved(row);
-    firsts.push_reserved(key);
+    rows.push_back_reserved(row);
+    firsts.push_back_reserved(key);
 }
 
 /// Where to split a full row to which an entry comes at `at`. Behind all entries of the last row nearly all stay
@@ -101,8 +103,8 @@ fn cut_for(at: usize, is_last: bool) -> usize
 
 /// Moves the entries of a full row from `cut` on to a row that waited, which comes behind it.
 fn split<K: Key, T: Copy>(
-    firsts: &mut Vec<K>,
-    rows: &mut Vec<Row<K, T>>,
+    firsts: &mut VecDeque<K>,
+    rows: &mut VecDeque<Row<K, T>>,
     spare: &mut Vec<Row<K, T>>,
     row: usize,
     cut: usize,
@@ -116,7 +118,7 @@ fn split<K: Key, T: Copy>(
     ensures entries { side_by_side rows.new.items ≡ side_by_side rows.old.items }
     ensures cut { IsCutInTwo rows.old.items rows.new.items row cut }
     ensures spare { vec_len spare.old ≡ vec_len spare.new + 1 }
-    ensures total { vec_len rows.new ≡ vec_len rows.old + 1 }
+    ensures total { deque_len rows.new ≡ deque_len rows.old + 1 }
 {
     let mut upper = spare.take_last();
     rows[row].cut(cut, &mut upper);
@@ -126,8 +128,8 @@ fn split<K: Key, T: Copy>(
 
 /// Splits the row of a place where it is full, and returns where the place is then.
 pub fn make_place<K: Key, T: Copy>(
-    firsts: &mut Vec<K>,
-    rows: &mut Vec<Row<K, T>>,
+    firsts: &mut VecDeque<K>,
+    rows: &mut VecDeque<Row<K, T>>,
     spare: &mut Vec<Row<K, T>>,
     place: Place,
 ) -> Place
@@ -141,7 +143,7 @@ pub fn make_place<K: Key, T: Copy>(
     ensures place { HasPlace rows.new.items result }
     ensures half_full { AreHalfFull rows.new.items }
     ensures spare { vec_len spare.old ≤ vec_len spare.new + 1 }
-    ensures total { vec_len rows.new + vec_len spare.new ≡ vec_len rows.old + vec_len spare.old }
+    ensures total { deque_len rows.new + vec_len spare.new ≡ deque_len rows.old + vec_len spare.old }
 {
     if rows[place.row].len() < WIDTH {
         return place;
@@ -160,8 +162,8 @@ pub fn make_place<K: Key, T: Copy>(
 
 /// Puts an entry at a place in a row that is not full.
 pub fn put<K: Key, T: Copy>(
-    firsts: &mut Vec<K>,
-    rows: &mut Vec<Row<K, T>>,
+    firsts: &mut VecDeque<K>,
+    rows: &mut VecDeque<Row<K, T>>,
     place: Place,
     key: K,
     value: T,
@@ -173,9 +175,9 @@ pub fn put<K: Key, T: Copy>(
     ensures in_rows { AreInRows (map K.number firsts.new.items) rows.new.items }
     ensures half_full { AreHalfFull rows.new.items }
     ensures entries { side_by_side rows.new.items ≡ insert (side_by_side rows.old.items) (index_of rows.old.items place) (keyed (K.number key) value) }
-    ensures len { vec_len rows.new ≡ vec_len rows.old }
-    ensures capacity { vec_capacity rows.new ≡ vec_capacity rows.old }
-    ensures capacity_firsts { vec_capacity firsts.new ≡ vec_capacity firsts.old }
+    ensures len { deque_len rows.new ≡ deque_len rows.old }
+    ensures capacity { deque_capacity rows.new ≡ deque_capacity rows.old }
+    ensures capacity_firsts { deque_capacity firsts.new ≡ deque_capacity firsts.old }
 {
     let row = &mut rows[place.row];
     row.insert_at(place.at, key, value);
@@ -184,8 +186,8 @@ pub fn put<K: Key, T: Copy>(
 
 /// Takes out the only entry of a row, which waits then.
 fn take_row<K: Key, T: Copy>(
-    firsts: &mut Vec<K>,
-    rows: &mut Vec<Row<K, T>>,
+    firsts: &mut VecDeque<K>,
+    rows: &mut VecDeque<Row<K, T>>,
     spare: &mut Vec<Row<K, T>>,
     row: usize,
 )
@@ -196,25 +198,26 @@ fn take_row<K: Key, T: Copy>(
     ensures entries { side_by_side rows.new.items ≡ remove (side_by_side rows.old.items) (index_of rows.old.items (record { row = row; at = 0 })) }
     ensures half_full { AreHalfFull rows.new.items }
     ensures spare { vec_len spare.old ≤ vec_len spare.new }
-    ensures total { vec_len rows.new + vec_len spare.new ≡ vec_len rows.old + vec_len spare.old }
+    ensures total { deque_len rows.new + vec_len spare.new ≡ deque_len rows.old + vec_len spare.old }
 {
-    firsts.remove(row);
-    let mut empty = rows.remove(row);
-    empty.clear();
-    spare.push_reserved(empty);
+    let _ = firsts.remove(row);
+    if let Some(mut empty) = rows.remove(row) {
+        empty.clear();
+        spare.push_reserved(empty);
+    }
 }
 
 /// Takes out one of several entries of a row.
-fn shorten<K: Key, T: Copy>(firsts: &mut Vec<K>, rows: &mut Vec<Row<K, T>>, place: Place)
+fn shorten<K: Key, T: Copy>(firsts: &mut VecDeque<K>, rows: &mut VecDeque<Row<K, T>>, place: Place)
     requires in_rows { AreInRows (map K.number firsts.old.items) rows.old.items }
     requires among { IsAmongOthers rows.old.items place }
     requires half_full { AreHalfFull rows.old.items }
     ensures in_rows { AreInRows (map K.number firsts.new.items) rows.new.items }
     ensures one_short { AreOneShort rows.new.items place.row }
     ensures entries { side_by_side rows.new.items ≡ remove (side_by_side rows.old.items) (index_of rows.old.items place) }
-    ensures len { vec_len rows.new ≡ vec_len rows.old }
-    ensures capacity { vec_capacity rows.new ≡ vec_capacity rows.old }
-    ensures capacity_firsts { vec_capacity firsts.new ≡ vec_capacity firsts.old }
+    ensures len { deque_len rows.new ≡ deque_len rows.old }
+    ensures capacity { deque_capacity rows.new ≡ deque_capacity rows.old }
+    ensures capacity_firsts { deque_capacity firsts.new ≡ deque_capacity firsts.old }
 {
     let row = &mut rows[place.row];
     row.remove_at(place.at);
@@ -222,18 +225,18 @@ fn shorten<K: Key, T: Copy>(firsts: &mut Vec<K>, rows: &mut Vec<Row<K, T>>, plac
 }
 
 /// Whether a row and the next have at most half as many entries as one has place for.
-fn are_few<K: Key, T: Copy>(rows: &[Row<K, T>], row: usize) -> bool
-    requires each { AllByRecursion IsRow rows.now }
-    requires within { row < length rows.now }
-    ensures { MatchBool result (FitTogether rows.now row) (AreApart rows.now row) }
+fn are_few<K: Key, T: Copy>(rows: &VecDeque<Row<K, T>>, row: usize) -> bool
+    requires each { AllByRecursion IsRow rows.now.items }
+    requires within { row < length rows.now.items }
+    ensures { MatchBool result (FitTogether rows.now.items row) (AreApart rows.now.items row) }
 {
     row + 1 < rows.len() && rows[row].len() + rows[row + 1].len() <= WIDTH / 2
 }
 
 /// Moves the entries of the next row to the end of a row. The next row waits then.
 fn join<K: Key, T: Copy>(
-    firsts: &mut Vec<K>,
-    rows: &mut Vec<Row<K, T>>,
+    firsts: &mut VecDeque<K>,
+    rows: &mut VecDeque<Row<K, T>>,
     spare: &mut Vec<Row<K, T>>,
     row: usize,
 )
@@ -242,30 +245,31 @@ fn join<K: Key, T: Copy>(
     ensures rows { AreRows K.number firsts.new rows.new spare.new }
     ensures joined { IsJoined rows.old.items rows.new.items row }
     ensures spare { vec_len spare.old ≤ vec_len spare.new }
-    ensures total { vec_len rows.new + vec_len spare.new ≡ vec_len rows.old + vec_len spare.old }
+    ensures total { deque_len rows.new + vec_len spare.new ≡ deque_len rows.old + vec_len spare.old }
 {
-    firsts.remove(row + 1);
-    let mut upper = rows.remove(row + 1);
-    rows[row].append(&upper);
-    upper.clear();
-    spare.push_reserved(upper);
+    let _ = firsts.remove(row + 1);
+    if let Some(mut upper) = rows.remove(row + 1) {
+        rows[row].append(&upper);
+        upper.clear();
+        spare.push_reserved(upper);
+    }
 }
 
 /// Joins a row with one beside it, where both have few entries.
 fn join_few<K: Key, T: Copy>(
-    firsts: &mut Vec<K>,
-    rows: &mut Vec<Row<K, T>>,
+    firsts: &mut VecDeque<K>,
+    rows: &mut VecDeque<Row<K, T>>,
     spare: &mut Vec<Row<K, T>>,
     row: usize,
 )
     requires rows { AreRows K.number firsts.old rows.old spare.old }
-    requires within { row < vec_len rows.old }
+    requires within { row < deque_len rows.old }
     requires one_short { AreOneShort rows.old.items row }
     ensures rows { AreRows K.number firsts.new rows.new spare.new }
     ensures entries { side_by_side rows.new.items ≡ side_by_side rows.old.items }
     ensures half_full { AreHalfFull rows.new.items }
     ensures spare { vec_len spare.old ≤ vec_len spare.new }
-    ensures total { vec_len rows.new + vec_len spare.new ≡ vec_len rows.old + vec_len spare.old }
+    ensures total { deque_len rows.new + vec_len spare.new ≡ deque_len rows.old + vec_len spare.old }
 {
     if are_few(rows, row) {
         join(firsts, rows, spare, row);
@@ -276,8 +280,8 @@ fn join_few<K: Key, T: Copy>(
 
 /// Takes out the entry at a place. Its row is joined with one beside it where both have few entries then.
 pub fn take_out<K: Key, T: Copy>(
-    firsts: &mut Vec<K>,
-    rows: &mut Vec<Row<K, T>>,
+    firsts: &mut VecDeque<K>,
+    rows: &mut VecDeque<Row<K, T>>,
     spare: &mut Vec<Row<K, T>>,
     place: Place,
 )
@@ -288,7 +292,7 @@ pub fn take_out<K: Key, T: Copy>(
     ensures entries { side_by_side rows.new.items ≡ remove (side_by_side rows.old.items) (index_of rows.old.items place) }
     ensures half_full { AreHalfFull rows.new.items }
     ensures spare { vec_len spare.old ≤ vec_len spare.new }
-    ensures total { vec_len rows.new + vec_len spare.new ≡ vec_len rows.old + vec_len spare.old }
+    ensures total { deque_len rows.new + vec_len spare.new ≡ deque_len rows.old + vec_len spare.old }
 {
     if rows[place.row].len() == 1 {
         take_row(firsts, rows, spare, place.row);
@@ -299,13 +303,13 @@ pub fn take_out<K: Key, T: Copy>(
 }
 
 /// Gives the entry at a place another value. Its key stays, so no entry moves.
-pub fn write<K: Key, T: Copy>(rows: &mut Vec<Row<K, T>>, place: Place, value: T)
+pub fn write<K: Key, T: Copy>(rows: &mut VecDeque<Row<K, T>>, place: Place, value: T)
     requires { IsTaken rows.old.items place }
     ensures entries { (entry : KeyValue T) → slice_get (side_by_side rows.old.items) (index_of rows.old.items place) ≡ Some entry → side_by_side rows.new.items ≡ set (side_by_side rows.old.items) (index_of rows.old.items place) (record entry { value = value }) }
     ensures in_rows { (firsts : List ℕ) → AreInRows firsts rows.old.items → KeysRise (side_by_side rows.new.items) → AreInRows firsts rows.new.items }
     ensures half_full { AreHalfFull rows.old.items → AreHalfFull rows.new.items }
-    ensures len { vec_len rows.new ≡ vec_len rows.old }
-    ensures capacity { vec_capacity rows.new ≡ vec_capacity rows.old }
+    ensures len { deque_len rows.new ≡ deque_len rows.old }
+    ensures capacity { deque_capacity rows.new ≡ deque_capacity rows.old }
 {
     rows[place.row].write_at(place.at, value);
 }

@@ -8,21 +8,22 @@ use crate::keys::Key;
 use crate::rows::Row;
 use acc_base::Fault;
 use std::alloc::Global;
+use std::collections::VecDeque;
 
 /// A copy of each of the `len` entries in rows, in a vector of their own.
 pub fn copy_rows<K: Key, T: Copy, U: Copy, C: Telling<K, T, U>>(
     alloc: Global,
-    rows: &[Row<K, T>],
+    rows: &VecDeque<Row<K, T>>,
     len: u64,
     telling: &C,
 ) -> Result<Vec<U>, Fault>
-    requires { len ≡ length (side_by_side rows.now) }
-    ensures ok { IfOk result (λ copied. copied.items ≡ told_in (C.told telling.now) (side_by_side rows.now)) }
+    requires { len ≡ length (side_by_side rows.now.items) }
+    ensures ok { IfOk result (λ copied. copied.items ≡ told_in (C.told telling.now) (side_by_side rows.now.items)) }
     ensures only { IfErr result (λ fault. fault ≡ Fault.Memory) }
 {
     let mut copied = Vec::with_capacity(alloc, len as usize)?;
-    for row in rows {
-        row.copy_into(telling, &mut copied)?;
+    for number in 0..rows.len() {
+        rows[number].copy_into(telling, &mut copied)?;
     }
     Ok(copied)
 }

@@ -1,10 +1,8 @@
 //! Where an entry stands, or would stand.
 ghost use Rattle.std.specs.Bool.{OnTrue};
-ghost use Rattle.std.specs.Prelude.{ℕ, ◌≡◌, ◌+◌, ◌^◌, ◌<◌, ◌≤◌, length, map, nat_lt, IsSome, slice_get};
+ghost use Rattle.std.specs.Prelude.{ℕ, ◌≡◌, ◌+◌, ◌^◌, ◌<◌, ◌≤◌, length, map, IsSome, slice_get, Some};
 ghost use Rattle.std.specs.List.{AllByRecursion};
-ghost use Rattle.acc_base.specs.Accounts.{EachPair};
-ghost use Rattle.acc_base.specs.Splits.{IsSplitBy};
-ghost use Rattle.acc_ordered.specs.Listing.{at_key, seen};
+ghost use Rattle.acc_ordered.specs.Listing.{KeyValue, KeysRise, at_key, seen};
 ghost use Rattle.acc_ordered.specs.Laid.{side_by_side, IsRow, AreInRows};
 ghost use Rattle.acc_ordered.specs.Spots.{index_of, get_before, IsTaken, IsInRow, IsPlaceOf, IsOfKeyAt};
 
@@ -12,25 +10,26 @@ use crate::entries::KeyValueRef;
 use crate::keys::Key;
 use crate::places::Place;
 use crate::rows::Row;
-use crate::search::{count_many, parts};
+use crate::search::count_firsts;
 use acc_base::Steps;
+use std::collections::VecDeque;
 
 /// Where an entry of a key would be put: behind all entries of lower keys, in the row of the last of them. The search
 /// takes no branch by a key, since such branches are unpredictable. Each halving of the list of rows is a step.
 #[inline]
 pub fn place_of<K: Key, T: Copy>(
-    firsts: &[K],
-    rows: &[Row<K, T>],
+    firsts: &VecDeque<K>,
+    rows: &VecDeque<Row<K, T>>,
     key: K,
     steps: &mut Steps,
 ) -> Place
-    requires in_rows { AreInRows (map K.number firsts.now) rows.now }
+    requires in_rows { AreInRows (map K.number firsts.now.items) rows.now.items }
     requires limit { steps.old ≤ 2 ^ 32 }
-    ensures place { IsPlaceOf (K.number key) rows.now result }
+    ensures place { IsPlaceOf (K.number key) rows.now.items result }
     ensures not_fewer { steps.old ≤ steps.new }
-    ensures steps { (d : ℕ) → length rows.now < 2 ^ d → steps.new ≤ steps.old + d }
+    ensures steps { (d : ℕ) → length rows.now.items < 2 ^ d → steps.new ≤ steps.old + d }
 {
-    let behind = count_many(firsts, key, steps);
+    let behind = count_firsts(firsts, key, steps);
     if behind == 0 {
         return Place { row: 0, at: 0 };
     }
@@ -42,12 +41,12 @@ pub fn place_of<K: Key, T: Copy>(
 /// The last entry before a place, if there is one.
 #[inline]
 pub fn entry_before<'a, K: Key, T: Copy>(
-    rows: &'a [Row<K, T>],
+    rows: &'a VecDeque<Row<K, T>>,
     place: Place,
 ) -> Option<KeyValueRef<'a, K, T>>
-    requires within { IsInRow rows.now place }
+    requires within { IsInRow rows.now.items place }
     requires first { place.at ≡ 0 → place.row ≡ 0 }
-    ensures { seen K.number result ≡ get_before (side_by_side rows.now) (index_of rows.now place) }
+    ensures { seen K.number result ≡ get_before (side_by_side rows.now.items) (index_of rows.now.items place) }
 {
     if place.at == 0 {
         return None;
@@ -58,12 +57,12 @@ pub fn entry_before<'a, K: Key, T: Copy>(
 /// The first entry from a place on, if there is one.
 #[inline]
 pub fn entry_from<'a, K: Key, T: Copy>(
-    rows: &'a [Row<K, T>],
+    rows: &'a VecDeque<Row<K, T>>,
     place: Place,
 ) -> Option<KeyValueRef<'a, K, T>>
-    requires each { AllByRecursion IsRow rows.now }
-    requires within { 0 < length rows.now → IsInRow rows.now place }
-    ensures { seen K.number result ≡ slice_get (side_by_side rows.now) (index_of rows.now place) }
+    requires each { AllByRecursion IsRow rows.now.items }
+    requires within { 0 < length rows.now.items → IsInRow rows.now.items place }
+    ensures { seen K.number result ≡ slice_get (side_by_side rows.now.items) (index_of rows.now.items place) }
 {
     if rows.is_empty() {
         return None;
@@ -80,8 +79,8 @@ pub fn entry_from<'a, K: Key, T: Copy>(
 
 /// Whether the entry of a key stands at a place.
 #[inline]
-pub fn stands_at<K: Key, T: Copy>(rows: &[Row<K, T>], key: K, place: Place) -> bool
-    ensures { OnTrue result (IsOfKeyAt (K.number key) rows.now place) }
+pub fn stands_at<K: Key, T: Copy>(rows: &VecDeque<Row<K, T>>, key: K, place: Place) -> bool
+    ensures { OnTrue result (IsOfKeyAt (K.number key) rows.now.items place) }
 {
     if place.row >= rows.len() {
         return false;
@@ -97,44 +96,60 @@ pub fn stands_at<K: Key, T: Copy>(rows: &[Row<K, T>], key: K, place: Place) -> b
     true
 }
 
-/// Whether the first of some rising keys, and so none of them, lies below `key`.
+/// Whether the entry before a place has a lower key, or there is none.
 #[inline]
-fn parts_none<K: Key>(firsts: &[K], key: K) -> bool
-    requires rising { EachPair (λ a b. K.number a < K.number b) firsts.now }
-    requires some { 0 < length firsts.now }
-    ensures { OnTrue result (IsSplitBy (λ k. nat_lt (K.number k) (K.number key)) firsts.now 0) }
+fn is_behind_lower<K: Key, T: Copy>(rows: &VecDeque<Row<K, T>>, key: K, place: Place) -> bool
+    requires within { IsInRow rows.now.items place }
+    requires first { place.at ≡ 0 → place.row ≡ 0 }
+    ensures { OnTrue result ((e : KeyValue T) → get_before (side_by_side rows.now.items) (index_of rows.now.items place) ≡ Some e → e.key < K.number key) }
 {
-    if firsts[0].is_below(key) {
-        return false;
+    match entry_before(rows, place) {
+        Some(entry) => entry.key.is_below(key),
+        None => true,
     }
-    true
+}
+
+/// Whether the entry from a place on has no lower key, or there is none.
+#[inline]
+fn is_before_others<K: Key, T: Copy>(rows: &VecDeque<Row<K, T>>, key: K, place: Place) -> bool
+    requires each { AllByRecursion IsRow rows.now.items }
+    requires within { IsInRow rows.now.items place }
+    ensures { OnTrue result ((e : KeyValue T) → slice_get (side_by_side rows.now.items) (index_of rows.now.items place) ≡ Some e → K.number key ≤ e.key) }
+{
+    match entry_from(rows, place) {
+        Some(entry) => !entry.key.is_below(key),
+        None => true,
+    }
 }
 
 /// Whether an entry of a key would be put at a place.
 #[inline]
-fn fits<K: Key, T: Copy>(firsts: &[K], rows: &[Row<K, T>], key: K, place: Place) -> bool
-    requires in_rows { AreInRows (map K.number firsts.now) rows.now }
-    ensures { OnTrue result (IsPlaceOf (K.number key) rows.now place) }
+fn fits<K: Key, T: Copy>(rows: &VecDeque<Row<K, T>>, key: K, place: Place) -> bool
+    requires rising { KeysRise (side_by_side rows.now.items) }
+    requires each { AllByRecursion IsRow rows.now.items }
+    ensures { OnTrue result (IsPlaceOf (K.number key) rows.now.items place) }
 {
-    if place.row >= rows.len() {
+    if place.row >= rows.len() || place.at == 0 && place.row > 0 {
         return false;
     }
-    if place.row == 0 && place.at == 0 {
-        return parts_none(firsts, key);
-    }
-    if !parts(firsts, key, place.row + 1) {
+    if place.at > rows[place.row].len() {
         return false;
     }
-    rows[place.row].parts(key, place.at)
+    is_behind_lower(rows, key, place) && is_before_others(rows, key, place)
 }
 
 /// Where an entry of a key would be put. It is looked for first at a place.
 #[inline]
-pub fn find_near<K: Key, T: Copy>(firsts: &[K], rows: &[Row<K, T>], key: K, near: Place) -> Place
-    requires in_rows { AreInRows (map K.number firsts.now) rows.now }
-    ensures { IsPlaceOf (K.number key) rows.now result }
+pub fn find_near<K: Key, T: Copy>(
+    firsts: &VecDeque<K>,
+    rows: &VecDeque<Row<K, T>>,
+    key: K,
+    near: Place,
+) -> Place
+    requires in_rows { AreInRows (map K.number firsts.now.items) rows.now.items }
+    ensures { IsPlaceOf (K.number key) rows.now.items result }
 {
-    if fits(firsts, rows, key, near) {
+    if fits(rows, key, near) {
         return near;
     }
     place_of(firsts, rows, key, &mut Steps::new())
@@ -142,15 +157,20 @@ pub fn find_near<K: Key, T: Copy>(firsts: &[K], rows: &[Row<K, T>], key: K, near
 
 /// As [`find_near`], but it is looked for first right behind the place.
 #[inline]
-pub fn find_behind<K: Key, T: Copy>(firsts: &[K], rows: &[Row<K, T>], key: K, near: Place) -> Place
-    requires in_rows { AreInRows (map K.number firsts.now) rows.now }
-    ensures { IsPlaceOf (K.number key) rows.now result }
+pub fn find_behind<K: Key, T: Copy>(
+    firsts: &VecDeque<K>,
+    rows: &VecDeque<Row<K, T>>,
+    key: K,
+    near: Place,
+) -> Place
+    requires in_rows { AreInRows (map K.number firsts.now.items) rows.now.items }
+    ensures { IsPlaceOf (K.number key) rows.now.items result }
 {
     let behind = Place {
         row: near.row,
         at: near.at.saturating_add(1),
     };
-    if fits(firsts, rows, key, behind) {
+    if fits(rows, key, behind) {
         return behind;
     }
     find_near(firsts, rows, key, near)
@@ -158,12 +178,12 @@ pub fn find_behind<K: Key, T: Copy>(firsts: &[K], rows: &[Row<K, T>], key: K, ne
 
 /// The place itself, or the first of the next row where it is behind all entries of its row.
 #[inline]
-pub fn ahead<K: Key, T: Copy>(rows: &[Row<K, T>], place: Place) -> Place
-    requires each { AllByRecursion IsRow rows.now }
-    requires within { IsInRow rows.now place }
-    requires some { index_of rows.now place < length (side_by_side rows.now) }
-    ensures taken { IsTaken rows.now result }
-    ensures number { index_of rows.now result ≡ index_of rows.now place }
+pub fn ahead<K: Key, T: Copy>(rows: &VecDeque<Row<K, T>>, place: Place) -> Place
+    requires each { AllByRecursion IsRow rows.now.items }
+    requires within { IsInRow rows.now.items place }
+    requires some { index_of rows.now.items place < length (side_by_side rows.now.items) }
+    ensures taken { IsTaken rows.now.items result }
+    ensures number { index_of rows.now.items result ≡ index_of rows.now.items place }
 {
     if place.at < rows[place.row].len() {
         place
@@ -177,11 +197,16 @@ pub fn ahead<K: Key, T: Copy>(rows: &[Row<K, T>], place: Place) -> Place
 
 /// Where the entry of a key stands, which is there.
 #[inline]
-pub fn locate<K: Key, T: Copy>(firsts: &[K], rows: &[Row<K, T>], key: K, near: Place) -> Place
-    requires in_rows { AreInRows (map K.number firsts.now) rows.now }
-    requires there { IsSome (at_key (K.number key) (side_by_side rows.now)) }
-    ensures taken { IsTaken rows.now result }
-    ensures entry { slice_get (side_by_side rows.now) (index_of rows.now result) ≡ at_key (K.number key) (side_by_side rows.now) }
+pub fn locate<K: Key, T: Copy>(
+    firsts: &VecDeque<K>,
+    rows: &VecDeque<Row<K, T>>,
+    key: K,
+    near: Place,
+) -> Place
+    requires in_rows { AreInRows (map K.number firsts.now.items) rows.now.items }
+    requires there { IsSome (at_key (K.number key) (side_by_side rows.now.items)) }
+    ensures taken { IsTaken rows.now.items result }
+    ensures entry { slice_get (side_by_side rows.now.items) (index_of rows.now.items result) ≡ at_key (K.number key) (side_by_side rows.now.items) }
 {
     if stands_at(rows, key, near) {
         return near;

@@ -11,6 +11,7 @@ use crate::places::Place;
 use crate::rows::Row;
 use acc_base::{Fault, Steps};
 use std::alloc::Global;
+use std::collections::VecDeque;
 use std::marker::Model;
 
 /// The greatest number of rows of a list.
@@ -20,8 +21,8 @@ const ROWS_MAX: u64 = 1 << 57;
 ///
 /// They stand in rows of up to 64, keys apart from values, and the least key of each row in a list of its own. A look-up
 /// is a search in that list and one in a row, and neither takes a branch by a key. A change moves entries of one row or
-/// two. If a row comes or goes, it also moves the list of rows behind it, which grows with the number of entries. Memory
-/// for them is asked for by [`OrderedList::reserve`] alone. An entry more uses up at most one row that waits. Many more
+/// two. If a row comes or goes, it also moves the list of rows before it or behind it, whichever are fewer. So a row at
+/// either end moves none. Memory for them is asked for by [`OrderedList::reserve`] alone. An entry more uses up at most one row that waits. Many more
 /// need fewer rows, since two rows beside each other have more than 32 entries.
 ///
 /// A call that takes a [`Place`] looks there first.
@@ -29,9 +30,9 @@ const ROWS_MAX: u64 = 1 << 57;
 pub struct OrderedList<K: Key, T: Copy> {
     alloc: Global,
     // The least key of each row.
-    firsts: Vec<K>,
+    firsts: VecDeque<K>,
     // By rising key. None is empty.
-    rows: Vec<Row<K, T>>,
+    rows: VecDeque<Row<K, T>>,
     // Rows without entries, which wait for more.
     spare: Vec<Row<K, T>>,
     // How many entries there are.
@@ -58,8 +59,8 @@ impl<K: Key, T: Copy> OrderedList<K, T> {
     {
         OrderedList {
             alloc,
-            firsts: Vec::new(alloc),
-            rows: Vec::new(alloc),
+            firsts: VecDeque::new(alloc),
+            rows: VecDeque::new(alloc),
             spare: Vec::new(alloc),
             len: 0,
         }

@@ -1,5 +1,4 @@
 //! Rows of entries by rising key, whose keys stand apart from the values.
-ghost use Rattle.std.specs.Bool.{OnTrue};
 ghost use Rattle.std.specs.Prelude.{ℕ, ◌≡◌, ◌+◌, ◌<◌, ◌≤◌, [], ◌++◌, Some, IfOk, IfErr, OnOk, length, nat_lt, take, drop, slice_get, slice_set as set};
 ghost use Rattle.std.specs.List.{insert, remove};
 ghost use Rattle.acc_base.specs.Splits.{IsSplitBy};
@@ -7,7 +6,7 @@ ghost use Rattle.acc_ordered.specs.Listing.{KeyValue, KeysRise, keyed, entry_in,
 
 use crate::entries::{KeyValueRef, Telling};
 use crate::keys::Key;
-use crate::search::{count_below, parts};
+use crate::search::count_below;
 use acc_base::{Fault, Steps};
 use std::alloc::Global;
 use std::marker::Model;
@@ -75,15 +74,6 @@ impl<K: Key, T: Copy> Row<K, T> {
         ensures { IsSplitBy (λ e. nat_lt e.key (K.number key)) self.now result }
     {
         count_below(&self.keys, key, &mut Steps::new())
-    }
-
-    /// Whether so many entries have a key below `key`, and at least one has.
-    #[inline]
-    pub fn parts(&self, key: K, count: usize) -> bool
-        requires { KeysRise self.now }
-        ensures { OnTrue result (IsSplitBy (λ e. nat_lt e.key (K.number key)) self.now count) }
-    {
-        parts(&self.keys, key, count)
     }
 
     /// Puts an entry at a place, before those that stood there.

@@ -1,5 +1,4 @@
 //! Searches among keys without a branch, by halves and by eighths.
-ghost use Rattle.std.specs.Bool.{OnTrue};
 ghost use Rattle.std.specs.Prelude.{◌≡◌, ℕ, ◌+◌, ◌*◌, ◌^◌, ◌<◌, ◌≤◌, length, take, drop, nat_lt, true, false, if◌then◌else◌};
 ghost use Rattle.std.specs.List.{AllByRecursion};
 ghost use Rattle.acc_base.specs.Splits.{IsSplitBy};
@@ -7,21 +6,7 @@ ghost use Rattle.acc_base.specs.Accounts.{EachPair};
 
 use crate::keys::Key;
 use acc_base::Steps;
-
-/// Whether so many of some rising keys lie below `key`, and at least one does.
-#[inline]
-pub fn parts<K: Key>(keys: &[K], key: K, count: usize) -> bool
-    requires rising { EachPair (λ a b. K.number a < K.number b) keys.now }
-    ensures { OnTrue result (IsSplitBy (λ k. nat_lt (K.number k) (K.number key)) keys.now count) }
-{
-    if count == 0 || count > keys.len() || !keys[count - 1].is_below(key) {
-        return false;
-    }
-    if count == keys.len() {
-        return true;
-    }
-    !keys[count].is_below(key)
-}
+use std::collections::VecDeque;
 
 /// One where a key lies below another, and else none. It is a number, so that what adds it up takes no branch.
 #[inline]
@@ -72,7 +57,7 @@ pub fn count_below<K: Key>(keys: &[K], key: K, comparisons: &mut Steps) -> usize
 
 /// As [`count_below`], of any number of keys. It halves them until at most 64 are left, and each halving is a step.
 #[inline]
-pub fn count_many<K: Key>(keys: &[K], key: K, steps: &mut Steps) -> usize
+fn count_many<K: Key>(keys: &[K], key: K, steps: &mut Steps) -> usize
     requires rising { EachPair (λ a b. K.number a < K.number b) keys.now }
     requires limit { steps.old ≤ 2 ^ 32 }
     ensures split { IsSplitBy (λ k. nat_lt (K.number k) (K.number key)) keys.now result }
@@ -90,4 +75,21 @@ pub fn count_many<K: Key>(keys: &[K], key: K, steps: &mut Steps) -> usize
         len = (len - below) / 2;
     }
     low + count_below(&keys[low..low + len], key, &mut Steps::new())
+}
+
+/// As [`count_below`], of the keys of a queue, by halves of its two parts.
+#[inline]
+pub fn count_firsts<K: Key>(keys: &VecDeque<K>, key: K, steps: &mut Steps) -> usize
+    requires rising { EachPair (λ a b. K.number a < K.number b) keys.now.items }
+    requires limit { steps.old ≤ 2 ^ 32 }
+    ensures split { IsSplitBy (λ k. nat_lt (K.number k) (K.number key)) keys.now.items result }
+    ensures not_fewer { steps.old ≤ steps.new }
+    ensures steps { (d : ℕ) → length keys.now.items < 2 ^ d → steps.new ≤ steps.old + d }
+{
+    let (front, behind) = keys.as_slices();
+    if behind.is_empty() || !behind[0].is_below(key) {
+        count_many(front, key, steps)
+    } else {
+        front.len() + count_many(behind, key, steps)
+    }
 }

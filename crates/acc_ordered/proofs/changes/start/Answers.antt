@@ -19,7 +19,7 @@ returns-clause-rows g c =
     let is : c.insert_at.new.self ≡ e ∷ [] = c.insert_at.ensures ∙ ap (λ (es : List (KeyValue g.row.T.Denot)). insert es 0 e) waits.1 in
     let first = started (map g.K.Key.number c.args.firsts.now.items) c.args.rows.now.items e c.insert_at.new.self c.requires.rows.in_rows c.requires.none is in
     record {
-      in_rows = rw (c.push_reserved-2.ensures.items, c.push_reserved.ensures.items, map-append g.K.Key.number c.args.firsts.now.items (c.args.key ∷ [])) first;
+      in_rows = rw (c.push_back_reserved-2.ensures.items, c.push_back_reserved.ensures.items, map-append g.K.Key.number c.args.firsts.now.items (c.args.key ∷ [])) first;
       waiting = waits.0;
       places_firsts = omega (arith, c.requires.rows.places_firsts);
       places_rows = omega (arith, c.requires.rows.places_rows);
@@ -31,11 +31,11 @@ returns-clause-entries g c =
     let e = keyed (g.K.Key.number c.args.key) c.args.value in
     let waits = last_waits c.args.spare.now.items c.take_last-row.new.self.items c.take_last-row.result c.requires.rows.waiting c.take_last-row.ensures.items in
     let is : c.insert_at.new.self ≡ e ∷ [] = c.insert_at.ensures ∙ ap (λ (es : List (KeyValue g.row.T.Denot)). insert es 0 e) waits.1 in
-    rw (c.push_reserved.ensures.items, c.requires.none) (ap (λ (es : List (KeyValue g.row.T.Denot)). es ++ []) is)
+    rw (c.push_back_reserved.ensures.items, c.requires.none) (ap (λ (es : List (KeyValue g.row.T.Denot)). es ++ []) is)
 
 pub returns-clause-half_full : goal.returns-clause-half_full
 returns-clause-half_full g c =
     let e = keyed (g.K.Key.number c.args.key) c.args.value in
     let waits = last_waits c.args.spare.now.items c.take_last-row.new.self.items c.take_last-row.result c.requires.rows.waiting c.take_last-row.ensures.items in
     let is : c.insert_at.new.self ≡ e ∷ [] = c.insert_at.ensures ∙ ap (λ (es : List (KeyValue g.row.T.Denot)). insert es 0 e) waits.1 in
-    rw (c.push_reserved.ensures.items, c.requires.none) (omega (arith, ap length is), tt)
+    rw (c.push_back_reserved.ensures.items, c.requires.none) (omega (arith, ap length is), tt)

@@ -4,5 +4,5 @@ use Rattle.acc_ordered.specs.Listing.{told_in}
 use Rattle.acc_ordered.proofs.copying.copy_rows.Given as goal
 
 -- the entries of the rows so far are copied
-abbrev pub invariant-loop-row : goal.invariant-loop-row
-invariant-loop-row g l = l.copied.items ≡ told_in (g.C.Telling.told l.telling) (side_by_side (take l.row-index l.rows))
+abbrev pub invariant-loop-number : goal.invariant-loop-number
+invariant-loop-number g l = l.copied.items ≡ told_in (g.C.Telling.told l.telling) (side_by_side (take l.number l.rows.items))

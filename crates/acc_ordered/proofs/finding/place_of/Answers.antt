@@ -6,21 +6,21 @@ use Rattle.acc_ordered.proofs.Numbers.{numbers_rise, split_numbers}
 use Rattle.acc_ordered.proofs.Placing.{firsts_rise, place_found, place_first, row_rises, firsts_bound}
 use Rattle.acc_ordered.proofs.finding.place_of.Goals as goal
 
-pub count_many-behind-requires-clause-rising : goal.count_many-behind-requires-clause-rising
-count_many-behind-requires-clause-rising g c = numbers_rise g.K.Key.number c.args.firsts.now (rw c.requires.in_rows.firsts_are (firsts_rise c.args.rows.now c.requires.in_rows.rising c.requires.in_rows.each))
+pub count_firsts-behind-requires-clause-rising : goal.count_firsts-behind-requires-clause-rising
+count_firsts-behind-requires-clause-rising g c = numbers_rise g.K.Key.number c.args.firsts.now.items (rw c.requires.in_rows.firsts_are (firsts_rise c.args.rows.now.items c.requires.in_rows.rising c.requires.in_rows.each))
 
 pub returns-then-behind-eq0-clause-place : goal.returns-then-behind-eq0-clause-place
-returns-then-behind-eq0-clause-place g c = place_first (g.K.Key.number c.args.key) (map g.K.Key.number c.args.firsts.now) c.args.rows.now c.requires.in_rows (subst (λ (n : ℕ). IsSplitBy (λ k. nat_lt k (g.K.Key.number c.args.key)) (map g.K.Key.number c.args.firsts.now) n) c.if-behind-eq0.true (split_numbers g.K.Key.number (g.K.Key.number c.args.key) c.args.firsts.now c.count_many-behind.result c.count_many-behind.ensures.split))
+returns-then-behind-eq0-clause-place g c = place_first (g.K.Key.number c.args.key) (map g.K.Key.number c.args.firsts.now.items) c.args.rows.now.items c.requires.in_rows (subst (λ (n : ℕ). IsSplitBy (λ k. nat_lt k (g.K.Key.number c.args.key)) (map g.K.Key.number c.args.firsts.now.items) n) c.if-behind-eq0.true (split_numbers g.K.Key.number (g.K.Key.number c.args.key) c.args.firsts.now.items c.count_firsts-behind.result c.count_firsts-behind.ensures.split))
 
 pub place-at-requires : goal.place-at-requires
 place-at-requires g c =
-    let s = split_numbers g.K.Key.number (g.K.Key.number c.args.key) c.args.firsts.now c.count_many-behind.result c.count_many-behind.ensures.split in
-    let at = row_at c.args.rows.now (c.count_many-behind.result - 1) c.index-rows-number.result (firsts_bound (map g.K.Key.number c.args.firsts.now) c.args.rows.now c.count_many-behind.result c.requires.in_rows s.bound c.if-behind-eq0.false) c.index-rows-number.is in
-    row_rises c.args.rows.now (c.count_many-behind.result - 1) c.index-rows-number.result c.requires.in_rows.rising at
+    let s = split_numbers g.K.Key.number (g.K.Key.number c.args.key) c.args.firsts.now.items c.count_firsts-behind.result c.count_firsts-behind.ensures.split in
+    let at = row_at c.args.rows.now.items (c.count_firsts-behind.result - 1) c.index.result.now (firsts_bound (map g.K.Key.number c.args.firsts.now.items) c.args.rows.now.items c.count_firsts-behind.result c.requires.in_rows s.bound c.if-behind-eq0.false) c.index.ensures in
+    row_rises c.args.rows.now.items (c.count_firsts-behind.result - 1) c.index.result.now c.requires.in_rows.rising at
 
 pub returns-clause-place : goal.returns-clause-place
 returns-clause-place g c =
-    let s = split_numbers g.K.Key.number (g.K.Key.number c.args.key) c.args.firsts.now c.count_many-behind.result c.count_many-behind.ensures.split in
-    let at = row_at c.args.rows.now (c.count_many-behind.result - 1) c.index-rows-number.result (firsts_bound (map g.K.Key.number c.args.firsts.now) c.args.rows.now c.count_many-behind.result c.requires.in_rows s.bound c.if-behind-eq0.false) c.index-rows-number.is in
-    let next : c.count_many-behind.result ≡ suc (c.count_many-behind.result - 1) = grind (arith, c.if-behind-eq0.false) in
-    place_found (g.K.Key.number c.args.key) (map g.K.Key.number c.args.firsts.now) c.args.rows.now (c.count_many-behind.result - 1) c.place-at.result c.index-rows-number.result c.requires.in_rows at (rw next at s) c.place-at.ensures
+    let s = split_numbers g.K.Key.number (g.K.Key.number c.args.key) c.args.firsts.now.items c.count_firsts-behind.result c.count_firsts-behind.ensures.split in
+    let at = row_at c.args.rows.now.items (c.count_firsts-behind.result - 1) c.index.result.now (firsts_bound (map g.K.Key.number c.args.firsts.now.items) c.args.rows.now.items c.count_firsts-behind.result c.requires.in_rows s.bound c.if-behind-eq0.false) c.index.ensures in
+    let next : c.count_firsts-behind.result ≡ suc (c.count_firsts-behind.result - 1) = grind (arith, c.if-behind-eq0.false) in
+    place_found (g.K.Key.number c.args.key) (map g.K.Key.number c.args.firsts.now.items) c.args.rows.now.items (c.count_firsts-behind.result - 1) c.place-at.result c.index.result.now c.requires.in_rows at (rw next at s) c.place-at.ensures

@@ -11,32 +11,32 @@ use Rattle.acc_ordered.proofs.list.OrderedList.look_up.Goals as goal
 pub returns-in_default : goal.returns-in_default
 returns-in_default g c =
     let is : side_by_side c.self.inside.rows.items ≡ c.args.self.now.entries = ap (λ (l : Listing g.row.T.Denot). l.entries) c.self.view_is in
-    let place = rw c.deref-2.ensures.value at c.place_of-place.ensures.place in
-    let found = rw c.deref-3.ensures.value at c.entry_from.ensures in
+    let place = c.place_of-place.ensures.place in
+    let found = c.entry_from.ensures in
     sym (at_none (g.K.Key.number c.args.key) (side_by_side c.self.inside.rows.items) (index_of c.self.inside.rows.items c.place_of-place.result) c.self.invariant.rows.in_rows.rising place.split (sym found ∙ ap (seen g.K.Key.number) c.in_default.is)) ∙ ap (at_key (g.K.Key.number c.args.key)) is
 
 pub returns-then-is_below : goal.returns-then-is_below
 returns-then-is_below g c =
     let is : side_by_side c.self.inside.rows.items ≡ c.args.self.now.entries = ap (λ (l : Listing g.row.T.Denot). l.entries) c.self.view_is in
-    let place = rw c.deref-2.ensures.value at c.place_of-place.ensures.place in
-    let found = rw c.deref-3.ensures.value at c.entry_from.ensures in
+    let place = c.place_of-place.ensures.place in
+    let found = c.entry_from.ensures in
     sym (at_other (g.K.Key.number c.args.key) (side_by_side c.self.inside.rows.items) (index_of c.self.inside.rows.items c.place_of-place.result) (entry_in g.K.Key.number c.in-Some.entry) c.self.invariant.rows.in_rows.rising place.split (sym found ∙ ap (seen g.K.Key.number) c.in-Some.is) (λ same. absurd (grind (arith, nat_tests, same, c.is_below.ensures, c.if-is_below.true)))) ∙ ap (at_key (g.K.Key.number c.args.key)) is
 
 pub ahead-requires-clause-within : goal.ahead-requires-clause-within
 ahead-requires-clause-within g c =
-    let place = rw c.deref-2.ensures.value at c.place_of-place.ensures.place in
-    let found = rw c.deref-3.ensures.value at c.entry_from.ensures in
-    rw c.deref-else-is_below.ensures.value (place.within (got_rows c.self.inside.rows.items (index_of c.self.inside.rows.items c.place_of-place.result) (entry_in g.K.Key.number c.in-Some.entry) (sym found ∙ ap (seen g.K.Key.number) c.in-Some.is)))
+    let place = c.place_of-place.ensures.place in
+    let found = c.entry_from.ensures in
+    (place.within (got_rows c.self.inside.rows.items (index_of c.self.inside.rows.items c.place_of-place.result) (entry_in g.K.Key.number c.in-Some.entry) (sym found ∙ ap (seen g.K.Key.number) c.in-Some.is)))
 
 pub ahead-requires-clause-some : goal.ahead-requires-clause-some
 ahead-requires-clause-some g c =
-    let found = rw c.deref-3.ensures.value at c.entry_from.ensures in
+    let found = c.entry_from.ensures in
     let there = got (side_by_side c.self.inside.rows.items) (index_of c.self.inside.rows.items c.place_of-place.result) (entry_in g.K.Key.number c.in-Some.entry) (sym found ∙ ap (seen g.K.Key.number) c.in-Some.is) in
-    rw c.deref-else-is_below.ensures.value there.bound
+    there.bound
 
 pub returns-else-is_below : goal.returns-else-is_below
 returns-else-is_below g c =
     let is : side_by_side c.self.inside.rows.items ≡ c.args.self.now.entries = ap (λ (l : Listing g.row.T.Denot). l.entries) c.self.view_is in
-    let place = rw c.deref-2.ensures.value at c.place_of-place.ensures.place in
-    let found = rw c.deref-3.ensures.value at c.entry_from.ensures in
+    let place = c.place_of-place.ensures.place in
+    let found = c.entry_from.ensures in
     sym (not_below_at (g.K.Key.number c.args.key) (side_by_side c.self.inside.rows.items) (index_of c.self.inside.rows.items c.place_of-place.result) (entry_in g.K.Key.number c.in-Some.entry) c.self.invariant.rows.in_rows.rising place.split (sym found ∙ ap (seen g.K.Key.number) c.in-Some.is) (sym c.is_below.ensures ∙ c.if-is_below.false)) ∙ ap (at_key (g.K.Key.number c.args.key)) is

@@ -8,5 +8,5 @@ use Rattle.acc_ordered.proofs.list.OrderedList.next.Goals as goal
 pub returns : goal.returns
 returns g c =
     let is : side_by_side c.self.inside.rows.items ≡ c.args.self.now.entries = ap (λ (l : Listing g.row.T.Denot). l.entries) c.self.view_is in
-    let place = rw c.deref-2.ensures.value at c.place_of-place.ensures.place in
-    (rw c.deref-3.ensures.value at c.entry_from.ensures) ∙ sym (first_of_from (g.K.Key.number c.args.key) (side_by_side c.self.inside.rows.items) (index_of c.self.inside.rows.items c.place_of-place.result) place.split) ∙ ap (first_from (g.K.Key.number c.args.key)) is
+    let place = c.place_of-place.ensures.place in
+    (c.entry_from.ensures) ∙ sym (first_of_from (g.K.Key.number c.args.key) (side_by_side c.self.inside.rows.items) (index_of c.self.inside.rows.items c.place_of-place.result) place.split) ∙ ap (first_from (g.K.Key.number c.args.key)) is

@@ -1,7 +1,7 @@
 /*
  * What an order of calls costs as more and more are alive: regions, mapped arrays, leases and attached pointers that
  * come and go, by doubling from 4,000 to 64,000 or in the numbers that are given. For each it prints nanoseconds a
- * call and the longest single call in microseconds, both with one look at the clock. And it prints how many bytes the
+ * call and the longest single call in microseconds, both with two looks at the clock. And it prints how many bytes the
  * library holds for each that came at first, with its copy in the base of the trace.
  *
  * Usage: growth [KIND..] [NUMBER..], of the kinds `regions`, `arrays`, `leases` and `pointers`; all of them if none is

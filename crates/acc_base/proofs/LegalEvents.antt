@@ -1,7 +1,7 @@
 -- A directive, a write of the host, a loan and a lease that are not refused make a legal event.
 use Rattle.std.proofs.Common.{ℕ, suc, ◌≡◌, ◌+◌, ◌≤◌, refl, sym, ◌∙◌, ap, subst, Bool, true, false, cond, List, [], ◌∷◌, ◌++◌, length, Option, Some, None, Result, Ok, arith, length-take, length-drop, take-append-drop, drop-drop}
 use Rattle.std.specs.Prelude.{◌==◌, not, ◌&&◌, ◌||◌, take, drop, unwrap_or, option_map, is_none, ok_or, IsSome}
-use Rattle.std.proofs.lemmas.Bool.{true≢false}
+use Rattle.std.proofs.lemmas.Bool.{true≢false, not-false}
 use Rattle.std.proofs.lemmas.Slice.Eq.{bytes_eq-Decides}
 use Rattle.std.proofs.lemmas.Bool.Decides.{nat_tests}
 use Rattle.std.proofs.lemmas.List.{reverse-reverse, append_assoc}
@@ -31,7 +31,7 @@ use Rattle.acc_base.specs.Replay.{offset_lent, bytes_told}
 use Rattle.acc_base.specs.Judge.{Verdict, Makes}
 use Rattle.acc_base.specs.History.{AreJudged, HasRecorded, IsLegal}
 use Rattle.acc_base.specs.Accounts.{IsMadeIn, IsClearOf, IsMapped, IsLoanSound, AreRecordsSound}
-use Rattle.acc_base.proofs.Results.{and_true, not_false, equal, bind_ok, then_ok, ok_same, refused_not}
+use Rattle.acc_base.proofs.Results.{and_true, equal, bind_ok, then_ok, ok_same, refused_not}
 use Rattle.acc_base.proofs.Elements.{AllByRecursion-weaker, EachPair-weaker, found_has}
 use Rattle.acc_base.proofs.Lookups.{at-own}
 use Rattle.acc_base.proofs.Walked.{records-act_state}
@@ -235,7 +235,7 @@ unfolding gather_event
 gather_legal l lease s e sound h =
     let w : Records = s.records in
     let both = then_ok (refuse_if (not (is_returnable l.full l.number lease w.blocks w.loans s.memories)) (NoLease lease.serial)) (Ok (gathered l.full lease)) e h in
-    let returnable : is_returnable l.full l.number lease w.blocks w.loans s.memories ≡ true = not_false _ (refused_not _ _ both.0) in
+    let returnable : is_returnable l.full l.number lease w.blocks w.loans s.memories ≡ true = not-false _ (refused_not _ _ both.0) in
     let known : (is_of_loan l.number lease w.blocks w.loans ≡ true) × ((not l.full || is_kept_outside lease (bytes_of lease.block s.memories)) ≡ true) = and_true _ _ returnable in
     let here : ((is_loan_of lease (loan_of lease.block w.loans) && (len_of lease.block w.blocks == length lease.bytes)) ≡ true) × ((lease.device == l.number) ≡ true) = and_true _ _ known.0 in
     let fits : (is_loan_of lease (loan_of lease.block w.loans) ≡ true) × ((len_of lease.block w.blocks == length lease.bytes) ≡ true) = and_true _ _ here.0 in

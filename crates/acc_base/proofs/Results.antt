@@ -1,6 +1,6 @@
 -- Tests, and results in a row.
 use Rattle.std.proofs.Common.{ℕ, ◌≡◌, ◌<◌, refl, Bool, true, false, cond, Result, Ok, Err, ◌&&◌, arith, inl, inr}
-use Rattle.std.specs.Prelude.{◌⊎◌, ◌==◌, not, nat_le, ⊤}
+use Rattle.std.specs.Prelude.{◌⊎◌, ◌==◌, nat_le, ⊤}
 use Rattle.std.proofs.lemmas.Bool.Decides.{nat_tests}
 use Rattle.acc_base.specs.declared.faults.Fault.{Fault}
 use Rattle.acc_base.specs.Results.{◌>>=◌, ◌>>◌, refuse_if}
@@ -12,10 +12,6 @@ and_true _ _ e = cc
 pub and_false : (a b : Bool) → (a && b) ≡ false → (a ≡ false) ⊎ (b ≡ false)
 and_false true b e = inr e
 and_false false b e = inl refl
-
-pub not_false : (b : Bool) → not b ≡ false → b ≡ true
-not_false true e = refl
-not_false false e = cc
 
 -- a test, with its result
 pub tested : (b : Bool) → (b ≡ true) ⊎ (b ≡ false)

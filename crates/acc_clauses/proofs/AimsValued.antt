@@ -3,7 +3,7 @@ use Rattle.std.proofs.lemmas.Bool.Decides.{nat_tests}
 use Rattle.std.proofs.Common.{ℕ, ◌≡◌, ◌+◌, ◌<◌, ◌≤◌, ◌^◌, refl, sym, ap, ◌∙◌, subst, Bool, true, false, cond, ◌&&◌, List, [], ◌∷◌, suc, Option, Some, None, Ok, arith}
 use Rattle.std.specs.Prelude.{◌==◌, ◌%◌, IsSome}
 use Rattle.std.specs.List.{list_all, AllByRecursion}
-use Rattle.std.proofs.lemmas.Bool.{false≢true}
+use Rattle.std.proofs.lemmas.Bool.{false≢true, not-false}
 use Rattle.acc_clauses.specs.Words.{Item, RegionClause, Counter, Range, Block, Attachment, Aim, Task, Step, Did}
 use Rattle.acc_base.specs.declared.attachments.Aim.TheVariants as aims
 use Rattle.acc_base.specs.declared.tasks.Task.TheVariants.{Enter}
@@ -24,7 +24,7 @@ use Rattle.acc_base.specs.Pointers.{pointer_in, device_pointer, aimed}
 use Rattle.acc_base.specs.Acting.{act_state, act_all_state}
 use Rattle.acc_base.specs.History.{IsAttachLegal, IsAimLegal, AreJudged}
 use Rattle.acc_base.specs.Accounts.{AreRecordsSound, AreMemoriesSized}
-use Rattle.acc_base.proofs.Results.{and_true, equal, then_ok, refused_not, not_false}
+use Rattle.acc_base.proofs.Results.{and_true, equal, then_ok, refused_not}
 use Rattle.acc_base.proofs.Counting.{changed_read, with_other}
 use Rattle.acc_base.proofs.Judged.{IsJudgedTo, step_judged, task_says}
 use Rattle.acc_base.proofs.Sound.{recounted_keeps}
@@ -54,7 +54,7 @@ counted_there l w block pointer h some = there_by w.blocks block pointer w.attac
 -- ---- a pointer that is named was checked
 
 pub aligned : (l : Limits) (n pointer : ℕ) → pointer_checked l n (Some pointer) ≡ Ok tt → pointer % 8 ≡ 0
-aligned l n pointer e = equal _ _ (not_false _ (refused_not _ _ (then_ok _ _ tt e).1))
+aligned l n pointer e = equal _ _ (not-false _ (refused_not _ _ (then_ok _ _ tt e).1))
 
 named_aligned : (l : Limits) (n : ℕ) (counter : Counter) (item : Item RegionClause) (queue : Option ℕ) (step : Step) (w : Records) (p : ℕ) → judge_step l n (Enter counter item queue) w ≡ Ok step → pointer_aimed (Enter counter item queue) step ≡ Some p → p % 8 ≡ 0
 unfolding judge_row

@@ -3,6 +3,7 @@ use Rattle.std.proofs.Common.{ℕ, ◌≡◌, ◌+◌, ◌-◌, ◌<◌, ◌≤�
 use Rattle.std.specs.Prelude.{◌==◌, not, is_none, is_some, length}
 use Rattle.std.proofs.lemmas.Bool.Decides.{nat_tests}
 use Rattle.std.specs.List.{AllByRecursion, AllZip}
+use Rattle.std.proofs.lemmas.Bool.{not-false}
 use Rattle.acc_clauses.specs.Words.{Section, Range, Block, Loan, Event}
 use Rattle.acc_base.specs.declared.faults.Fault.TheVariants.{NoLease}
 use Rattle.acc_base.specs.declared.events.Event.TheVariants.{Lent}
@@ -18,7 +19,7 @@ use Rattle.acc_base.specs.Acting.{act_all_state, after}
 use Rattle.acc_base.specs.Judge.{gathered, gather_event}
 use Rattle.acc_base.specs.History.{IsLegal}
 use Rattle.acc_base.specs.Accounts.{EachPair, IsLoanSound, AreRecordsSound, AreMemoriesSized}
-use Rattle.acc_base.proofs.Results.{equal, and_true, then_ok, refused_not, not_false}
+use Rattle.acc_base.proofs.Results.{equal, and_true, then_ok, refused_not}
 use Rattle.acc_base.proofs.Elements.{found_has}
 use Rattle.acc_base.proofs.Lending.{loans-with, loans-without}
 use Rattle.acc_base.proofs.Loaned.{with_loans, placed_loan}
@@ -137,7 +138,7 @@ gather_is l lease s e = rw e refl
 
 pub returnable : (l : Limits) (lease : Leased) (s : State) (e : Event) → gather_event l lease s ≡ Ok e → is_returnable l.full l.number lease s.records.blocks s.records.loans s.memories ≡ true
 unfolding gather_event
-returnable l lease s e h = not_false _ (refused_not _ _ (then_ok (refuse_if (not (is_returnable l.full l.number lease s.records.blocks s.records.loans s.memories)) (NoLease lease.serial)) (Ok (gathered l.full lease)) e h).0)
+returnable l lease s e h = not-false _ (refused_not _ _ (then_ok (refuse_if (not (is_returnable l.full l.number lease s.records.blocks s.records.loans s.memories)) (NoLease lease.serial)) (Ok (gathered l.full lease)) e h).0)
 
 pub gathered_parts : (l : Limits) (x : WithHost) (n : ℕ) (d : DeviceState) (lease : Leased) → ArePartsSound l x n → is_returnable l.full l.number lease x.device.blocks x.device.loans x.device.memories ≡ true → IsPutBack x.device d lease → ArePartsSound l (record x { device = d }) (n - 1)
 gathered_parts l x n d lease parts fits back =

@@ -1,5 +1,6 @@
 //! How rows change.
 ghost use Rattle.std.specs.Prelude.{◌≡◌, ◌+◌, ◌<◌, ◌≤◌, [], ◌∷◌, OnOk, OnErr, IfErr, Some, vec_len, vec_capacity, slice_get, slice_set as set, ℕ, List, length, map, ◌⊎◌, IsTrue, MatchBool};
+ghost use Rattle.std.specs.Bool.{OnTrue};
 ghost use Rattle.std.specs.List.{AllByRecursion, insert, remove};
 ghost use Rattle.std.specs.VecDeque.{deque_len, deque_capacity};
 ghost use Rattle.acc_ordered.specs.Listing.{KeyValue, KeysRise, keyed};
@@ -126,7 +127,22 @@ fn split<K: Key, T: Copy>(
     let _ = rows.insert(row + 1, upper);
 }
 
-/// Splits the row of a place where it is full, and returns where the place is then.
+/// Whether a row is full, and a place behind its entries may be the first one of the next row, which is not.
+fn goes_on<K: Key, T: Copy>(rows: &VecDeque<Row<K, T>>, place: Place) -> bool
+    requires { IsInRow rows.now.items place }
+    ensures { OnTrue result (HasPlace rows.now.items (record { row = place.row + 1; at = 0 }) × (index_of rows.now.items (record { row = place.row + 1; at = 0 }) ≡ index_of rows.now.items place)) }
+{
+    if place.at < rows[place.row].len() {
+        return false;
+    }
+    if place.row + 1 == rows.len() {
+        return false;
+    }
+    rows[place.row + 1].len() < WIDTH
+}
+
+/// Where there is room for an entry of a place: there, or at the front of the next row, so that a walk in which entries
+/// go and come back splits none; or else the row is split.
 pub fn make_place<K: Key, T: Copy>(
     firsts: &mut VecDeque<K>,
     rows: &mut VecDeque<Row<K, T>>,
@@ -147,6 +163,12 @@ pub fn make_place<K: Key, T: Copy>(
 {
     if rows[place.row].len() < WIDTH {
         return place;
+    }
+    if goes_on(rows, place) {
+        return Place {
+            row: place.row + 1,
+            at: 0,
+        };
     }
     let cut = cut_for(place.at, place.row + 1 == rows.len());
     split(firsts, rows, spare, place.row, cut);

@@ -135,8 +135,8 @@ impl<K: Key, T: Copy> OrderedList<K, T> {
 
     /// The entries on both sides of a key, by at most two steps for each binary digit of the number of entries. There is
     /// one at least where there are entries. A step is a halving of the list of rows, or the look into one row. Not
-    /// counted are the keys compared in that row, and among the up to 64 rows that are left: at most fifteen each. At most
-    /// 2^32 were counted before.
+    /// counted are the keys compared in that row, and among the up to 64 rows that are left: at most fifteen each. Nor is
+    /// the one that tells which end of the list is searched. At most 2^32 were counted before.
     #[inline]
     pub fn around_counted(&self, key: K, steps: &mut Steps) -> Neighbors<'_, K, T>
         requires limit { steps.old ≤ 2 ^ 32 }

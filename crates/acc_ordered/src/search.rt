@@ -77,7 +77,8 @@ fn count_many<K: Key>(keys: &[K], key: K, steps: &mut Steps) -> usize
     low + count_below(&keys[low..low + len], key, &mut Steps::new())
 }
 
-/// As [`count_below`], of the keys of a queue, by halves of its two parts.
+/// As [`count_below`], of the keys of a queue. One comparison tells in which of its two parts the count ends. That part
+/// is halved until at most 64 keys are left, and each halving is a step.
 #[inline]
 pub fn count_firsts<K: Key>(keys: &VecDeque<K>, key: K, steps: &mut Steps) -> usize
     requires rising { EachPair (λ a b. K.number a < K.number b) keys.now.items }

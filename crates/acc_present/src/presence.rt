@@ -115,8 +115,8 @@ impl Present {
     /// Where a section lies, as [`Present::find`] says, by at most two steps for each binary digit of the number of
     /// mapped ranges. There is one at least where ranges are mapped and the section is not empty. The ranges stand in
     /// rows of up to 64. A step is a halving of the list of rows, or the look into one row. Not counted are the starts
-    /// compared in that row, and among the up to 64 rows that are left: at most fifteen each. At most 2^32 were counted
-    /// before.
+    /// compared in that row, and among the up to 64 rows that are left: at most fifteen each. Nor is the one that tells
+    /// which end of the list is searched. At most 2^32 were counted before.
     pub fn find_counted(&self, section: Section, steps: &mut Steps) -> Found
         requires limit { steps.old ≤ 2 ^ 32 }
         ensures found { result ≡ where_is section self.now.table.ranges }

@@ -1,15 +1,11 @@
-use Rattle.std.proofs.Common.{ℕ, ◌≡◌, ◌<◌, ◌≤◌, Bool, true, false, refl, ap, sym, ◌∙◌, arith}
-use Rattle.std.specs.Prelude.{not, nat_lt}
+use Rattle.std.proofs.Common.{ℕ, ◌≡◌, ◌<◌, ◌≤◌, true, false, ap, sym, ◌∙◌, arith}
+use Rattle.std.specs.Prelude.{nat_lt}
+use Rattle.std.proofs.lemmas.Bool.{not-true, not-false}
 use Rattle.std.proofs.lemmas.Bool.Decides.{nat_tests}
-use Rattle.acc_base.proofs.Results.{not_false}
 use Rattle.acc_ordered.proofs.Placing.{pairs_front, pairs_behind}
 use Rattle.acc_ordered.proofs.Halved.{split_first, split_second}
 use Rattle.acc_ordered.proofs.search.count_firsts.Goals as goal
 use Rattle.acc_ordered.proofs.search.count_firsts.Goals.{then-is_empty, else-is_empty}
-
-not_true : (b : Bool) → not b ≡ true → b ≡ false
-not_true true e = cc
-not_true false e = refl
 
 high : {a n b : ℕ} → nat_lt a n ≡ false → a ≡ b → n ≤ b
 high e same = grind (arith, nat_tests, e, same)
@@ -26,11 +22,11 @@ count_many-requires-else-not-is_below-clause-rising g c = pairs_behind (λ a b. 
 pub returns-then-not-is_below-clause-split : goal.returns-then-not-is_below-clause-split
 returns-then-not-is_below-clause-split g c = elim c.if-is_empty.branch [
   | then-is_empty w ↦ split_first g.K.Key.number (g.K.Key.number c.args.key) c.args.keys.now.items c.as_slices.result.0.now c.as_slices.result.1.now c.count_many.result c.args.key c.as_slices.ensures.items c.requires.rising (λ some. absurd (grind (arith, nat_tests, some, w.if-is_empty.true, c.is_empty.ensures))) c.count_many.ensures.split
-  | else-is_empty w ↦ split_first g.K.Key.number (g.K.Key.number c.args.key) c.args.keys.now.items c.as_slices.result.0.now c.as_slices.result.1.now c.count_many.result w.index-behind-0.result c.as_slices.ensures.items c.requires.rising (λ some. high (sym w.is_below.ensures ∙ not_true w.is_below.result (sym w.value-is ∙ c.if-not-is_below.true)) (ap g.K.Key.number w.index-behind-0.is)) c.count_many.ensures.split
+  | else-is_empty w ↦ split_first g.K.Key.number (g.K.Key.number c.args.key) c.args.keys.now.items c.as_slices.result.0.now c.as_slices.result.1.now c.count_many.result w.index-behind-0.result c.as_slices.ensures.items c.requires.rising (λ some. high (sym w.is_below.ensures ∙ not-true w.is_below.result (sym w.value-is ∙ c.if-not-is_below.true)) (ap g.K.Key.number w.index-behind-0.is)) c.count_many.ensures.split
 ]
 
 pub returns-else-not-is_below-clause-split : goal.returns-else-not-is_below-clause-split
 returns-else-not-is_below-clause-split g c = elim c.if-is_empty.branch [
   | then-is_empty w ↦ cc
-  | else-is_empty w ↦ split_second g.K.Key.number (g.K.Key.number c.args.key) c.args.keys.now.items c.as_slices.result.0.now c.as_slices.result.1.now c.count_many-else-not-is_below.result w.index-behind-0.result c.as_slices.ensures.items c.requires.rising (grind (arith, nat_tests, w.if-is_empty.false, c.is_empty.ensures)) (low (sym w.is_below.ensures ∙ not_false w.is_below.result (sym w.value-is ∙ c.if-not-is_below.false)) (ap g.K.Key.number w.index-behind-0.is)) c.count_many-else-not-is_below.ensures.split
+  | else-is_empty w ↦ split_second g.K.Key.number (g.K.Key.number c.args.key) c.args.keys.now.items c.as_slices.result.0.now c.as_slices.result.1.now c.count_many-else-not-is_below.result w.index-behind-0.result c.as_slices.ensures.items c.requires.rising (grind (arith, nat_tests, w.if-is_empty.false, c.is_empty.ensures)) (low (sym w.is_below.ensures ∙ not-false w.is_below.result (sym w.value-is ∙ c.if-not-is_below.false)) (ap g.K.Key.number w.index-behind-0.is)) c.count_many-else-not-is_below.ensures.split
 ]

@@ -1,0 +1,82 @@
+//! What is written in place of what a script prints: a script by chance, and which rows of the clause tables scripts
+//! reach.
+
+use acc_base::{Config, Fault};
+use acc_files::FileStore;
+use acc_follow::{Page, RowCounts, count_rows};
+use acc_options::Options;
+use acc_random::random_script;
+use acc_runs::{Ends, Mishap, find_column, limits, options_for, read_file};
+use acc_script::{Sink, Status, write_all};
+use std::sync::Wait;
+use std::thread::Threads;
+
+/// Writes the script of a seed with so many statements.
+///
+/// # Errors
+///
+/// Those of [`random_script`]; [`Fault::Write`] where the sink fails.
+pub fn write_random<'a, R: Threads + Wait + Sync + AllocGlobal, O: Sink>(
+    rt: &R,
+    config: Config,
+    seed: u64,
+    lines: u64,
+    out: &mut O,
+) -> Result<Status, Mishap<'a>> {
+    let script = random_script(rt, config, seed, lines)?;
+    write_page(out, &script)
+}
+
+/// Writes how often the scripts of some files, with the options of their first lines, reached each row of the clause
+/// tables; [`Status::Refused`] where one is reached by none.
+///
+/// # Errors
+///
+/// A file that cannot be read, or the fault of the first script that has one; [`Fault::Write`] where the sink fails.
+/// Before that nothing is written.
+pub fn write_rows<'a, R: Threads + Wait + Sync + AllocGlobal, O: Sink, E: Sink, D: FileStore>(
+    rt: &R,
+    options: Options<'a>,
+    ends: Ends<'_, O, E, D>,
+) -> Result<Status, Mishap<'a>> {
+    let mut rows = RowCounts::new(rt.alloc());
+    for name in options.rows {
+        let script = read_file(ends.files, name)?;
+        let options = options_for(rt.alloc(), options, name, &script, ends.told)?;
+        let config = limits(options)?;
+        rows = match count_rows(rt, config, &script, rows) {
+            Ok(rows) => rows,
+            Err(fault) => return Err(within(rt, options, name, &script, fault, ends)),
+        };
+    }
+    let mut page = Page::new(rt.alloc());
+    let is_complete = rows.put(&mut page);
+    let status = write_page(ends.out, &page)?;
+    Ok(if is_complete { status } else { Status::Refused })
+}
+
+/// Why the script of a file ended the count: its fault, with its column.
+fn within<'a, R: Threads + Wait + Sync + AllocGlobal, O: Sink, E: Sink, D: FileStore>(
+    rt: &R,
+    options: Options<'a>,
+    name: &'a str,
+    script: &[u8],
+    fault: Fault,
+    ends: Ends<'_, O, E, D>,
+) -> Mishap<'a> {
+    find_column(rt, options, script, ends.files, ends.told);
+    Mishap::Within(name, ends.told.column, fault)
+}
+
+/// Writes a page.
+///
+/// # Errors
+///
+/// [`Fault::Memory`] where the page had none; [`Fault::Write`] where the sink fails.
+pub fn write_page<'a, O: Sink>(out: &mut O, page: &Page) -> Result<Status, Mishap<'a>> {
+    if write_all(out, page.whole()?) {
+        Ok(Status::Clean)
+    } else {
+        Err(Mishap::Fault(Fault::Write))
+    }
+}

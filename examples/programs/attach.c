@@ -1,3 +1,6 @@
+/* attach.acc */
+/* OpenACC 3.3, sections 2.6.8 and 2.7, attach clause: the pointer on the device holds the device address of its target, */
+/* and its attachment counter rises with each attach. */
 /* Written from a script by accrun --emit c. The program does what the script does, and prints what the script prints.
    It ends with status 0 if all that came is as expected, with 1 at the first line that differs, and with 77 where the
    device shares the host's memory. A byte that OpenACC leaves open is expected as ??, and any will do. It is OpenACC 3.3,
@@ -23,8 +26,70 @@ static _Alignas(16) unsigned char t_[8];
 
 #define LONGEST 16
 
-/* Room for the bytes of the longest section that is looked at, and for their digits. */
+/* Room for the bytes of the longest section that is looked at. */
 static unsigned char bytes[LONGEST];
+
+static inline void show(int line, const unsigned char *at, size_t length, const char *expected);
+static inline void peek(int line, unsigned char *at, size_t length, const char *expected);
+static inline void show_pointer(int line, const unsigned char *at, const void *address);
+static inline void peek_pointer(int line, unsigned char *at, const void *address);
+static inline void present(int line, unsigned char *at, size_t length, const char *expected);
+static inline void point(unsigned char *at, void *to);
+static inline void fill_with_zero(unsigned char *at, size_t length);
+static inline void expect_failure(void);
+static inline void no_failure(int line);
+static inline void ask_for_discrete_device(void);
+
+int main(void)
+{
+    ask_for_discrete_device();
+    /* 3: array s 16 */
+    (void)s_;
+    /* 4: array t 8 */
+    (void)t_;
+    /* 5: write t[0] 0102030405060708 */
+    memcpy(t_, "\x01\x02\x03\x04\x05\x06\x07\x08", 8);
+    /* 6: point s[8] to t[0] */
+    point(s_ + 8, t_);
+    /* 7: enter data copyin(t) */
+    #pragma acc enter data copyin(t_)
+    /* 8: enter data copyin(s) attach(s[8]) */
+    #pragma acc enter data copyin(s_)
+    acc_attach((void **)(s_ + 8));
+    /* 9: show s[8:8] */
+    show(9, s_ + 8, 8,
+        "????????????????");
+    show_pointer(9, s_ + 8, (void *)(t_));
+    /* 10: peek s[8:8] */
+    peek(10, s_ + 8, 8,
+        "????????????????");
+    peek_pointer(10, s_ + 8, acc_deviceptr(t_));
+    /* 11: enter data attach(s[8]) */
+    acc_attach((void **)(s_ + 8));
+    /* 12: report */
+    /* no program can see this; the table says:
+         host 65536 device 65536 used 32
+         map 0x1000 16 at 0x100000010 structured 0 dynamic 1
+         pointer 0x1008 count 2
+         map 0x1010 8 at 0x100000000 structured 0 dynamic 1
+         regions 0 events 5
+    */
+    present(12, s_, 16, "yes");
+    show(12, s_, 16,
+        "0000000000000000????????????????");
+    show_pointer(12, s_ + 8, (void *)(t_));
+    present(12, t_, 8, "yes");
+    show(12, t_, 8,
+        "0102030405060708");
+    peek(12, s_, 16,
+        "0000000000000000????????????????");
+    peek_pointer(12, s_ + 8, acc_deviceptr(t_));
+    peek(12, t_, 8,
+        "0102030405060708");
+    return 0;
+}
+
+/* What came, as digits or a word. */
 static char came[2 * LONGEST + 8];
 
 /* Whether a digit that came is the expected one; ? stands for any. */
@@ -157,53 +222,4 @@ static inline void ask_for_discrete_device(void)
         puts("not a discrete device");
         exit(77);
     }
-}
-
-int main(void)
-{
-    ask_for_discrete_device();
-    /* 3: array s 16 */
-    (void)s_;
-    /* 4: array t 8 */
-    (void)t_;
-    /* 5: write t[0] 0102030405060708 */
-    memcpy(t_, "\x01\x02\x03\x04\x05\x06\x07\x08", 8);
-    /* 6: point s[8] to t[0] */
-    point(s_ + 8, t_);
-    /* 7: enter data copyin(t) */
-    #pragma acc enter data copyin(t_)
-    /* 8: enter data copyin(s) attach(s[8]) */
-    #pragma acc enter data copyin(s_)
-    acc_attach((void **)(s_ + 8));
-    /* 9: show s[8:8] */
-    show(9, s_ + 8, 8,
-        "????????????????");
-    show_pointer(9, s_ + 8, (void *)(t_));
-    /* 10: peek s[8:8] */
-    peek(10, s_ + 8, 8,
-        "????????????????");
-    peek_pointer(10, s_ + 8, acc_deviceptr(t_));
-    /* 11: enter data attach(s[8]) */
-    acc_attach((void **)(s_ + 8));
-    /* 12: report */
-    /* no program can see this; the table says:
-         host 65536 device 65536 used 32
-         map 0x1000 16 at 0x100000010 structured 0 dynamic 1
-         pointer 0x1008 count 2
-         map 0x1010 8 at 0x100000000 structured 0 dynamic 1
-         regions 0 events 5
-    */
-    present(12, s_, 16, "yes");
-    show(12, s_, 16,
-        "0000000000000000????????????????");
-    show_pointer(12, s_ + 8, (void *)(t_));
-    present(12, t_, 8, "yes");
-    show(12, t_, 8,
-        "0102030405060708");
-    peek(12, s_, 16,
-        "0000000000000000????????????????");
-    peek_pointer(12, s_ + 8, acc_deviceptr(t_));
-    peek(12, t_, 8,
-        "0102030405060708");
-    return 0;
 }

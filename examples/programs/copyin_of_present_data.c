@@ -1,3 +1,6 @@
+/* copyin_of_present_data.acc */
+/* OpenACC 3.3, section 2.7, copyin clause: data that is present is counted, and not copied again; a part of a mapping */
+/* counts as that mapping. */
 /* Written from a script by accrun --emit c. The program does what the script does, and prints what the script prints.
    It ends with status 0 if all that came is as expected, with 1 at the first line that differs, and with 77 where the
    device shares the host's memory. A byte that OpenACC leaves open is expected as ??, and any will do. It is OpenACC 3.3,
@@ -22,8 +25,62 @@ static _Alignas(16) unsigned char a_[4];
 
 #define LONGEST 16
 
-/* Room for the bytes of the longest section that is looked at, and for their digits. */
+/* Room for the bytes of the longest section that is looked at. */
 static unsigned char bytes[LONGEST];
+
+static inline void show(int line, const unsigned char *at, size_t length, const char *expected);
+static inline void peek(int line, unsigned char *at, size_t length, const char *expected);
+static inline void show_pointer(int line, const unsigned char *at, const void *address);
+static inline void peek_pointer(int line, unsigned char *at, const void *address);
+static inline void present(int line, unsigned char *at, size_t length, const char *expected);
+static inline void point(unsigned char *at, void *to);
+static inline void fill_with_zero(unsigned char *at, size_t length);
+static inline void expect_failure(void);
+static inline void no_failure(int line);
+static inline void ask_for_discrete_device(void);
+
+int main(void)
+{
+    ask_for_discrete_device();
+    /* 3: array a 4 */
+    (void)a_;
+    /* 4: write a[0] 01010101 */
+    memcpy(a_, "\x01\x01\x01\x01", 4);
+    /* 5: enter data copyin(a) */
+    #pragma acc enter data copyin(a_)
+    /* 6: write a[0] 02020202 */
+    memcpy(a_, "\x02\x02\x02\x02", 4);
+    /* 7: enter data copyin(a[1:2]) */
+    #pragma acc enter data copyin(a_[1:2])
+    /* 8: peek a */
+    peek(8, a_, 4,
+        "01010101");
+    /* 9: report */
+    /* no program can see this; the table says:
+         host 65536 device 65536 used 16
+         map 0x1000 4 at 0x100000000 structured 0 dynamic 2
+         regions 0 events 4
+    */
+    present(9, a_, 4, "yes");
+    show(9, a_, 4,
+        "02020202");
+    peek(9, a_, 4,
+        "01010101");
+    /* 10: exit data delete(a) */
+    #pragma acc exit data delete(a_)
+    /* 11: present a */
+    present(11, a_, 4, "yes");
+    /* 12: exit data delete(a[0:1]) */
+    #pragma acc exit data delete(a_[0:1])
+    /* 13: present a */
+    present(13, a_, 4, "no");
+    /* 14: show a */
+    show(14, a_, 4,
+        "02020202");
+    return 0;
+}
+
+/* What came, as digits or a word. */
 static char came[2 * LONGEST + 8];
 
 /* Whether a digit that came is the expected one; ? stands for any. */
@@ -156,45 +213,4 @@ static inline void ask_for_discrete_device(void)
         puts("not a discrete device");
         exit(77);
     }
-}
-
-int main(void)
-{
-    ask_for_discrete_device();
-    /* 3: array a 4 */
-    (void)a_;
-    /* 4: write a[0] 01010101 */
-    memcpy(a_, "\x01\x01\x01\x01", 4);
-    /* 5: enter data copyin(a) */
-    #pragma acc enter data copyin(a_)
-    /* 6: write a[0] 02020202 */
-    memcpy(a_, "\x02\x02\x02\x02", 4);
-    /* 7: enter data copyin(a[1:2]) */
-    #pragma acc enter data copyin(a_[1:2])
-    /* 8: peek a */
-    peek(8, a_, 4,
-        "01010101");
-    /* 9: report */
-    /* no program can see this; the table says:
-         host 65536 device 65536 used 16
-         map 0x1000 4 at 0x100000000 structured 0 dynamic 2
-         regions 0 events 4
-    */
-    present(9, a_, 4, "yes");
-    show(9, a_, 4,
-        "02020202");
-    peek(9, a_, 4,
-        "01010101");
-    /* 10: exit data delete(a) */
-    #pragma acc exit data delete(a_)
-    /* 11: present a */
-    present(11, a_, 4, "yes");
-    /* 12: exit data delete(a[0:1]) */
-    #pragma acc exit data delete(a_[0:1])
-    /* 13: present a */
-    present(13, a_, 4, "no");
-    /* 14: show a */
-    show(14, a_, 4,
-        "02020202");
-    return 0;
 }

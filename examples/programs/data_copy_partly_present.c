@@ -1,3 +1,5 @@
+/* data_copy_partly_present.acc */
+/* OpenACC 3.3, section 2.7, copy clause: data is in error of which the first part is present, and the rest is not. */
 /* Written from a script by accrun --emit c. The program does what the script does, and prints what the script prints.
    It ends with status 0 if all that came is as expected, with 1 at the first line that differs, and with 77 where the
    device shares the host's memory. A byte that OpenACC leaves open is expected as ??, and any will do. It is OpenACC 3.3,
@@ -22,8 +24,41 @@ static _Alignas(16) unsigned char a_[16];
 
 #define LONGEST 16
 
-/* Room for the bytes of the longest section that is looked at, and for their digits. */
+/* Room for the bytes of the longest section that is looked at. */
 static unsigned char bytes[LONGEST];
+
+static inline void show(int line, const unsigned char *at, size_t length, const char *expected);
+static inline void peek(int line, unsigned char *at, size_t length, const char *expected);
+static inline void show_pointer(int line, const unsigned char *at, const void *address);
+static inline void peek_pointer(int line, unsigned char *at, const void *address);
+static inline void present(int line, unsigned char *at, size_t length, const char *expected);
+static inline void point(unsigned char *at, void *to);
+static inline void fill_with_zero(unsigned char *at, size_t length);
+static inline void expect_failure(void);
+static inline void no_failure(int line);
+static inline void ask_for_discrete_device(void);
+
+int main(void)
+{
+    ask_for_discrete_device();
+    /* 2: array a 16 */
+    (void)a_;
+    /* 3: enter data create(a[0:8]) */
+    #pragma acc enter data create(a_[0:8])
+    /* 4: present a */
+    present(4, a_, 16, "no");
+    /* 5: present a[0:8] */
+    present(5, a_, 8, "yes");
+    /* 6: data copy(a) */
+    expect_failure();
+    #pragma acc data copy(a_)
+    {
+        no_failure(6);
+    }
+    return 0;
+}
+
+/* What came, as digits or a word. */
 static char came[2 * LONGEST + 8];
 
 /* Whether a digit that came is the expected one; ? stands for any. */
@@ -156,24 +191,4 @@ static inline void ask_for_discrete_device(void)
         puts("not a discrete device");
         exit(77);
     }
-}
-
-int main(void)
-{
-    ask_for_discrete_device();
-    /* 2: array a 16 */
-    (void)a_;
-    /* 3: enter data create(a[0:8]) */
-    #pragma acc enter data create(a_[0:8])
-    /* 4: present a */
-    present(4, a_, 16, "no");
-    /* 5: present a[0:8] */
-    present(5, a_, 8, "yes");
-    /* 6: data copy(a) */
-    expect_failure();
-    #pragma acc data copy(a_)
-    {
-        no_failure(6);
-    }
-    return 0;
 }

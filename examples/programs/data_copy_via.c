@@ -1,3 +1,5 @@
+/* data_copy_via.acc */
+/* OpenACC 3.3, section 2.6.4: copy of what a present pointer points to attaches it, and the end of its region detaches. */
 /* Written from a script by accrun --emit c. The program does what the script does, and prints what the script prints.
    It ends with status 0 if all that came is as expected, with 1 at the first line that differs, and with 77 where the
    device shares the host's memory. A byte that OpenACC leaves open is expected as ??, and any will do. It is OpenACC 3.3,
@@ -23,8 +25,61 @@ static _Alignas(16) unsigned char t_[8];
 
 #define LONGEST 16
 
-/* Room for the bytes of the longest section that is looked at, and for their digits. */
+/* Room for the bytes of the longest section that is looked at. */
 static unsigned char bytes[LONGEST];
+
+static inline void show(int line, const unsigned char *at, size_t length, const char *expected);
+static inline void peek(int line, unsigned char *at, size_t length, const char *expected);
+static inline void show_pointer(int line, const unsigned char *at, const void *address);
+static inline void peek_pointer(int line, unsigned char *at, const void *address);
+static inline void present(int line, unsigned char *at, size_t length, const char *expected);
+static inline void point(unsigned char *at, void *to);
+static inline void fill_with_zero(unsigned char *at, size_t length);
+static inline void expect_failure(void);
+static inline void no_failure(int line);
+static inline void ask_for_discrete_device(void);
+
+int main(void)
+{
+    ask_for_discrete_device();
+    /* 2: array s 16 */
+    (void)s_;
+    /* 3: array t 8 */
+    (void)t_;
+    /* 4: write t[0] 0102030405060708 */
+    memcpy(t_, "\x01\x02\x03\x04\x05\x06\x07\x08", 8);
+    /* 5: point s[8] to t[2] */
+    point(s_ + 8, t_ + 2);
+    /* 6: enter data copyin(s) */
+    #pragma acc enter data copyin(s_)
+    /* 7: data copy(t[2:4] via s[8]) */
+    #pragma acc data copy(t_[2:4])
+    {
+        acc_attach((void **)(s_ + 8));
+        /* 8: peek s[8:8] */
+        peek(8, s_ + 8, 8,
+            "????????????????");
+        peek_pointer(8, s_ + 8, acc_deviceptr(t_ + 2));
+        /* 9: kernel add 1 t[2:4] */
+        #pragma acc parallel loop present(t_[2:4])
+        for (int i = 0; i < 4; i++)
+            t_[i + 2] = (unsigned char)(t_[i + 2] + 1);
+        /* 10: end data */
+        acc_detach((void **)(s_ + 8));
+    }
+    /* 11: peek s[8:8] */
+    peek(11, s_ + 8, 8,
+        "????????????????");
+    peek_pointer(11, s_ + 8, (void *)(t_ + 2));
+    /* 12: show t */
+    show(12, t_, 8,
+        "0102040506070708");
+    /* 13: exit data delete(s) */
+    #pragma acc exit data delete(s_)
+    return 0;
+}
+
+/* What came, as digits or a word. */
 static char came[2 * LONGEST + 8];
 
 /* Whether a digit that came is the expected one; ? stands for any. */
@@ -157,44 +212,4 @@ static inline void ask_for_discrete_device(void)
         puts("not a discrete device");
         exit(77);
     }
-}
-
-int main(void)
-{
-    ask_for_discrete_device();
-    /* 2: array s 16 */
-    (void)s_;
-    /* 3: array t 8 */
-    (void)t_;
-    /* 4: write t[0] 0102030405060708 */
-    memcpy(t_, "\x01\x02\x03\x04\x05\x06\x07\x08", 8);
-    /* 5: point s[8] to t[2] */
-    point(s_ + 8, t_ + 2);
-    /* 6: enter data copyin(s) */
-    #pragma acc enter data copyin(s_)
-    /* 7: data copy(t[2:4] via s[8]) */
-    #pragma acc data copy(t_[2:4])
-    {
-        acc_attach((void **)(s_ + 8));
-        /* 8: peek s[8:8] */
-        peek(8, s_ + 8, 8,
-            "????????????????");
-        peek_pointer(8, s_ + 8, acc_deviceptr(t_ + 2));
-        /* 9: kernel add 1 t[2:4] */
-        #pragma acc parallel loop present(t_[2:4])
-        for (int i = 0; i < 4; i++)
-            t_[i + 2] = (unsigned char)(t_[i + 2] + 1);
-        /* 10: end data */
-        acc_detach((void **)(s_ + 8));
-    }
-    /* 11: peek s[8:8] */
-    peek(11, s_ + 8, 8,
-        "????????????????");
-    peek_pointer(11, s_ + 8, (void *)(t_ + 2));
-    /* 12: show t */
-    show(12, t_, 8,
-        "0102040506070708");
-    /* 13: exit data delete(s) */
-    #pragma acc exit data delete(s_)
-    return 0;
 }

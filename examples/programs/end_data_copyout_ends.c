@@ -1,3 +1,5 @@
+/* end_data_copyout_ends.acc */
+/* OpenACC 3.3, section 2.7, copyout clause: at the end of the region the section is copied back, and unmapped. */
 /* Written from a script by accrun --emit c. The program does what the script does, and prints what the script prints.
    It ends with status 0 if all that came is as expected, with 1 at the first line that differs, and with 77 where the
    device shares the host's memory. A byte that OpenACC leaves open is expected as ??, and any will do. It is OpenACC 3.3,
@@ -22,8 +24,45 @@ static _Alignas(16) unsigned char a_[8];
 
 #define LONGEST 16
 
-/* Room for the bytes of the longest section that is looked at, and for their digits. */
+/* Room for the bytes of the longest section that is looked at. */
 static unsigned char bytes[LONGEST];
+
+static inline void show(int line, const unsigned char *at, size_t length, const char *expected);
+static inline void peek(int line, unsigned char *at, size_t length, const char *expected);
+static inline void show_pointer(int line, const unsigned char *at, const void *address);
+static inline void peek_pointer(int line, unsigned char *at, const void *address);
+static inline void present(int line, unsigned char *at, size_t length, const char *expected);
+static inline void point(unsigned char *at, void *to);
+static inline void fill_with_zero(unsigned char *at, size_t length);
+static inline void expect_failure(void);
+static inline void no_failure(int line);
+static inline void ask_for_discrete_device(void);
+
+int main(void)
+{
+    ask_for_discrete_device();
+    /* 2: array a 8 */
+    (void)a_;
+    /* 3: write a[0] 0102030405060708 */
+    memcpy(a_, "\x01\x02\x03\x04\x05\x06\x07\x08", 8);
+    /* 4: data copyout(a[4:4]) */
+    #pragma acc data copyout(a_[4:4])
+    {
+        /* 5: kernel number 160 a[4:4] */
+        #pragma acc parallel loop present(a_[4:4])
+        for (int i = 0; i < 4; i++)
+            a_[i + 4] = (unsigned char)(i + 160);
+        /* 6: end data */
+    }
+    /* 7: show a */
+    show(7, a_, 8,
+        "01020304a0a1a2a3");
+    /* 8: present a[4:4] */
+    present(8, a_ + 4, 4, "no");
+    return 0;
+}
+
+/* What came, as digits or a word. */
 static char came[2 * LONGEST + 8];
 
 /* Whether a digit that came is the expected one; ? stands for any. */
@@ -156,28 +195,4 @@ static inline void ask_for_discrete_device(void)
         puts("not a discrete device");
         exit(77);
     }
-}
-
-int main(void)
-{
-    ask_for_discrete_device();
-    /* 2: array a 8 */
-    (void)a_;
-    /* 3: write a[0] 0102030405060708 */
-    memcpy(a_, "\x01\x02\x03\x04\x05\x06\x07\x08", 8);
-    /* 4: data copyout(a[4:4]) */
-    #pragma acc data copyout(a_[4:4])
-    {
-        /* 5: kernel number 160 a[4:4] */
-        #pragma acc parallel loop present(a_[4:4])
-        for (int i = 0; i < 4; i++)
-            a_[i + 4] = (unsigned char)(i + 160);
-        /* 6: end data */
-    }
-    /* 7: show a */
-    show(7, a_, 8,
-        "01020304a0a1a2a3");
-    /* 8: present a[4:4] */
-    present(8, a_ + 4, 4, "no");
-    return 0;
 }

@@ -1,3 +1,5 @@
+/* end_data_no_create_ends.acc */
+/* OpenACC 3.3, section 2.7, no_create clause: data that it counted last is unmapped at the end, and not copied back. */
 /* Written from a script by accrun --emit c. The program does what the script does, and prints what the script prints.
    It ends with status 0 if all that came is as expected, with 1 at the first line that differs, and with 77 where the
    device shares the host's memory. A byte that OpenACC leaves open is expected as ??, and any will do. It is OpenACC 3.3,
@@ -22,8 +24,54 @@ static _Alignas(16) unsigned char a_[4];
 
 #define LONGEST 16
 
-/* Room for the bytes of the longest section that is looked at, and for their digits. */
+/* Room for the bytes of the longest section that is looked at. */
 static unsigned char bytes[LONGEST];
+
+static inline void show(int line, const unsigned char *at, size_t length, const char *expected);
+static inline void peek(int line, unsigned char *at, size_t length, const char *expected);
+static inline void show_pointer(int line, const unsigned char *at, const void *address);
+static inline void peek_pointer(int line, unsigned char *at, const void *address);
+static inline void present(int line, unsigned char *at, size_t length, const char *expected);
+static inline void point(unsigned char *at, void *to);
+static inline void fill_with_zero(unsigned char *at, size_t length);
+static inline void expect_failure(void);
+static inline void no_failure(int line);
+static inline void ask_for_discrete_device(void);
+
+int main(void)
+{
+    ask_for_discrete_device();
+    /* 2: array a 4 */
+    (void)a_;
+    /* 3: write a[0] 01020304 */
+    memcpy(a_, "\x01\x02\x03\x04", 4);
+    /* 4: enter data create(a) */
+    #pragma acc enter data create(a_)
+    /* 5: data no_create(a) */
+    #pragma acc data no_create(a_)
+    {
+        /* 6: kernel number 3 a */
+        #pragma acc parallel loop present(a_)
+        for (int i = 0; i < 4; i++)
+            a_[i] = (unsigned char)(i + 3);
+        /* 7: exit data copyout(a) */
+        #pragma acc exit data copyout(a_)
+        /* 8: present a */
+        present(8, a_, 4, "yes");
+        /* 9: show a */
+        show(9, a_, 4,
+            "01020304");
+        /* 10: end data */
+    }
+    /* 11: present a */
+    present(11, a_, 4, "no");
+    /* 12: show a */
+    show(12, a_, 4,
+        "01020304");
+    return 0;
+}
+
+/* What came, as digits or a word. */
 static char came[2 * LONGEST + 8];
 
 /* Whether a digit that came is the expected one; ? stands for any. */
@@ -156,37 +204,4 @@ static inline void ask_for_discrete_device(void)
         puts("not a discrete device");
         exit(77);
     }
-}
-
-int main(void)
-{
-    ask_for_discrete_device();
-    /* 2: array a 4 */
-    (void)a_;
-    /* 3: write a[0] 01020304 */
-    memcpy(a_, "\x01\x02\x03\x04", 4);
-    /* 4: enter data create(a) */
-    #pragma acc enter data create(a_)
-    /* 5: data no_create(a) */
-    #pragma acc data no_create(a_)
-    {
-        /* 6: kernel number 3 a */
-        #pragma acc parallel loop present(a_)
-        for (int i = 0; i < 4; i++)
-            a_[i] = (unsigned char)(i + 3);
-        /* 7: exit data copyout(a) */
-        #pragma acc exit data copyout(a_)
-        /* 8: present a */
-        present(8, a_, 4, "yes");
-        /* 9: show a */
-        show(9, a_, 4,
-            "01020304");
-        /* 10: end data */
-    }
-    /* 11: present a */
-    present(11, a_, 4, "no");
-    /* 12: show a */
-    show(12, a_, 4,
-        "01020304");
-    return 0;
 }

@@ -1,3 +1,5 @@
+/* end_data_no_create_stays.acc */
+/* OpenACC 3.3, section 2.7, no_create clause: the end of the region takes away its own count alone. */
 /* Written from a script by accrun --emit c. The program does what the script does, and prints what the script prints.
    It ends with status 0 if all that came is as expected, with 1 at the first line that differs, and with 77 where the
    device shares the host's memory. A byte that OpenACC leaves open is expected as ??, and any will do. It is OpenACC 3.3,
@@ -22,8 +24,47 @@ static _Alignas(16) unsigned char a_[4];
 
 #define LONGEST 16
 
-/* Room for the bytes of the longest section that is looked at, and for their digits. */
+/* Room for the bytes of the longest section that is looked at. */
 static unsigned char bytes[LONGEST];
+
+static inline void show(int line, const unsigned char *at, size_t length, const char *expected);
+static inline void peek(int line, unsigned char *at, size_t length, const char *expected);
+static inline void show_pointer(int line, const unsigned char *at, const void *address);
+static inline void peek_pointer(int line, unsigned char *at, const void *address);
+static inline void present(int line, unsigned char *at, size_t length, const char *expected);
+static inline void point(unsigned char *at, void *to);
+static inline void fill_with_zero(unsigned char *at, size_t length);
+static inline void expect_failure(void);
+static inline void no_failure(int line);
+static inline void ask_for_discrete_device(void);
+
+int main(void)
+{
+    ask_for_discrete_device();
+    /* 2: array a 4 */
+    (void)a_;
+    /* 3: write a[0] 01020304 */
+    memcpy(a_, "\x01\x02\x03\x04", 4);
+    /* 4: enter data copyin(a) */
+    #pragma acc enter data copyin(a_)
+    /* 5: data no_create(a) */
+    #pragma acc data no_create(a_)
+    {
+        /* 6: end data */
+    }
+    /* 7: present a */
+    present(7, a_, 4, "yes");
+    /* 8: peek a */
+    peek(8, a_, 4,
+        "01020304");
+    /* 9: exit data delete(a) */
+    #pragma acc exit data delete(a_)
+    /* 10: present a */
+    present(10, a_, 4, "no");
+    return 0;
+}
+
+/* What came, as digits or a word. */
 static char came[2 * LONGEST + 8];
 
 /* Whether a digit that came is the expected one; ? stands for any. */
@@ -156,30 +197,4 @@ static inline void ask_for_discrete_device(void)
         puts("not a discrete device");
         exit(77);
     }
-}
-
-int main(void)
-{
-    ask_for_discrete_device();
-    /* 2: array a 4 */
-    (void)a_;
-    /* 3: write a[0] 01020304 */
-    memcpy(a_, "\x01\x02\x03\x04", 4);
-    /* 4: enter data copyin(a) */
-    #pragma acc enter data copyin(a_)
-    /* 5: data no_create(a) */
-    #pragma acc data no_create(a_)
-    {
-        /* 6: end data */
-    }
-    /* 7: present a */
-    present(7, a_, 4, "yes");
-    /* 8: peek a */
-    peek(8, a_, 4,
-        "01020304");
-    /* 9: exit data delete(a) */
-    #pragma acc exit data delete(a_)
-    /* 10: present a */
-    present(10, a_, 4, "no");
-    return 0;
 }

@@ -1,3 +1,5 @@
+/* enter_data_attach_again.acc */
+/* OpenACC 3.3, section 2.6.8: an attached pointer that is attached again is counted, and detached as often. */
 /* Written from a script by accrun --emit c. The program does what the script does, and prints what the script prints.
    It ends with status 0 if all that came is as expected, with 1 at the first line that differs, and with 77 where the
    device shares the host's memory. A byte that OpenACC leaves open is expected as ??, and any will do. It is OpenACC 3.3,
@@ -23,8 +25,53 @@ static _Alignas(16) unsigned char t_[8];
 
 #define LONGEST 16
 
-/* Room for the bytes of the longest section that is looked at, and for their digits. */
+/* Room for the bytes of the longest section that is looked at. */
 static unsigned char bytes[LONGEST];
+
+static inline void show(int line, const unsigned char *at, size_t length, const char *expected);
+static inline void peek(int line, unsigned char *at, size_t length, const char *expected);
+static inline void show_pointer(int line, const unsigned char *at, const void *address);
+static inline void peek_pointer(int line, unsigned char *at, const void *address);
+static inline void present(int line, unsigned char *at, size_t length, const char *expected);
+static inline void point(unsigned char *at, void *to);
+static inline void fill_with_zero(unsigned char *at, size_t length);
+static inline void expect_failure(void);
+static inline void no_failure(int line);
+static inline void ask_for_discrete_device(void);
+
+int main(void)
+{
+    ask_for_discrete_device();
+    /* 2: array s 8 */
+    (void)s_;
+    /* 3: array t 8 */
+    (void)t_;
+    /* 4: point s[0] to t[0] */
+    point(s_, t_);
+    /* 5: enter data copyin(s, t) */
+    #pragma acc enter data copyin(s_) copyin(t_)
+    /* 6: enter data attach(s[0]) */
+    acc_attach((void **)(s_));
+    /* 7: enter data attach(s[0]) */
+    acc_attach((void **)(s_));
+    /* 8: exit data detach(s[0]) */
+    acc_detach((void **)(s_));
+    /* 9: peek s */
+    peek(9, s_, 8,
+        "????????????????");
+    peek_pointer(9, s_, acc_deviceptr(t_));
+    /* 10: exit data detach(s[0]) */
+    acc_detach((void **)(s_));
+    /* 11: peek s */
+    peek(11, s_, 8,
+        "????????????????");
+    peek_pointer(11, s_, (void *)(t_));
+    /* 12: exit data delete(s, t) */
+    #pragma acc exit data delete(s_) delete(t_)
+    return 0;
+}
+
+/* What came, as digits or a word. */
 static char came[2 * LONGEST + 8];
 
 /* Whether a digit that came is the expected one; ? stands for any. */
@@ -157,36 +204,4 @@ static inline void ask_for_discrete_device(void)
         puts("not a discrete device");
         exit(77);
     }
-}
-
-int main(void)
-{
-    ask_for_discrete_device();
-    /* 2: array s 8 */
-    (void)s_;
-    /* 3: array t 8 */
-    (void)t_;
-    /* 4: point s[0] to t[0] */
-    point(s_, t_);
-    /* 5: enter data copyin(s, t) */
-    #pragma acc enter data copyin(s_) copyin(t_)
-    /* 6: enter data attach(s[0]) */
-    acc_attach((void **)(s_));
-    /* 7: enter data attach(s[0]) */
-    acc_attach((void **)(s_));
-    /* 8: exit data detach(s[0]) */
-    acc_detach((void **)(s_));
-    /* 9: peek s */
-    peek(9, s_, 8,
-        "????????????????");
-    peek_pointer(9, s_, acc_deviceptr(t_));
-    /* 10: exit data detach(s[0]) */
-    acc_detach((void **)(s_));
-    /* 11: peek s */
-    peek(11, s_, 8,
-        "????????????????");
-    peek_pointer(11, s_, (void *)(t_));
-    /* 12: exit data delete(s, t) */
-    #pragma acc exit data delete(s_) delete(t_)
-    return 0;
 }

@@ -1,3 +1,6 @@
+/* exit_of_absent_data.acc */
+/* OpenACC 3.3, sections 2.6.6 and 2.7, copyout and delete clauses: an `exit data` of what is not present, or of what no */
+/* `enter data` counts, takes no action. */
 /* Written from a script by accrun --emit c. The program does what the script does, and prints what the script prints.
    It ends with status 0 if all that came is as expected, with 1 at the first line that differs, and with 77 where the
    device shares the host's memory. A byte that OpenACC leaves open is expected as ??, and any will do. It is OpenACC 3.3,
@@ -22,8 +25,52 @@ static _Alignas(16) unsigned char a_[4];
 
 #define LONGEST 16
 
-/* Room for the bytes of the longest section that is looked at, and for their digits. */
+/* Room for the bytes of the longest section that is looked at. */
 static unsigned char bytes[LONGEST];
+
+static inline void show(int line, const unsigned char *at, size_t length, const char *expected);
+static inline void peek(int line, unsigned char *at, size_t length, const char *expected);
+static inline void show_pointer(int line, const unsigned char *at, const void *address);
+static inline void peek_pointer(int line, unsigned char *at, const void *address);
+static inline void present(int line, unsigned char *at, size_t length, const char *expected);
+static inline void point(unsigned char *at, void *to);
+static inline void fill_with_zero(unsigned char *at, size_t length);
+static inline void expect_failure(void);
+static inline void no_failure(int line);
+static inline void ask_for_discrete_device(void);
+
+int main(void)
+{
+    ask_for_discrete_device();
+    /* 3: array a 4 */
+    (void)a_;
+    /* 4: write a[0] 01020304 */
+    memcpy(a_, "\x01\x02\x03\x04", 4);
+    /* 5: exit data delete(a) */
+    #pragma acc exit data delete(a_)
+    /* 6: exit data copyout(a) */
+    #pragma acc exit data copyout(a_)
+    /* 7: show a */
+    show(7, a_, 4,
+        "01020304");
+    /* 8: data create(a) */
+    #pragma acc data create(a_)
+    {
+        /* 9: exit data copyout(a) */
+        #pragma acc exit data copyout(a_)
+        /* 10: present a */
+        present(10, a_, 4, "yes");
+        /* 11: show a */
+        show(11, a_, 4,
+            "01020304");
+        /* 12: end data */
+    }
+    /* 13: present a */
+    present(13, a_, 4, "no");
+    return 0;
+}
+
+/* What came, as digits or a word. */
 static char came[2 * LONGEST + 8];
 
 /* Whether a digit that came is the expected one; ? stands for any. */
@@ -156,35 +203,4 @@ static inline void ask_for_discrete_device(void)
         puts("not a discrete device");
         exit(77);
     }
-}
-
-int main(void)
-{
-    ask_for_discrete_device();
-    /* 3: array a 4 */
-    (void)a_;
-    /* 4: write a[0] 01020304 */
-    memcpy(a_, "\x01\x02\x03\x04", 4);
-    /* 5: exit data delete(a) */
-    #pragma acc exit data delete(a_)
-    /* 6: exit data copyout(a) */
-    #pragma acc exit data copyout(a_)
-    /* 7: show a */
-    show(7, a_, 4,
-        "01020304");
-    /* 8: data create(a) */
-    #pragma acc data create(a_)
-    {
-        /* 9: exit data copyout(a) */
-        #pragma acc exit data copyout(a_)
-        /* 10: present a */
-        present(10, a_, 4, "yes");
-        /* 11: show a */
-        show(11, a_, 4,
-            "01020304");
-        /* 12: end data */
-    }
-    /* 13: present a */
-    present(13, a_, 4, "no");
-    return 0;
 }

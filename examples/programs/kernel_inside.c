@@ -1,3 +1,5 @@
+/* kernel_inside.acc */
+/* OpenACC 3.3, section 2.5, compute constructs: a kernel reads and writes the bytes of the device, and not the host's. */
 /* Written from a script by accrun --emit c. The program does what the script does, and prints what the script prints.
    It ends with status 0 if all that came is as expected, with 1 at the first line that differs, and with 77 where the
    device shares the host's memory. A byte that OpenACC leaves open is expected as ??, and any will do. It is OpenACC 3.3,
@@ -23,8 +25,72 @@ static _Alignas(16) unsigned char b_[4];
 
 #define LONGEST 16
 
-/* Room for the bytes of the longest section that is looked at, and for their digits. */
+/* Room for the bytes of the longest section that is looked at. */
 static unsigned char bytes[LONGEST];
+
+static inline void show(int line, const unsigned char *at, size_t length, const char *expected);
+static inline void peek(int line, unsigned char *at, size_t length, const char *expected);
+static inline void show_pointer(int line, const unsigned char *at, const void *address);
+static inline void peek_pointer(int line, unsigned char *at, const void *address);
+static inline void present(int line, unsigned char *at, size_t length, const char *expected);
+static inline void point(unsigned char *at, void *to);
+static inline void fill_with_zero(unsigned char *at, size_t length);
+static inline void expect_failure(void);
+static inline void no_failure(int line);
+static inline void ask_for_discrete_device(void);
+
+int main(void)
+{
+    ask_for_discrete_device();
+    /* 2: array a 4 */
+    (void)a_;
+    /* 3: array b 4 */
+    (void)b_;
+    /* 4: write a[0] 01020304 */
+    memcpy(a_, "\x01\x02\x03\x04", 4);
+    /* 5: write b[0] 10203040 */
+    memcpy(b_, "\x10\x20\x30\x40", 4);
+    /* 6: data copyin(a, b) */
+    #pragma acc data copyin(a_) copyin(b_)
+    {
+        /* 7: kernel add 1 a */
+        #pragma acc parallel loop present(a_)
+        for (int i = 0; i < 4; i++)
+            a_[i] = (unsigned char)(a_[i] + 1);
+        /* 8: peek a */
+        peek(8, a_, 4,
+            "02030405");
+        /* 9: kernel xor 255 a[1:2] */
+        #pragma acc parallel loop present(a_[1:2])
+        for (int i = 0; i < 2; i++)
+            a_[i + 1] = (unsigned char)(a_[i + 1] ^ 255);
+        /* 10: peek a */
+        peek(10, a_, 4,
+            "02fcfb05");
+        /* 11: kernel number 9 a[2:2] */
+        #pragma acc parallel loop present(a_[2:2])
+        for (int i = 0; i < 2; i++)
+            a_[i + 2] = (unsigned char)(i + 9);
+        /* 12: peek a */
+        peek(12, a_, 4,
+            "02fc090a");
+        /* 13: kernel plus b a */
+        memcpy(bytes, b_, 4);
+        #pragma acc parallel loop present(a_) copyin(bytes[0:4])
+        for (int i = 0; i < 4; i++)
+            a_[i] = (unsigned char)(a_[i] + bytes[i]);
+        /* 14: peek a */
+        peek(14, a_, 4,
+            "121c394a");
+        /* 15: show a */
+        show(15, a_, 4,
+            "01020304");
+        /* 16: end data */
+    }
+    return 0;
+}
+
+/* What came, as digits or a word. */
 static char came[2 * LONGEST + 8];
 
 /* Whether a digit that came is the expected one; ? stands for any. */
@@ -157,55 +223,4 @@ static inline void ask_for_discrete_device(void)
         puts("not a discrete device");
         exit(77);
     }
-}
-
-int main(void)
-{
-    ask_for_discrete_device();
-    /* 2: array a 4 */
-    (void)a_;
-    /* 3: array b 4 */
-    (void)b_;
-    /* 4: write a[0] 01020304 */
-    memcpy(a_, "\x01\x02\x03\x04", 4);
-    /* 5: write b[0] 10203040 */
-    memcpy(b_, "\x10\x20\x30\x40", 4);
-    /* 6: data copyin(a, b) */
-    #pragma acc data copyin(a_) copyin(b_)
-    {
-        /* 7: kernel add 1 a */
-        #pragma acc parallel loop present(a_)
-        for (int i = 0; i < 4; i++)
-            a_[i] = (unsigned char)(a_[i] + 1);
-        /* 8: peek a */
-        peek(8, a_, 4,
-            "02030405");
-        /* 9: kernel xor 255 a[1:2] */
-        #pragma acc parallel loop present(a_[1:2])
-        for (int i = 0; i < 2; i++)
-            a_[i + 1] = (unsigned char)(a_[i + 1] ^ 255);
-        /* 10: peek a */
-        peek(10, a_, 4,
-            "02fcfb05");
-        /* 11: kernel number 9 a[2:2] */
-        #pragma acc parallel loop present(a_[2:2])
-        for (int i = 0; i < 2; i++)
-            a_[i + 2] = (unsigned char)(i + 9);
-        /* 12: peek a */
-        peek(12, a_, 4,
-            "02fc090a");
-        /* 13: kernel plus b a */
-        memcpy(bytes, b_, 4);
-        #pragma acc parallel loop present(a_) copyin(bytes[0:4])
-        for (int i = 0; i < 4; i++)
-            a_[i] = (unsigned char)(a_[i] + bytes[i]);
-        /* 14: peek a */
-        peek(14, a_, 4,
-            "121c394a");
-        /* 15: show a */
-        show(15, a_, 4,
-            "01020304");
-        /* 16: end data */
-    }
-    return 0;
 }

@@ -1,3 +1,5 @@
+/* no_create.acc */
+/* OpenACC 3.3, section 2.7, no_create clause: data that is present is counted, and what is absent stays so. */
 /* Written from a script by accrun --emit c. The program does what the script does, and prints what the script prints.
    It ends with status 0 if all that came is as expected, with 1 at the first line that differs, and with 77 where the
    device shares the host's memory. A byte that OpenACC leaves open is expected as ??, and any will do. It is OpenACC 3.3,
@@ -23,8 +25,60 @@ static _Alignas(16) unsigned char b_[4];
 
 #define LONGEST 16
 
-/* Room for the bytes of the longest section that is looked at, and for their digits. */
+/* Room for the bytes of the longest section that is looked at. */
 static unsigned char bytes[LONGEST];
+
+static inline void show(int line, const unsigned char *at, size_t length, const char *expected);
+static inline void peek(int line, unsigned char *at, size_t length, const char *expected);
+static inline void show_pointer(int line, const unsigned char *at, const void *address);
+static inline void peek_pointer(int line, unsigned char *at, const void *address);
+static inline void present(int line, unsigned char *at, size_t length, const char *expected);
+static inline void point(unsigned char *at, void *to);
+static inline void fill_with_zero(unsigned char *at, size_t length);
+static inline void expect_failure(void);
+static inline void no_failure(int line);
+static inline void ask_for_discrete_device(void);
+
+int main(void)
+{
+    ask_for_discrete_device();
+    /* 2: array a 4 */
+    (void)a_;
+    /* 3: array b 4 */
+    (void)b_;
+    /* 4: enter data create(a) */
+    #pragma acc enter data create(a_)
+    /* 5: data no_create(a, b) */
+    #pragma acc data no_create(a_) no_create(b_)
+    {
+        /* 6: report */
+        /* no program can see this; the table says:
+             host 65536 device 65536 used 16
+             map 0x1000 4 at 0x100000000 structured 1 dynamic 1
+             regions 1 events 2
+        */
+        present(6, a_, 4, "yes");
+        show(6, a_, 4,
+            "00000000");
+        present(6, b_, 4, "no");
+        show(6, b_, 4,
+            "00000000");
+        peek(6, a_, 4,
+            "????????");
+        /* 7: exit data delete(a) */
+        #pragma acc exit data delete(a_)
+        /* 8: present a */
+        present(8, a_, 4, "yes");
+        /* 9: present b */
+        present(9, b_, 4, "no");
+        /* 10: end data */
+    }
+    /* 11: present a */
+    present(11, a_, 4, "no");
+    return 0;
+}
+
+/* What came, as digits or a word. */
 static char came[2 * LONGEST + 8];
 
 /* Whether a digit that came is the expected one; ? stands for any. */
@@ -157,43 +211,4 @@ static inline void ask_for_discrete_device(void)
         puts("not a discrete device");
         exit(77);
     }
-}
-
-int main(void)
-{
-    ask_for_discrete_device();
-    /* 2: array a 4 */
-    (void)a_;
-    /* 3: array b 4 */
-    (void)b_;
-    /* 4: enter data create(a) */
-    #pragma acc enter data create(a_)
-    /* 5: data no_create(a, b) */
-    #pragma acc data no_create(a_) no_create(b_)
-    {
-        /* 6: report */
-        /* no program can see this; the table says:
-             host 65536 device 65536 used 16
-             map 0x1000 4 at 0x100000000 structured 1 dynamic 1
-             regions 1 events 2
-        */
-        present(6, a_, 4, "yes");
-        show(6, a_, 4,
-            "00000000");
-        present(6, b_, 4, "no");
-        show(6, b_, 4,
-            "00000000");
-        peek(6, a_, 4,
-            "????????");
-        /* 7: exit data delete(a) */
-        #pragma acc exit data delete(a_)
-        /* 8: present a */
-        present(8, a_, 4, "yes");
-        /* 9: present b */
-        present(9, b_, 4, "no");
-        /* 10: end data */
-    }
-    /* 11: present a */
-    present(11, a_, 4, "no");
-    return 0;
 }

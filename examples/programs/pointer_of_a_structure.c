@@ -1,3 +1,6 @@
+/* pointer_of_a_structure.acc */
+/* OpenACC 3.3, section 2.6.4, data structures with pointers: a pointer that is present is attached on entry of the data */
+/* that it points to, and detached on its exit. */
 /* Written from a script by accrun --emit c. The program does what the script does, and prints what the script prints.
    It ends with status 0 if all that came is as expected, with 1 at the first line that differs, and with 77 where the
    device shares the host's memory. A byte that OpenACC leaves open is expected as ??, and any will do. It is OpenACC 3.3,
@@ -23,8 +26,64 @@ static _Alignas(16) unsigned char t_[4];
 
 #define LONGEST 16
 
-/* Room for the bytes of the longest section that is looked at, and for their digits. */
+/* Room for the bytes of the longest section that is looked at. */
 static unsigned char bytes[LONGEST];
+
+static inline void show(int line, const unsigned char *at, size_t length, const char *expected);
+static inline void peek(int line, unsigned char *at, size_t length, const char *expected);
+static inline void show_pointer(int line, const unsigned char *at, const void *address);
+static inline void peek_pointer(int line, unsigned char *at, const void *address);
+static inline void present(int line, unsigned char *at, size_t length, const char *expected);
+static inline void point(unsigned char *at, void *to);
+static inline void fill_with_zero(unsigned char *at, size_t length);
+static inline void expect_failure(void);
+static inline void no_failure(int line);
+static inline void ask_for_discrete_device(void);
+
+int main(void)
+{
+    ask_for_discrete_device();
+    /* 3: array s 16 */
+    (void)s_;
+    /* 4: array t 4 */
+    (void)t_;
+    /* 5: write t[0] 0a0b0c0d */
+    memcpy(t_, "\x0a\x0b\x0c\x0d", 4);
+    /* 6: point s[8] to t[0] */
+    point(s_ + 8, t_);
+    /* 7: data copyin(s) */
+    #pragma acc data copyin(s_)
+    {
+        /* 8: data copy(t via s[8]) */
+        #pragma acc data copy(t_)
+        {
+            acc_attach((void **)(s_ + 8));
+            /* 9: peek s[8:8] */
+            peek(9, s_ + 8, 8,
+                "????????????????");
+            peek_pointer(9, s_ + 8, acc_deviceptr(t_));
+            /* 10: kernel add 1 t */
+            #pragma acc parallel loop present(t_)
+            for (int i = 0; i < 4; i++)
+                t_[i] = (unsigned char)(t_[i] + 1);
+            /* 11: end data */
+            acc_detach((void **)(s_ + 8));
+        }
+        /* 12: peek s[8:8] */
+        peek(12, s_ + 8, 8,
+            "????????????????");
+        peek_pointer(12, s_ + 8, (void *)(t_));
+        /* 13: show t */
+        show(13, t_, 4,
+            "0b0c0d0e");
+        /* 14: end data */
+    }
+    /* 15: present s */
+    present(15, s_, 16, "no");
+    return 0;
+}
+
+/* What came, as digits or a word. */
 static char came[2 * LONGEST + 8];
 
 /* Whether a digit that came is the expected one; ? stands for any. */
@@ -157,47 +216,4 @@ static inline void ask_for_discrete_device(void)
         puts("not a discrete device");
         exit(77);
     }
-}
-
-int main(void)
-{
-    ask_for_discrete_device();
-    /* 3: array s 16 */
-    (void)s_;
-    /* 4: array t 4 */
-    (void)t_;
-    /* 5: write t[0] 0a0b0c0d */
-    memcpy(t_, "\x0a\x0b\x0c\x0d", 4);
-    /* 6: point s[8] to t[0] */
-    point(s_ + 8, t_);
-    /* 7: data copyin(s) */
-    #pragma acc data copyin(s_)
-    {
-        /* 8: data copy(t via s[8]) */
-        #pragma acc data copy(t_)
-        {
-            acc_attach((void **)(s_ + 8));
-            /* 9: peek s[8:8] */
-            peek(9, s_ + 8, 8,
-                "????????????????");
-            peek_pointer(9, s_ + 8, acc_deviceptr(t_));
-            /* 10: kernel add 1 t */
-            #pragma acc parallel loop present(t_)
-            for (int i = 0; i < 4; i++)
-                t_[i] = (unsigned char)(t_[i] + 1);
-            /* 11: end data */
-            acc_detach((void **)(s_ + 8));
-        }
-        /* 12: peek s[8:8] */
-        peek(12, s_ + 8, 8,
-            "????????????????");
-        peek_pointer(12, s_ + 8, (void *)(t_));
-        /* 13: show t */
-        show(13, t_, 4,
-            "0b0c0d0e");
-        /* 14: end data */
-    }
-    /* 15: present s */
-    present(15, s_, 16, "no");
-    return 0;
 }

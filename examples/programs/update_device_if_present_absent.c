@@ -1,3 +1,5 @@
+/* update_device_if_present_absent.acc */
+/* OpenACC 3.3, section 2.14.4, if_present clause: what is absent is passed over, and stays absent. */
 /* Written from a script by accrun --emit c. The program does what the script does, and prints what the script prints.
    It ends with status 0 if all that came is as expected, with 1 at the first line that differs, and with 77 where the
    device shares the host's memory. A byte that OpenACC leaves open is expected as ??, and any will do. It is OpenACC 3.3,
@@ -23,8 +25,47 @@ static _Alignas(16) unsigned char b_[4];
 
 #define LONGEST 16
 
-/* Room for the bytes of the longest section that is looked at, and for their digits. */
+/* Room for the bytes of the longest section that is looked at. */
 static unsigned char bytes[LONGEST];
+
+static inline void show(int line, const unsigned char *at, size_t length, const char *expected);
+static inline void peek(int line, unsigned char *at, size_t length, const char *expected);
+static inline void show_pointer(int line, const unsigned char *at, const void *address);
+static inline void peek_pointer(int line, unsigned char *at, const void *address);
+static inline void present(int line, unsigned char *at, size_t length, const char *expected);
+static inline void point(unsigned char *at, void *to);
+static inline void fill_with_zero(unsigned char *at, size_t length);
+static inline void expect_failure(void);
+static inline void no_failure(int line);
+static inline void ask_for_discrete_device(void);
+
+int main(void)
+{
+    ask_for_discrete_device();
+    /* 2: array a 4 */
+    (void)a_;
+    /* 3: array b 4 */
+    (void)b_;
+    /* 4: write b[0] 01020304 */
+    memcpy(b_, "\x01\x02\x03\x04", 4);
+    /* 5: data copyin(b) */
+    #pragma acc data copyin(b_)
+    {
+        /* 6: write b[0] 21222324 */
+        memcpy(b_, "\x21\x22\x23\x24", 4);
+        /* 7: update device(a, b) if_present */
+        #pragma acc update device(a_) device(b_) if_present
+        /* 8: peek b */
+        peek(8, b_, 4,
+            "21222324");
+        /* 9: present a */
+        present(9, a_, 4, "no");
+        /* 10: end data */
+    }
+    return 0;
+}
+
+/* What came, as digits or a word. */
 static char came[2 * LONGEST + 8];
 
 /* Whether a digit that came is the expected one; ? stands for any. */
@@ -157,30 +198,4 @@ static inline void ask_for_discrete_device(void)
         puts("not a discrete device");
         exit(77);
     }
-}
-
-int main(void)
-{
-    ask_for_discrete_device();
-    /* 2: array a 4 */
-    (void)a_;
-    /* 3: array b 4 */
-    (void)b_;
-    /* 4: write b[0] 01020304 */
-    memcpy(b_, "\x01\x02\x03\x04", 4);
-    /* 5: data copyin(b) */
-    #pragma acc data copyin(b_)
-    {
-        /* 6: write b[0] 21222324 */
-        memcpy(b_, "\x21\x22\x23\x24", 4);
-        /* 7: update device(a, b) if_present */
-        #pragma acc update device(a_) device(b_) if_present
-        /* 8: peek b */
-        peek(8, b_, 4,
-            "21222324");
-        /* 9: present a */
-        present(9, a_, 4, "no");
-        /* 10: end data */
-    }
-    return 0;
 }

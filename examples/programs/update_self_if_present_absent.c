@@ -1,3 +1,5 @@
+/* update_self_if_present_absent.acc */
+/* OpenACC 3.3, section 2.14.4, if_present clause: what is absent is passed over, and the rest is copied. */
 /* Written from a script by accrun --emit c. The program does what the script does, and prints what the script prints.
    It ends with status 0 if all that came is as expected, with 1 at the first line that differs, and with 77 where the
    device shares the host's memory. A byte that OpenACC leaves open is expected as ??, and any will do. It is OpenACC 3.3,
@@ -23,8 +25,54 @@ static _Alignas(16) unsigned char b_[4];
 
 #define LONGEST 16
 
-/* Room for the bytes of the longest section that is looked at, and for their digits. */
+/* Room for the bytes of the longest section that is looked at. */
 static unsigned char bytes[LONGEST];
+
+static inline void show(int line, const unsigned char *at, size_t length, const char *expected);
+static inline void peek(int line, unsigned char *at, size_t length, const char *expected);
+static inline void show_pointer(int line, const unsigned char *at, const void *address);
+static inline void peek_pointer(int line, unsigned char *at, const void *address);
+static inline void present(int line, unsigned char *at, size_t length, const char *expected);
+static inline void point(unsigned char *at, void *to);
+static inline void fill_with_zero(unsigned char *at, size_t length);
+static inline void expect_failure(void);
+static inline void no_failure(int line);
+static inline void ask_for_discrete_device(void);
+
+int main(void)
+{
+    ask_for_discrete_device();
+    /* 2: array a 4 */
+    (void)a_;
+    /* 3: array b 4 */
+    (void)b_;
+    /* 4: write a[0] 01020304 */
+    memcpy(a_, "\x01\x02\x03\x04", 4);
+    /* 5: write b[0] 05060708 */
+    memcpy(b_, "\x05\x06\x07\x08", 4);
+    /* 6: data copyin(b) */
+    #pragma acc data copyin(b_)
+    {
+        /* 7: kernel add 16 b */
+        #pragma acc parallel loop present(b_)
+        for (int i = 0; i < 4; i++)
+            b_[i] = (unsigned char)(b_[i] + 16);
+        /* 8: update self(a, b) if_present */
+        #pragma acc update self(a_) self(b_) if_present
+        /* 9: show a */
+        show(9, a_, 4,
+            "01020304");
+        /* 10: show b */
+        show(10, b_, 4,
+            "15161718");
+        /* 11: present a */
+        present(11, a_, 4, "no");
+        /* 12: end data */
+    }
+    return 0;
+}
+
+/* What came, as digits or a word. */
 static char came[2 * LONGEST + 8];
 
 /* Whether a digit that came is the expected one; ? stands for any. */
@@ -157,37 +205,4 @@ static inline void ask_for_discrete_device(void)
         puts("not a discrete device");
         exit(77);
     }
-}
-
-int main(void)
-{
-    ask_for_discrete_device();
-    /* 2: array a 4 */
-    (void)a_;
-    /* 3: array b 4 */
-    (void)b_;
-    /* 4: write a[0] 01020304 */
-    memcpy(a_, "\x01\x02\x03\x04", 4);
-    /* 5: write b[0] 05060708 */
-    memcpy(b_, "\x05\x06\x07\x08", 4);
-    /* 6: data copyin(b) */
-    #pragma acc data copyin(b_)
-    {
-        /* 7: kernel add 16 b */
-        #pragma acc parallel loop present(b_)
-        for (int i = 0; i < 4; i++)
-            b_[i] = (unsigned char)(b_[i] + 16);
-        /* 8: update self(a, b) if_present */
-        #pragma acc update self(a_) self(b_) if_present
-        /* 9: show a */
-        show(9, a_, 4,
-            "01020304");
-        /* 10: show b */
-        show(10, b_, 4,
-            "15161718");
-        /* 11: present a */
-        present(11, a_, 4, "no");
-        /* 12: end data */
-    }
-    return 0;
 }

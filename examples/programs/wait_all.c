@@ -1,3 +1,5 @@
+/* wait_all.acc */
+/* OpenACC 3.3, section 2.16, wait directive: without a queue it waits for the copies of all queues. */
 /* Written from a script by accrun --emit c. The program does what the script does, and prints what the script prints.
    It ends with status 0 if all that came is as expected, with 1 at the first line that differs, and with 77 where the
    device shares the host's memory. A byte that OpenACC leaves open is expected as ??, and any will do. It is OpenACC 3.3,
@@ -23,8 +25,60 @@ static _Alignas(16) unsigned char b_[4];
 
 #define LONGEST 16
 
-/* Room for the bytes of the longest section that is looked at, and for their digits. */
+/* Room for the bytes of the longest section that is looked at. */
 static unsigned char bytes[LONGEST];
+
+static inline void show(int line, const unsigned char *at, size_t length, const char *expected);
+static inline void peek(int line, unsigned char *at, size_t length, const char *expected);
+static inline void show_pointer(int line, const unsigned char *at, const void *address);
+static inline void peek_pointer(int line, unsigned char *at, const void *address);
+static inline void present(int line, unsigned char *at, size_t length, const char *expected);
+static inline void point(unsigned char *at, void *to);
+static inline void fill_with_zero(unsigned char *at, size_t length);
+static inline void expect_failure(void);
+static inline void no_failure(int line);
+static inline void ask_for_discrete_device(void);
+
+int main(void)
+{
+    ask_for_discrete_device();
+    /* 2: array a 4 */
+    (void)a_;
+    /* 3: array b 4 */
+    (void)b_;
+    /* 4: write a[0] 01020304 */
+    memcpy(a_, "\x01\x02\x03\x04", 4);
+    /* 5: write b[0] 05060708 */
+    memcpy(b_, "\x05\x06\x07\x08", 4);
+    /* 6: data copyin(a, b) */
+    #pragma acc data copyin(a_) copyin(b_)
+    {
+        /* 7: kernel add 16 a */
+        #pragma acc parallel loop present(a_)
+        for (int i = 0; i < 4; i++)
+            a_[i] = (unsigned char)(a_[i] + 16);
+        /* 8: kernel add 32 b */
+        #pragma acc parallel loop present(b_)
+        for (int i = 0; i < 4; i++)
+            b_[i] = (unsigned char)(b_[i] + 32);
+        /* 9: update self(a) async(1) */
+        #pragma acc update self(a_) async(1)
+        /* 10: update self(b) async(3) */
+        #pragma acc update self(b_) async(3)
+        /* 11: wait */
+        #pragma acc wait
+        /* 12: show a */
+        show(12, a_, 4,
+            "11121314");
+        /* 13: show b */
+        show(13, b_, 4,
+            "25262728");
+        /* 14: end data */
+    }
+    return 0;
+}
+
+/* What came, as digits or a word. */
 static char came[2 * LONGEST + 8];
 
 /* Whether a digit that came is the expected one; ? stands for any. */
@@ -157,43 +211,4 @@ static inline void ask_for_discrete_device(void)
         puts("not a discrete device");
         exit(77);
     }
-}
-
-int main(void)
-{
-    ask_for_discrete_device();
-    /* 2: array a 4 */
-    (void)a_;
-    /* 3: array b 4 */
-    (void)b_;
-    /* 4: write a[0] 01020304 */
-    memcpy(a_, "\x01\x02\x03\x04", 4);
-    /* 5: write b[0] 05060708 */
-    memcpy(b_, "\x05\x06\x07\x08", 4);
-    /* 6: data copyin(a, b) */
-    #pragma acc data copyin(a_) copyin(b_)
-    {
-        /* 7: kernel add 16 a */
-        #pragma acc parallel loop present(a_)
-        for (int i = 0; i < 4; i++)
-            a_[i] = (unsigned char)(a_[i] + 16);
-        /* 8: kernel add 32 b */
-        #pragma acc parallel loop present(b_)
-        for (int i = 0; i < 4; i++)
-            b_[i] = (unsigned char)(b_[i] + 32);
-        /* 9: update self(a) async(1) */
-        #pragma acc update self(a_) async(1)
-        /* 10: update self(b) async(3) */
-        #pragma acc update self(b_) async(3)
-        /* 11: wait */
-        #pragma acc wait
-        /* 12: show a */
-        show(12, a_, 4,
-            "11121314");
-        /* 13: show b */
-        show(13, b_, 4,
-            "25262728");
-        /* 14: end data */
-    }
-    return 0;
 }

@@ -4,7 +4,9 @@ use crate::picture_files::put_numbered;
 use acc_base::Fault;
 use acc_emit::{EmitFault, Reason};
 use acc_follow::{Difference, Page};
+use acc_lines::{put_place, tell_fault};
 use acc_script::{Sink, write_all};
+use acc_trials::{Machine, put_texts};
 use arrayvec::ArrayString;
 use std::alloc::Global;
 use std::fmt::{self, Write};
@@ -14,14 +16,29 @@ use std::fmt::{self, Write};
 pub enum Mishap<'a> {
     /// A fault of a run, or of the limits.
     Fault(Fault),
+    /// The options in the first line of a file are wrong, which is told as the reason.
+    FirstLine,
+    /// Some lines are at fault, which is told already.
+    Told,
     /// A fault of the script in a file of this name, one of several.
     Within(&'a str, Fault),
     /// A file of this name cannot be read, and why.
     Unread(&'a str, &'static str),
     /// The line of a number cannot be emitted as C, and why.
     Unfit(u64, Reason),
-    /// A picture's file of this name cannot be written; with the number of its line, where it is one of many.
-    Unwritten(&'a str, Option<u64>),
+    /// A picture, a page or JUnit cannot be written to a file of this name, and why; with the line's number, for one of
+    /// many.
+    Unwritten(&'a str, Option<u64>, &'static str),
+}
+
+impl Mishap<'_> {
+    /// The number of the line that is at fault; 0 where none is.
+    pub fn line(self) -> u64 {
+        match self {
+            Mishap::Fault(Fault::Script { line, .. }) => line,
+            _ => 0,
+        }
+    }
 }
 
 impl From<Fault> for Mishap<'_> {
@@ -51,111 +68,59 @@ pub fn tell_mishap<E: Sink>(
     match mishap {
         Mishap::Fault(fault) => tell_fault(alloc, err, file, column, fault),
         Mishap::Within(name, fault) => tell_fault(alloc, err, Some(name), 0, fault),
-        Mishap::Unread(name, reason) => tell_unread(alloc, err, name, reason),
-        Mishap::Unwritten(name, line) => tell_unwritten(alloc, err, name, line),
-        Mishap::Unfit(line, reason) => tell_unfit(alloc, err, file, line, reason.text()),
-    }
-}
-
-fn tell_unread<E: Sink>(alloc: Global, err: &mut E, name: &str, reason: &str) {
-    let mut page = Page::new(alloc);
-    page.text("accrun: cannot read ");
-    page.text(name);
-    page.text(": ");
-    page.text(reason);
-    page.text("\n");
-    let _ = write_all(err, page.as_slice());
-}
-
-/// Puts texts, one behind the other.
-pub fn put_texts(page: &mut Page, texts: &[&str]) {
-    for text in texts {
-        page.text(text);
-    }
-}
-
-fn tell_fault<E: Sink>(alloc: Global, err: &mut E, file: Option<&str>, column: u64, fault: Fault) {
-    match (file, fault) {
-        (Some(name), Fault::Script { line, kind }) => {
+        _ => {
             let mut page = Page::new(alloc);
-            put_place(&mut page, name, line, column);
-            put_texts(&mut page, &[": error: ", kind.name(), "\n"]);
-            match page.whole() {
-                Ok(text) => {
-                    let _ = write_all(err, text);
-                }
-                // There is no memory for the file's name.
-                Err(_) => tell(err, fault),
-            }
+            put_mishap(&mut page, file, mishap);
+            let _ = write_all(err, page.as_slice());
         }
-        _ => tell(err, fault),
     }
 }
 
-/// Puts a place of a file: its name, and the line and the column, unless these are 0.
-pub fn put_place(page: &mut Page, name: &str, line: u64, column: u64) {
-    page.text(name);
-    put_part(page, line);
-    put_part(page, column);
-}
-
-fn put_part(page: &mut Page, number: u64) {
-    if number > 0 {
-        page.text(":");
-        page.number(number);
+fn put_mishap(page: &mut Page, file: Option<&str>, mishap: Mishap<'_>) {
+    match mishap {
+        Mishap::Unread(name, reason) => {
+            let _ = writeln!(page, "accrun: cannot read {name}: {reason}");
+        }
+        Mishap::Unwritten(name, line, reason) => {
+            page.text("accrun: cannot write ");
+            match line {
+                Some(line) => put_numbered(page, name, line),
+                None => page.text(name),
+            }
+            put_texts(page, &[": ", reason, "\n"]);
+        }
+        Mishap::Unfit(line, reason) => put_unfit(page, file, line, reason.text()),
+        // These are told elsewhere.
+        Mishap::FirstLine | Mishap::Told | Mishap::Fault(_) | Mishap::Within(..) => {}
     }
-}
-
-fn tell_unwritten<E: Sink>(alloc: Global, err: &mut E, name: &str, line: Option<u64>) {
-    let mut page = Page::new(alloc);
-    page.text("accrun: cannot write ");
-    match line {
-        Some(number) => put_numbered(&mut page, name, number),
-        None => page.text(name),
-    }
-    page.text("\n");
-    let _ = write_all(err, page.as_slice());
 }
 
 /// Writes which sizes there are, one of which is no multiple of 16. A failure of the sink changes nothing.
-pub fn tell_sizes<E: Sink>(err: &mut E, host: u64, device: u64) {
+pub fn tell_sizes<E: Sink>(err: &mut E, machine: Machine) {
     // The longest line has 114 bytes: that with two numbers of 20 digits.
     let mut line = ArrayString::<120>::new();
-    let _ = writeln!(
+    let _ = line.write_str("accrun: 2 BadConfig: ");
+    let _ = put_sizes(&mut line, machine);
+    let _ = write_all(err, line.as_bytes());
+}
+
+/// Puts these sizes.
+pub fn put_sizes<W: Write>(line: &mut W, machine: Machine) -> fmt::Result {
+    let (host, device) = (machine.host, machine.device);
+    writeln!(
         line,
-        "accrun: 2 BadConfig: --host {host} --device {device}: a size has to be a multiple of 16"
-    );
-    let _ = write_all(err, line.as_bytes());
+        "--host {host} --device {device}: a size has to be a multiple of 16"
+    )
 }
 
-fn tell_unfit<E: Sink>(alloc: Global, err: &mut E, file: Option<&str>, line: u64, reason: &str) {
-    let mut page = Page::new(alloc);
-    match file {
-        Some(name) => put_place(&mut page, name, line, 0),
-        None => put_line_number(&mut page, line),
-    }
-    let error = if file.is_some() { ": error:" } else { "" };
-    put_texts(&mut page, &[error, " cannot be emitted: ", reason, "\n"]);
-    let _ = write_all(err, page.as_slice());
-}
-
-fn put_line_number(page: &mut Page, line: u64) {
-    page.text("accrun: line ");
-    page.number(line);
-}
-
-/// Writes the one line of a fault, in one piece and without allocation. A failure of the sink changes nothing.
-pub fn tell<E: Sink>(err: &mut E, fault: Fault) {
-    // The longest line has 74 bytes: that of `DeviceFull` with two numbers of 20 digits.
-    let mut line = ArrayString::<80>::new();
-    let _ = write_fault(&mut line, fault);
-    let _ = write_all(err, line.as_bytes());
-}
-
-fn write_fault<W: Write>(line: &mut W, fault: Fault) -> fmt::Result {
-    match fault {
-        Fault::Script { line: number, kind } => writeln!(line, "accrun: line {number}: {kind}"),
-        _ => writeln!(line, "accrun: {fault}"),
+fn put_unfit(page: &mut Page, file: Option<&str>, line: u64, reason: &str) {
+    if let Some(name) = file {
+        put_place(page, name, line, 0);
+        put_texts(page, &[": error: cannot be emitted: ", reason, "\n"]);
+    } else {
+        page.text("accrun: line ");
+        page.number(line);
+        put_texts(page, &[" cannot be emitted: ", reason, "\n"]);
     }
 }
 

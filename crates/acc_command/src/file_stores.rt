@@ -3,17 +3,44 @@
 use acc_base::Fault;
 use acc_script::{FromRead, read_all};
 use std::alloc::Global;
-use std::fs::{self, OpenFile};
-use std::io::{ErrorKind, Read, Write};
+use std::fs::{self, File, OpenFile};
+use std::io::{self, ErrorKind, Read, Write};
 use std::rt::Files;
 
-/// Why a file cannot be read.
+/// Why a file cannot be read, or cannot be written.
 #[derive(Clone, Copy)]
 pub enum Unread {
     /// There is no memory for it.
     Memory,
+    /// It is not there.
+    Absent,
     /// The system does not give it, or it is too long: why, in words.
     Because(&'static str),
+}
+
+impl Unread {
+    /// Why, in words.
+    ///
+    /// # Errors
+    ///
+    /// [`Fault::Memory`].
+    pub fn reason(self) -> Result<&'static str, Fault> {
+        match self {
+            Unread::Memory => Err(Fault::Memory),
+            Unread::Absent => Ok("No such file or directory"),
+            Unread::Because(reason) => Ok(reason),
+        }
+    }
+}
+
+impl From<io::Error> for Unread {
+    fn from(error: io::Error) -> Unread {
+        match error.kind() {
+            ErrorKind::OutOfMemory => Unread::Memory,
+            ErrorKind::NotFound => Unread::Absent,
+            kind => Unread::Because(reason_of(kind)),
+        }
+    }
 }
 
 /// Reads and writes whole files by their names.
@@ -25,9 +52,36 @@ pub trait FileStore {
     /// Those of [`Unread`]; a file may have 16,777,216 bytes.
     fn read(&self, name: &str) -> Result<Vec<u8>, Unread>;
 
-    /// Makes a file of these bytes, in place of one that has that name; false where that failed. It removes a half that
-    /// it wrote, if that is a regular file.
-    fn write(&self, name: &str, bytes: &[u8]) -> bool;
+    /// Returns the paths of what is in a folder, in any order; `None` where that is no folder. It leaves out names that
+    /// begin with `.`, and links that lead to no file. Where a name is not UTF-8, U+FFFD stands in it, and no such file
+    /// can be read.
+    ///
+    /// # Errors
+    ///
+    /// Those of [`Unread`].
+    fn list(&self, _folder: &str) -> Result<Option<Vec<String>>, Unread> {
+        Ok(None)
+    }
+
+    /// Removes a file, if that can be.
+    fn remove(&self, _name: &str) {}
+
+    /// Makes a folder, unless it is there.
+    ///
+    /// # Errors
+    ///
+    /// Those of [`Unread`].
+    fn make_folder(&self, _name: &str) -> Result<(), Unread> {
+        Ok(())
+    }
+
+    /// Makes a file of these bytes, in place of one that has that name; where that fails, that one stays. No other file
+    /// changes. A link, a terminal or a pipe stays too, and gets the bytes.
+    ///
+    /// # Errors
+    ///
+    /// Those of [`Unread`].
+    fn write(&self, name: &str, bytes: &[u8]) -> Result<(), Unread>;
 }
 
 /// The files of the system.
@@ -37,30 +91,125 @@ pub struct Disk<'a, R> {
     pub rt: &'a R,
 }
 
-impl<R: Files + AllocGlobal> FileStore for Disk<'_, R> {
+impl<R: Files + AllocGlobal + Sync> FileStore for Disk<'_, R> {
     fn read(&self, name: &str) -> Result<Vec<u8>, Unread> {
-        match fs::open(self.rt, name) {
-            Ok(file) => read_open(self.rt.alloc(), file),
-            Err(error) => Err(Unread::Because(reason_of(error.kind()))),
+        read_open(self.rt.alloc(), fs::open(self.rt, name)?)
+    }
+
+    fn list(&self, folder: &str) -> Result<Option<Vec<String>>, Unread> {
+        // The slash follows a link to a folder.
+        let path = path_in(self.rt.alloc(), folder, b"")?;
+        match self.rt.open_dir(path.as_str()) {
+            Ok(names) => Ok(Some(paths_in(self.rt, folder, &read_whole(self.rt.alloc(), names)?)?)),
+            Err(error) if error.kind() == ErrorKind::NotADirectory => Ok(None),
+            Err(error) => Err(Unread::from(error)),
         }
     }
 
-    fn write(&self, name: &str, bytes: &[u8]) -> bool {
-        let Ok(mut file) = fs::create(self.rt, name) else {
-            return false;
-        };
-        if file.write_all(bytes).is_ok() {
-            return true;
+    fn make_folder(&self, name: &str) -> Result<(), Unread> {
+        match fs::create_dir(self.rt, name) {
+            Err(_) if fs::metadata(self.rt, name).is_ok_and(|old| old.is_dir()) => Ok(()),
+            made => Ok(made?),
         }
-        remove_half(self.rt, name, &file);
-        false
     }
+
+    fn remove(&self, name: &str) {
+        let _ = fs::remove_file(self.rt, name);
+    }
+
+    fn write(&self, name: &str, bytes: &[u8]) -> Result<(), Unread> {
+        if fs::symlink_metadata(self.rt, name).is_ok_and(|old| !old.is_file()) {
+            return Ok(fs::write(self.rt, name, bytes)?);
+        }
+        let mut beside = String::from_str(self.rt.alloc(), name).map_err(io::Error::from)?;
+        Ok(write_beside(self.rt, name, &mut beside, bytes)?)
+    }
+}
+
+/// Writes a file beside another, which then takes its name; or else it is removed.
+fn write_beside<R: Files>(rt: &R, name: &str, beside: &mut String, bytes: &[u8]) -> io::Result<()> {
+    let mut file = open_beside(rt, beside)?;
+    let replaced = replace(rt, name, beside.as_str(), &mut file, bytes);
+    if replaced.is_err() {
+        let _ = fs::remove_file(rt, beside.as_str());
+    }
+    replaced
+}
+
+/// Makes a new file whose name is that of another with `.new` behind it, or with more of these where that is taken.
+fn open_beside<R: Files>(rt: &R, name: &mut String) -> io::Result<R::File> {
+    for _ in 0..16 {
+        name.push_str(".new")?;
+        match File::create_new(rt, name.as_str()) {
+            Err(error) if error.kind() == ErrorKind::AlreadyExists => {}
+            opened => return opened,
+        }
+    }
+    Err(io::Error::from(ErrorKind::AlreadyExists))
+}
+
+/// Writes a new file, which then takes the name of another, unless that may not be written.
+fn replace<R: Files>(
+    rt: &R,
+    name: &str,
+    beside: &str,
+    file: &mut R::File,
+    bytes: &[u8],
+) -> io::Result<()> {
+    if let Ok(old) = fs::metadata(rt, name) {
+        if old.permissions().readonly() {
+            return Err(io::Error::from(ErrorKind::PermissionDenied));
+        }
+        let _ = fs::set_permissions(rt, beside, old.permissions());
+    }
+    file.write_all(bytes)?;
+    file.sync_all()?;
+    fs::rename(rt, beside, name)
+}
+
+/// The paths of names in a folder, each with a zero behind it.
+fn paths_in<R: Files + AllocGlobal>(rt: &R, folder: &str, names: &[u8]) -> io::Result<Vec<String>> {
+    let mut paths = Vec::new(rt.alloc());
+    for name in names.split(|byte| *byte == 0) {
+        if !name.is_empty() && !name.starts_with(b".") {
+            add_path(rt, &mut paths, path_in(rt.alloc(), folder, name)?)?;
+        }
+    }
+    Ok(paths)
+}
+
+/// Adds a path, unless it is that of a link that leads to no file.
+fn add_path<R: Files>(rt: &R, paths: &mut Vec<String>, path: String) -> io::Result<()> {
+    if !leads_nowhere(rt, path.as_str()) {
+        paths.push(path)?;
+    }
+    Ok(())
+}
+
+fn path_in(alloc: Global, folder: &str, name: &[u8]) -> io::Result<String> {
+    let slash = if folder.is_empty() || folder.ends_with('/') {
+        ""
+    } else {
+        "/"
+    };
+    let name = String::from_utf8_lossy(alloc, name)?;
+    Ok(format!(in alloc; "{folder}{slash}{name}")?)
+}
+
+/// Whether a path is that of a link that leads to no file.
+fn leads_nowhere<R: Files>(rt: &R, path: &str) -> bool {
+    fs::symlink_metadata(rt, path).is_ok_and(|link| link.is_symlink())
+        && !fs::metadata(rt, path).is_ok_and(|target| target.is_file())
 }
 
 fn read_open<F: Read + OpenFile + Drop>(alloc: Global, file: F) -> Result<Vec<u8>, Unread> {
     if file.metadata().is_ok_and(|metadata| metadata.is_dir()) {
         return Err(Unread::Because("Is a directory"));
     }
+    read_whole(alloc, file)
+}
+
+fn read_whole<F: Read + Drop>(alloc: Global, file: F) -> Result<Vec<u8>, Unread> {
     match read_all(alloc, &mut FromRead::new(file)) {
         Ok(bytes) => Ok(bytes),
         Err(Fault::Memory) => Err(Unread::Memory),
@@ -68,21 +217,15 @@ fn read_open<F: Read + OpenFile + Drop>(alloc: Global, file: F) -> Result<Vec<u8
     }
 }
 
-/// Why the system does not open a file, in its own words.
+/// Why the system does not give or take a file, in its own words.
 fn reason_of(kind: ErrorKind) -> &'static str {
     match kind {
-        ErrorKind::NotFound => "No such file or directory",
         ErrorKind::PermissionDenied => "Permission denied",
         ErrorKind::NotADirectory => "Not a directory",
+        ErrorKind::IsADirectory => "Is a directory",
+        ErrorKind::AlreadyExists => "File exists",
+        ErrorKind::StorageFull => "No space left on device",
+        ErrorKind::ReadOnlyFilesystem => "Read-only file system",
         _ => "the system refuses it",
-    }
-}
-
-/// Removes the half of a file that could not be written whole. What is no regular file, as a terminal or a pipe, stays.
-fn remove_half<R: Files>(rt: &R, name: &str, file: &R::File) {
-    if let Ok(metadata) = file.metadata() {
-        if metadata.is_file() {
-            let _ = fs::remove_file(rt, name);
-        }
     }
 }

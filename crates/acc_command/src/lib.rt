@@ -1,17 +1,17 @@
-//! The program `accrun` but for its streams: the words and options of its command line, what it does for them, and how
-//! it ends.
+//! The program `accrun` but for its streams and words: what it does for the options of its command line, and how it
+//! ends.
 #![tactic(auto)]
 
 mod drills;
+mod emissions;
 mod endings;
 mod file_stores;
-mod options;
+mod paths;
 mod picture_files;
 mod programs;
+mod suites;
 mod tools;
-mod words;
 
-pub use endings::tell;
+pub use acc_lines::{Terminals, tell};
 pub use file_stores::{Disk, FileStore, Unread};
-pub use tools::{CLEAN, FAULTED, REFUSED, tell_words, tool};
-pub use words::{WordsFault, read_words};
+pub use tools::{CLEAN, FAULTED, REFUSED, tool};

@@ -1,17 +1,23 @@
 //! The files that pictures become.
 
-use crate::file_stores::FileStore;
+use crate::file_stores::{FileStore, Unread};
 use acc_base::Fault;
-use acc_follow::{Frame, Page, PictureSink, Stop};
+use acc_follow::{Frame, Page, PictureSink, Stop, Unkept};
+use acc_lines::Keeper;
+use acc_options::statements;
 use std::alloc::Global;
+use std::cell::Cell;
+use std::fmt::Write;
 
 /// Keeps pictures as files of these names.
 #[derive(Clone, Copy)]
-pub struct PictureFiles<'a, 'b, D> {
+pub struct PictureFiles<'a, D> {
     /// Where the files are.
-    pub files: &'b D,
+    pub files: &'a D,
     /// The allocator.
     pub alloc: Global,
+    /// The file of the script, if there is one.
+    pub file: Option<&'a str>,
     /// The file of the picture at the end, if there is one.
     pub last: Option<&'a str>,
     /// The file of the pictures behind directives, without the number of the line.
@@ -20,31 +26,82 @@ pub struct PictureFiles<'a, 'b, D> {
     pub page: Option<&'a str>,
 }
 
-impl<D: FileStore> PictureSink for PictureFiles<'_, '_, D> {
+impl<D: FileStore> PictureSink for PictureFiles<'_, D> {
     fn keep(&self, frame: Frame, picture: &[u8]) -> Result<(), Stop> {
-        let is_written = match frame {
+        let written = match frame {
             Frame::Last => self.files.write(self.last.unwrap_or(""), picture),
             Frame::Line(number) => self.write_numbered(number, picture)?,
             Frame::Each => self.files.write(self.page.unwrap_or(""), picture),
         };
-        if is_written {
-            Ok(())
-        } else {
-            Err(Stop::Picture(frame))
+        match written {
+            Ok(()) => Ok(()),
+            Err(unread) => Err(Stop::Picture(Unkept {
+                frame,
+                reason: unread.reason()?,
+            })),
         }
     }
 }
 
-impl<D: FileStore> PictureFiles<'_, '_, D> {
-    fn write_numbered(&self, number: u64, picture: &[u8]) -> Result<bool, Fault> {
-        let mut page = Page::new(self.alloc);
-        put_numbered(&mut page, self.each.unwrap_or(""), number);
-        let name = page.whole()?;
-        Ok(str::from_utf8(name).is_ok_and(|name| self.files.write(name, picture)))
+impl<D: FileStore> Keeper for PictureFiles<'_, D> {
+    fn file(&self) -> Option<&str> {
+        self.file
+    }
+
+    fn help(&self) -> &str {
+        statements()
+    }
+
+    fn save(&self, name: &str, script: &[u8]) -> Result<(), &'static str> {
+        match self.files.write(name, script) {
+            Ok(()) => Ok(()),
+            Err(unread) => Err(unread.reason().unwrap_or("there is no memory")),
+        }
     }
 }
 
-/// Puts the name of a file with a number before its ending: `life.7.svg` for `life.svg` and 7.
+impl<D: FileStore> PictureFiles<'_, D> {
+    fn write_numbered(&self, number: u64, picture: &[u8]) -> Result<Result<(), Unread>, Fault> {
+        let mut page = Page::new(self.alloc);
+        put_numbered(&mut page, self.each.unwrap_or(""), number);
+        // The name is that of the command line, with a number.
+        let name = str::from_utf8(page.whole()?).unwrap_or("");
+        Ok(self.files.write(name, picture))
+    }
+}
+
+/// A store whose file `-` is standard output. What is written there is held, for whoever runs the script.
+#[derive(Drop)]
+pub struct Shown<'a, D> {
+    /// The other files.
+    pub files: &'a D,
+    /// The allocator.
+    pub alloc: Global,
+    /// What was written to standard output.
+    pub held: Cell<Option<Vec<u8>>>,
+}
+
+impl<D: FileStore> FileStore for Shown<'_, D> {
+    fn read(&self, name: &str) -> Result<Vec<u8>, Unread> {
+        self.files.read(name)
+    }
+
+    fn write(&self, name: &str, bytes: &[u8]) -> Result<(), Unread> {
+        if name != "-" {
+            return self.files.write(name, bytes);
+        }
+        match Vec::from_slice(self.alloc, bytes) {
+            Ok(copy) => {
+                self.held.set(Some(copy));
+                Ok(())
+            }
+            Err(_) => Err(Unread::Memory),
+        }
+    }
+}
+
+/// Puts the name of a file with a number before its ending: `life.000007.svg` for `life.svg` and 7, so that names are in
+/// the order of lines.
 pub fn put_numbered(page: &mut Page, name: &str, number: u64) {
     match name.rsplit_once('.') {
         Some((stem, ending)) if !ending.contains('/') => {
@@ -59,5 +116,5 @@ pub fn put_numbered(page: &mut Page, name: &str, number: u64) {
 fn put_stem(page: &mut Page, stem: &str, number: u64) {
     page.text(stem);
     page.text(".");
-    page.number(number);
+    let _ = write!(page, "{number:06}");
 }

@@ -1,34 +1,16 @@
-//! What is written in place of what a script prints: the script as a program, a script by chance, and which rows of the
-//! clause tables scripts reach.
+//! What is written in place of what a script prints: a script by chance, and which rows of the clause tables scripts
+//! reach.
 
 use crate::endings::Mishap;
 use crate::file_stores::FileStore;
-use crate::options::Options;
-use crate::tools::read_file;
+use crate::tools::{Ends, limits, options_for, read_file};
 use acc_base::{Config, Fault};
-use acc_emit::emit;
 use acc_follow::{Page, RowCounts, count_rows};
+use acc_options::Options;
 use acc_random::random_script;
-use acc_script::{Sink, Source, Status, read_all, write_all};
+use acc_script::{Sink, Status, write_all};
 use std::sync::Wait;
 use std::thread::Threads;
-
-/// Reads the script and writes it as a program in C.
-///
-/// # Errors
-///
-/// Those of [`read_all`] and [`emit`]; [`Fault::Write`] where the sink fails. Before that nothing is written.
-pub fn emit_script<'a, R: Threads + Wait + Sync + AllocGlobal, S: Source, O: Sink>(
-    rt: &R,
-    options: Options<'_>,
-    config: Config,
-    reader: &mut S,
-    out: &mut O,
-) -> Result<Status, Mishap<'a>> {
-    let script = read_all(rt.alloc(), reader)?;
-    let page = emit(rt, config, &script, options.until_refusal)?;
-    write_page(out, &page)
-}
 
 /// Writes the script of a seed with so many statements.
 ///
@@ -46,32 +28,37 @@ pub fn write_random<'a, R: Threads + Wait + Sync + AllocGlobal, O: Sink>(
     write_page(out, &script)
 }
 
-/// Writes how often the scripts of some files reached each row of the clause tables; [`Status::Refused`] where one is
-/// reached by none.
+/// Writes how often the scripts of some files, with the options of their first lines, reached each row of the clause
+/// tables; [`Status::Refused`] where one is reached by none.
 ///
 /// # Errors
 ///
 /// A file that cannot be read, or the fault of the first script that has one; [`Fault::Write`] where the sink fails.
 /// Before that nothing is written.
-pub fn write_rows<'a, R: Threads + Wait + Sync + AllocGlobal, D: FileStore, O: Sink>(
+pub fn write_rows<'a, R: Threads + Wait + Sync + AllocGlobal, O: Sink, E: Sink, D: FileStore>(
     rt: &R,
-    config: Config,
-    names: &'a [&'a str],
-    files: &D,
-    out: &mut O,
+    options: Options<'a>,
+    ends: Ends<'_, O, E, D>,
 ) -> Result<Status, Mishap<'a>> {
     let mut rows = RowCounts::new(rt.alloc());
-    for name in names {
-        let script = read_file(files, name)?;
+    for name in options.rows {
+        let script = read_file(ends.files, name)?;
+        let options = options_for(rt.alloc(), options, name, &script, ends.told)?;
+        let config = limits(options)?;
         rows = count_rows(rt, config, &script, rows).map_err(|fault| Mishap::Within(name, fault))?;
     }
     let mut page = Page::new(rt.alloc());
     let is_complete = rows.put(&mut page);
-    let status = write_page(out, &page)?;
+    let status = write_page(ends.out, &page)?;
     Ok(if is_complete { status } else { Status::Refused })
 }
 
-fn write_page<'a, O: Sink>(out: &mut O, page: &Page) -> Result<Status, Mishap<'a>> {
+/// Writes a page.
+///
+/// # Errors
+///
+/// [`Fault::Memory`] where the page had none; [`Fault::Write`] where the sink fails.
+pub fn write_page<'a, O: Sink>(out: &mut O, page: &Page) -> Result<Status, Mishap<'a>> {
     if write_all(out, page.whole()?) {
         Ok(Status::Clean)
     } else {

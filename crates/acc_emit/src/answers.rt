@@ -6,6 +6,7 @@ use crate::marks::Marks;
 use crate::pointers::{POINTER_LEN, bytes_at, is_attached, pointer_section};
 use crate::sheets::Sheet;
 use crate::twins::DEVICE;
+use crate::wanted::put_literal;
 use acc_base::{Fault, HOST_BASE, Section};
 use acc_read::next_line;
 use acc_script::{Effect, MemorySink, write_effect};
@@ -31,18 +32,34 @@ pub fn emit_bytes(
         twin,
         marks,
         sheet,
+        wanted,
         ..
     } = emitter;
     start_question(sheet, if on_device { "peek" } else { "show" }, section)?;
     put_length(sheet, section.len);
+    sheet.need(section.len);
     let bytes = bytes_at(&own.table, section, on_device);
     let others = bytes_at(&twin.table, section, on_device);
     let (Some(bytes), Some(others)) = (bytes, others) else {
-        sheet.body.text(", \"none\");\n");
+        put_answer(sheet, wanted.line().unwrap_or(b"none"));
         return Ok(());
     };
-    put_bytes(sheet, marks, section, bytes, others);
-    put_pointers(sheet, marks, &own.table, section, on_device)
+    match wanted.line() {
+        Some(line) if !is_of_bytes(line, section.len) => {
+            put_answer(sheet, line);
+            Ok(())
+        }
+        line => {
+            put_bytes(sheet, marks, section, bytes, others, line);
+            put_pointers(sheet, marks, &own.table, section, on_device)
+        }
+    }
+}
+
+/// Whether a line has two digits for each of so many bytes, where `?` is any digit.
+fn is_of_bytes(line: &[u8], count: u64) -> bool {
+    let is_digit = |byte: &u8| byte.is_ascii_hexdigit() || *byte == b'?';
+    line.len() as u64 == count.saturating_mul(2) && line.iter().all(is_digit)
 }
 
 /// Emits a question for the presence of a section.
@@ -52,26 +69,44 @@ pub fn emit_bytes(
 /// `OutsideArray` where no one array has the section.
 pub fn emit_present(emitter: &mut Emitter, section: Section) -> Result<(), EmitFault> {
     let is_present = emitter.own.table.is_present(DEVICE, section);
-    let sheet = &mut emitter.sheet;
+    let Emitter { sheet, wanted, .. } = emitter;
     start_question(sheet, "present", section)?;
     put_length(sheet, section.len);
-    let word = if is_present { "yes" } else { "no" };
-    let _ = writeln!(sheet.body, ", \"{word}\");");
+    let word: &[u8] = if is_present { b"yes" } else { b"no" };
+    put_answer(sheet, wanted.line().unwrap_or(word));
     Ok(())
 }
 
-/// Puts the bytes that have to come, and that the twin has too. A byte that is not compared is `??`.
-fn put_bytes(sheet: &mut Sheet, marks: &Marks, section: Section, bytes: &[u8], others: &[u8]) {
-    sheet.need(section.len);
+/// Puts the line that has to come, and ends the question.
+fn put_answer(sheet: &mut Sheet, line: &[u8]) {
+    sheet.body.text(", \"");
+    put_literal(&mut sheet.body, line);
+    sheet.body.text("\");\n");
+}
+
+/// Puts the bytes that have to come, and that the twin has too: those of the line that is given, if one is. A byte that is
+/// not compared is `??`.
+fn put_bytes(
+    sheet: &mut Sheet,
+    marks: &Marks,
+    section: Section,
+    bytes: &[u8],
+    others: &[u8],
+    line: Option<&[u8]>,
+) {
     for (at, (byte, other)) in bytes.iter().zip(others).enumerate() {
+        let from = at.saturating_mul(2);
+        let digits = line.and_then(|line| line.get(from..from.saturating_add(2)));
         let at = at as u64;
         if at % BYTES_ON_LINE == 0 {
             put_break(sheet, at == 0);
         }
-        if *byte == *other && !marks.is_open(section.start.saturating_add(at)) {
-            sheet.body.digits(&[*byte]);
-        } else {
+        if *byte != *other || marks.is_open(section.start.saturating_add(at)) {
             sheet.body.text("??");
+        } else if let Some(digits) = digits {
+            put_literal(&mut sheet.body, digits);
+        } else {
+            sheet.body.digits(&[*byte]);
         }
     }
     sheet.body.text("\");\n");

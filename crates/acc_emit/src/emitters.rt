@@ -5,6 +5,7 @@ use crate::marks::Marks;
 use crate::regions::NestedRegion;
 use crate::sheets::Sheet;
 use crate::twins::{boxed_session, twin_of};
+use crate::wanted::Wanted;
 use acc_base::{Config, Section};
 use acc_script::Session;
 use std::sync::Wait;
@@ -25,10 +26,12 @@ pub struct Emitter {
     pub births: Vec<Section>,
     /// The open regions, the innermost last.
     pub regions: Vec<NestedRegion>,
+    /// The output that it has to have.
+    pub wanted: Wanted,
 }
 
 impl Emitter {
-    /// Returns new tables of these limits, and an empty program.
+    /// Returns new tables of these limits, and an empty program, which has to have the output that is given.
     ///
     /// # Errors
     ///
@@ -36,6 +39,7 @@ impl Emitter {
     pub fn new<R: Threads + Wait + Sync + AllocGlobal>(
         rt: &R,
         config: Config,
+        output: Option<&[u8]>,
     ) -> Result<Emitter, EmitFault> {
         let alloc = rt.alloc();
         Ok(Emitter {
@@ -45,6 +49,7 @@ impl Emitter {
             sheet: Sheet::new(alloc),
             births: Vec::new(alloc),
             regions: Vec::new(alloc),
+            wanted: Wanted::new(alloc, output)?,
         })
     }
 }

@@ -7,6 +7,7 @@ use crate::faults::{EmitFault, Reason};
 use crate::refusals::emit_refused;
 use crate::sheets::Sheet;
 use crate::twins::{DEVICE, follow_on_twin, read_on};
+use crate::wanted::pass_wanted;
 use crate::writes::{declare, emit_kernel, emit_write};
 use acc_base::{Config, Fault, ScriptFault, Section};
 use acc_read::{Page, Statement, next_line, statement_text};
@@ -15,33 +16,34 @@ use std::alloc::Global;
 use std::sync::Wait;
 use std::thread::Threads;
 
+/// What a program is made of.
+#[derive(Clone, Copy)]
+pub struct Origin<'a> {
+    /// The name of the script, if it has one.
+    pub name: Option<&'a str>,
+    /// The script.
+    pub script: &'a [u8],
+    /// The output that it has to have; `None` for that which the table gives.
+    pub output: Option<&'a [u8]>,
+    /// Whether the program ends with the first directive that is refused, and has to fail there.
+    pub until_refusal: bool,
+}
+
 /// Returns a script as a C program with OpenACC 3.3 directives, which prints what the script prints and compares it.
-/// Its tables have these limits.
-///
-/// With `until_refusal` the program ends with the first directive that is refused, and has to fail there.
+/// Its tables have these limits. The program begins with the name of the script and its first comments.
 ///
 /// # Errors
 ///
 /// [`EmitFault::Run`] for a fault of the script or lack of memory; [`EmitFault::Line`] at the first line that a program
-/// in C cannot have.
+/// in C cannot have, or for which the output has no line.
 pub fn emit<R: Threads + Wait + Sync + AllocGlobal>(
     rt: &R,
     config: Config,
-    script: &[u8],
-    until_refusal: bool,
+    origin: Origin<'_>,
 ) -> Result<Page, EmitFault> {
-    let mut emitter = Emitter::new(rt, config)?;
-    emit_whole(rt, &mut emitter, script, until_refusal)
-}
-
-fn emit_whole<R: Threads + Wait + Sync + AllocGlobal>(
-    rt: &R,
-    emitter: &mut Emitter,
-    script: &[u8],
-    until_refusal: bool,
-) -> Result<Page, EmitFault> {
-    emit_lines(rt, emitter, script, until_refusal)?;
-    Ok(emitter.sheet.whole(rt.alloc())?)
+    let mut emitter = Emitter::new(rt, config, origin.output)?;
+    emit_lines(rt, &mut emitter, origin.script, origin.until_refusal)?;
+    Ok(emitter.sheet.whole(rt.alloc(), origin.name, origin.script)?)
 }
 
 fn emit_lines<R: Threads + Wait + Sync + AllocGlobal>(
@@ -75,6 +77,9 @@ fn end_at(emitter: &mut Emitter, until_refusal: bool) -> Result<(), EmitFault> {
     if until_refusal {
         return Err(emitter.sheet.unfit(Reason::NothingRefused));
     }
+    if emitter.wanted.goes_on() {
+        return Err(emitter.sheet.unfit(Reason::OutputGoesOn));
+    }
     Ok(())
 }
 
@@ -88,6 +93,7 @@ fn emit_line<R: Threads + Wait + Sync + AllocGlobal>(
     let effect = perform(rt, emitter, line)?;
     put_statement(&mut emitter.sheet, line);
     let again = read_on(rt.alloc(), &emitter.twin, emitter.sheet.line, line)?;
+    pass_wanted(rt.alloc(), emitter, effect)?;
     match effect {
         Effect::Refused(fault) => emit_refused(rt.alloc(), emitter, &again, fault, until_refusal),
         _ => emit_done(rt, emitter, line, again, effect),

@@ -22,6 +22,10 @@ pub enum Reason {
     OtherDevice,
     /// A program up to the first refusal is asked for, and no statement is refused.
     NothingRefused,
+    /// The output that is given has fewer lines than the script prints.
+    OutputEnds,
+    /// It has more.
+    OutputGoesOn,
 }
 
 impl Reason {
@@ -36,6 +40,8 @@ impl Reason {
             Reason::AttachedCopied => "a copy has an attached pointer, which OpenACC leaves open",
             Reason::OtherDevice => "a program has device 0 alone",
             Reason::NothingRefused => "no statement was refused",
+            Reason::OutputEnds => "the given output has no line for it",
+            Reason::OutputGoesOn => "the given output has more lines than the script prints",
         }
     }
 }

@@ -24,10 +24,32 @@ pub const HEAD: &str =
 
 "#;
 
-/// The functions of each program.
-pub const FUNCTIONS: &str = r#"
-/* Room for the bytes of the longest section that is looked at, and for their digits. */
+/// What the statements of each program use.
+pub const DECLARATIONS: &str = r#"
+/* Room for the bytes of the longest section that is looked at. */
 static unsigned char bytes[LONGEST];
+
+static inline void show(int line, const unsigned char *at, size_t length, const char *expected);
+static inline void peek(int line, unsigned char *at, size_t length, const char *expected);
+static inline void show_pointer(int line, const unsigned char *at, const void *address);
+static inline void peek_pointer(int line, unsigned char *at, const void *address);
+static inline void present(int line, unsigned char *at, size_t length, const char *expected);
+static inline void point(unsigned char *at, void *to);
+static inline void fill_with_zero(unsigned char *at, size_t length);
+static inline void expect_failure(void);
+static inline void no_failure(int line);
+static inline void ask_for_discrete_device(void);
+
+int main(void)
+{
+    ask_for_discrete_device();
+"#;
+
+/// What stands behind the statements: the end of `main`, and the functions that it calls.
+pub const FUNCTIONS: &str = r#"    return 0;
+}
+
+/* What came, as digits or a word. */
 static char came[2 * LONGEST + 8];
 
 /* Whether a digit that came is the expected one; ? stands for any. */
@@ -161,11 +183,4 @@ static inline void ask_for_discrete_device(void)
         exit(77);
     }
 }
-
-int main(void)
-{
-    ask_for_discrete_device();
 "#;
-
-/// The end of each program.
-pub const TAIL: &str = "    return 0;\n}\n";

@@ -13,6 +13,7 @@ mod faults;
 mod harness;
 mod items;
 mod kernels;
+mod kits;
 mod marks;
 mod pointers;
 mod refusals;
@@ -20,7 +21,9 @@ mod regions;
 mod sheets;
 mod twins;
 mod waits;
+mod wanted;
 mod writes;
 
-pub use emitting::emit;
+pub use emitting::{Origin, emit};
 pub use faults::{EmitFault, Reason};
+pub use kits::{CHECK, MAKEFILE};

@@ -2,9 +2,10 @@
 
 use crate::faults::{EmitFault, Reason};
 use acc_base::{Fault, Section};
-use acc_read::{Names, Page, Spot};
+use acc_read::{Names, Page, Spot, next_line};
 use std::alloc::Global;
 use std::fmt::Write;
+use std::slice;
 
 /// How many nested blocks are indented.
 const SET_IN: u64 = 16;
@@ -128,21 +129,52 @@ impl Sheet {
         Ok(())
     }
 
-    /// Returns the whole program, once all lines are emitted.
+    /// Returns the whole program of a script, once all lines are emitted. It begins with the name of the script, if it
+    /// has one, and the comments at its front.
     ///
     /// # Errors
     ///
     /// [`Fault::Memory`] alone.
-    pub fn whole(&self, alloc: Global) -> Result<Page, Fault> {
+    pub fn whole(&self, alloc: Global, name: Option<&str>, script: &[u8]) -> Result<Page, Fault> {
         let mut page = Page::new(alloc);
+        put_title(&mut page, name, script);
         page.text(crate::harness::HEAD);
         page.bytes(self.head.whole()?);
         let _ = writeln!(page, "\n#define LONGEST {}", self.longest);
-        page.text(crate::harness::FUNCTIONS);
+        page.text(crate::harness::DECLARATIONS);
         page.bytes(self.body.whole()?);
-        page.text(crate::harness::TAIL);
+        page.text(crate::harness::FUNCTIONS);
         Ok(page)
     }
+}
+
+fn put_title(page: &mut Page, name: Option<&str>, script: &[u8]) {
+    if let Some(name) = name {
+        put_remark(page, name.as_bytes());
+    }
+    let mut rest = script;
+    for _ in 0..script.len() {
+        if !rest.starts_with(b"#") {
+            break;
+        }
+        let (line, after) = next_line(rest);
+        put_remark(page, line.get(1..).unwrap_or(&[]).trim_ascii());
+        rest = after;
+    }
+}
+
+/// Puts a comment of C. A blank stands in what would begin or end one within it.
+fn put_remark(page: &mut Page, text: &[u8]) {
+    page.text("/* ");
+    let mut last = b' ';
+    for byte in text {
+        if matches!((last, *byte), (b'*', b'/') | (b'/', b'*')) {
+            page.text(" ");
+        }
+        page.bytes(slice::from_ref(byte));
+        last = *byte;
+    }
+    page.text(" */\n");
 }
 
 fn spot_of(names: &Names, line: u64, section: Section) -> Result<Spot<'_>, EmitFault> {

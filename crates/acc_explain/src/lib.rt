@@ -13,7 +13,9 @@ mod sentences;
 mod sources;
 mod tokens;
 mod wanted;
+mod warnings;
 
 pub use faults::{explain_fault, explain_unclosed, fault_column};
 pub use hints::{is_pragma, warn_of_pragma};
 pub use refusals::explain_refusal;
+pub use warnings::warnings_of;

@@ -20,6 +20,8 @@ pub struct Copier<'a, O, X> {
     pub echo: bool,
     /// Whether a report is an object of JSON.
     pub json: bool,
+    /// For each line that was copied the number of the line that printed it.
+    pub lines: &'a mut Vec<u64>,
     /// How many bytes of what was printed are copied.
     pub copied: usize,
     /// Why nothing more is copied; `None` while copies go on.
@@ -29,6 +31,7 @@ pub struct Copier<'a, O, X> {
 impl<O: Sink, X: Watcher<O>> Copier<'_, O, X> {
     fn copy(
         &mut self,
+        number: u64,
         line: &[u8],
         table: &Table,
         effect: Effect,
@@ -44,11 +47,20 @@ impl<O: Sink, X: Watcher<O>> Copier<'_, O, X> {
             page.bytes(printed.get(self.copied..).unwrap_or(&[]));
         }
         self.copied = printed.len();
+        self.note(number, page.as_slice())?;
         if write_all(self.out, page.whole()?) {
             Ok(())
         } else {
             Err(Fault::Write)
         }
+    }
+
+    /// Keeps the number of the line that printed some lines, for each of these.
+    fn note(&mut self, number: u64, printed: &[u8]) -> Result<(), Fault> {
+        for _ in printed.iter().filter(|byte| **byte == b'\n') {
+            self.lines.push(number)?;
+        }
+        Ok(())
     }
 }
 
@@ -67,7 +79,7 @@ impl<O: Sink, X: Watcher<O>> Watcher<MemorySink> for Copier<'_, O, X> {
     ) {
         if self.failed.is_none() {
             self.failed = self
-                .copy(line, &session.table, effect, writer.as_slice())
+                .copy(number, line, &session.table, effect, writer.as_slice())
                 .err();
         }
         if self.failed.is_none() {

@@ -34,6 +34,8 @@ pub struct Views {
     pub pictures: bool,
     /// A page that shows the script step by step.
     pub page: bool,
+    /// Which line printed what ([`Beside::lines`]).
+    pub lines: bool,
 }
 
 impl Views {
@@ -70,6 +72,8 @@ pub struct Beside<'a, E, G> {
     pub reason: &'a mut Page,
     /// Gets the column of what is wrong in that line, from 1 on.
     pub column: &'a mut u64,
+    /// Gets for each line of the output the number of the line that printed it, where that is asked for.
+    pub lines: &'a mut Vec<u64>,
 }
 
 /// Runs a whole script as [`run`] does, and shows more of it.
@@ -87,28 +91,10 @@ pub fn follow<R: Threads + Wait + Sync + AllocGlobal, S: Source, O: Sink, E: Sin
 ) -> Result<Status, Stop>
     requires { (1 ≤ setting.parts) × (setting.parts ≤ 64) }
 {
-    let Beside {
-        err,
-        pictures,
-        reason,
-        column,
-    } = beside;
-    let mut follower = Follower {
-        alloc: rt.alloc(),
-        views: setting.views,
-        err,
-        pictures,
-        reason,
-        column,
-        names: Names::new(rt.alloc()),
-        log: Log::new(rt.alloc()),
-        entries: Vec::new(rt.alloc()),
-        timeline: Timeline::new(rt.alloc()),
-        drawn: 0,
-        stop: None,
-    };
-    let ending = if setting.views.echo || setting.views.json {
-        run_copied(rt, setting, reader, out, &mut follower)
+    let mut follower = Follower::new(rt.alloc(), setting.views, beside);
+    let mut lines = Vec::new(rt.alloc());
+    let ending = if setting.views.echo || setting.views.json || setting.views.lines {
+        run_copied(rt, setting, reader, out, &mut lines, &mut follower)
     } else {
         run(
             rt,
@@ -119,8 +105,8 @@ pub fn follow<R: Threads + Wait + Sync + AllocGlobal, S: Source, O: Sink, E: Sin
             &mut follower,
         )
     };
-    let told = follower.write_told(out);
-    follower.ended(ending, told)
+    *follower.lines = lines;
+    follower.ended(out, ending)
 }
 
 /// Runs a script into memory, and copies what it prints.
@@ -129,6 +115,7 @@ fn run_copied<R: Threads + Wait + Sync + AllocGlobal, S: Source, O: Sink, X: Wat
     setting: Setting,
     reader: &mut S,
     out: &mut O,
+    lines: &mut Vec<u64>,
     watcher: &mut X,
 ) -> Result<Status, Fault>
     requires { (1 ≤ setting.parts) × (setting.parts ≤ 64) }
@@ -140,6 +127,7 @@ fn run_copied<R: Threads + Wait + Sync + AllocGlobal, S: Source, O: Sink, X: Wat
         alloc: rt.alloc(),
         echo: setting.views.echo,
         json: setting.views.json,
+        lines,
         copied: 0,
         failed: None,
     };
@@ -159,14 +147,21 @@ fn run_copied<R: Threads + Wait + Sync + AllocGlobal, S: Source, O: Sink, X: Wat
     }
 }
 
+/// Watches a run, and shows more of it.
 #[derive(Drop)]
-struct Follower<'a, E, G> {
+pub struct Follower<'a, E, G> {
     alloc: Global,
     views: Views,
-    err: &'a mut E,
-    pictures: &'a G,
+    /// As in [`Beside`], with those that follow.
+    pub err: &'a mut E,
+    /// Keeps the pictures.
+    pub pictures: &'a G,
     reason: &'a mut Page,
-    column: &'a mut u64,
+    /// Gets the column of what is wrong in it.
+    pub column: &'a mut u64,
+    lines: &'a mut Vec<u64>,
+    /// Whether it writes nothing.
+    pub is_silent: bool,
     names: Names,
     log: Log,
     /// The lines whose data regions are open, the innermost last.
@@ -177,6 +172,37 @@ struct Follower<'a, E, G> {
     drawn: usize,
     /// Why nothing more is shown.
     stop: Option<Stop>,
+}
+
+impl<'a, E, G> Follower<'a, E, G> {
+    /// Returns a follower of no line.
+    pub fn new(alloc: Global, views: Views, beside: Beside<'a, E, G>) -> Follower<'a, E, G> {
+        Follower {
+            alloc,
+            views,
+            err: beside.err,
+            pictures: beside.pictures,
+            reason: beside.reason,
+            column: beside.column,
+            lines: beside.lines,
+            is_silent: false,
+            names: Names::new(alloc),
+            log: Log::new(alloc),
+            entries: Vec::new(alloc),
+            timeline: Timeline::new(alloc),
+            drawn: 0,
+            stop: None,
+        }
+    }
+
+    /// Forgets the lines so far.
+    pub fn forget(&mut self) {
+        self.names = Names::new(self.alloc);
+        self.log = Log::new(self.alloc);
+        self.entries.clear();
+        self.timeline = Timeline::new(self.alloc);
+        self.drawn = 0;
+    }
 }
 
 impl<O: Sink, E: Sink, G: PictureSink> Watcher<O> for Follower<'_, E, G> {
@@ -299,7 +325,9 @@ impl<E: Sink, G: PictureSink> Follower<'_, E, G> {
         if !out.flush() {
             return Err(Fault::Write);
         }
-        let _ = write_all(self.err, lines);
+        if !self.is_silent {
+            let _ = write_all(self.err, lines);
+        }
         self.log.page.clear();
         Ok(())
     }
@@ -335,9 +363,15 @@ impl<E: Sink, G: PictureSink> Follower<'_, E, G> {
         self.pictures.keep(Frame::Last, picture.whole()?)
     }
 
+    /// Writes why the last line at fault is, behind the fault itself.
+    pub fn tell_reason(&mut self) {
+        let _ = write_all(self.err, self.reason.as_slice());
+        self.reason.clear();
+    }
+
     /// Puts where and why a line is at fault. Where there is no memory, the reason is cut short, and the fault itself is
     /// still written.
-    fn give_reason(&mut self, ran: RanLine<'_>, kind: ScriptFault) {
+    pub fn give_reason(&mut self, ran: RanLine<'_>, kind: ScriptFault) {
         *self.column = fault_column(self.alloc, &ran.session.arrays, ran.line, kind);
         if self.views.explain {
             ran.explain_fault(self.reason, self.alloc, &self.entries, kind);
@@ -363,13 +397,18 @@ impl<E: Sink, G: PictureSink> Follower<'_, E, G> {
         self.pictures.keep(Frame::Each, page.whole()?)
     }
 
-    /// Returns why something could not be shown; else how the run ended, if by a fault; else whether the last lines
-    /// were written.
-    fn ended(
-        &self,
+    /// Writes the last lines. Returns why something could not be shown; else how the run ended, if by a fault; else
+    /// whether the last lines were written.
+    ///
+    /// # Errors
+    ///
+    /// Those of [`follow`].
+    pub fn ended<O: Sink>(
+        &mut self,
+        out: &mut O,
         ending: Result<Status, Fault>,
-        told: Result<(), Fault>,
     ) -> Result<Status, Stop> {
+        let told = self.write_told(out);
         if let Some(stop) = self.stop {
             return Err(stop);
         }

@@ -11,9 +11,12 @@ mod report_objects;
 mod row_counts;
 mod timelines;
 
+pub use acc_explain::warnings_of;
 pub use acc_log::RowCounts;
 pub use acc_read::Page;
+pub use copiers::Copier;
 pub use differences::{Difference, first_difference};
-pub use follows::{Beside, Setting, Views, follow};
-pub use picture_sinks::{Frame, PictureSink, Stop};
+pub use follows::{Beside, Follower, Setting, Views, follow};
+pub use picture_sinks::{Frame, PictureSink, Stop, Unkept};
+pub use ran_lines::RanLine;
 pub use row_counts::count_rows;

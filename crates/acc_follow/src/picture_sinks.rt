@@ -29,7 +29,16 @@ pub enum Stop {
     /// A fault of the run.
     Fault(Fault),
     /// A picture could not be kept.
-    Picture(Frame),
+    Picture(Unkept),
+}
+
+/// A picture that could not be kept.
+#[derive(Clone, Copy)]
+pub struct Unkept {
+    /// When it was made.
+    pub frame: Frame,
+    /// Why, in words.
+    pub reason: &'static str,
 }
 
 impl From<Fault> for Stop {

@@ -20,6 +20,7 @@ pub const PLAIN: Views = Views {
     picture: false,
     pictures: false,
     page: false,
+    lines: false,
 };
 
 /// Shows what each call did, and why lines are refused.
@@ -146,11 +147,13 @@ fn follow_text<R: Threads + Wait + Sync + AllocGlobal>(
     };
     let mut reader = MemorySource::new(text.as_bytes());
     let mut column = 0;
+    let mut lines = Vec::new(rt.alloc());
     let beside = Beside {
         err: &mut aside.err,
         pictures: &aside.album,
         reason: &mut aside.reason,
         column: &mut column,
+        lines: &mut lines,
     };
     match follow(rt, setting, &mut reader, out, beside) {
         Ok(Status::Clean) => Ok("clean\n"),

@@ -1,13 +1,14 @@
 //! What the program does over sources, sinks and files in memory: where one of them fails, where memory cannot grow, and
-//! with options that `tests/scripts` cannot show. How scripts end at limits that no option gives.
+//! with options that `tests/commands` cannot show. How scripts end at limits that no option gives.
 
-use acc_command::{FileStore, Unread, tool};
+use acc_command::{FileStore, Terminals, Unread, tool};
 use acc_script::{MemorySink, MemorySource, Sink, Source};
 use std::alloc::{AllocError, Global};
 use std::fmt::Debug;
 use std::process::Abort;
 use std::sync::Wait;
 use std::thread::Threads;
+use worked::SUITE;
 
 mod chances;
 mod command_lines;
@@ -16,6 +17,7 @@ mod growths;
 mod limits;
 mod pictures;
 mod streams;
+mod typed;
 mod worked;
 
 /// The options, a script, what it prints, and the status.
@@ -47,17 +49,27 @@ fn add_words(words: &mut Vec<String>, alloc: Global, text: &str) -> Result<(), A
     Ok(())
 }
 
-/// A store that has no file, and takes each as written.
+/// A store that has one script, `suite.acc`, and takes each file as written.
 #[derive(Drop)]
-struct NoFiles;
+struct OneScript {
+    /// The allocator.
+    alloc: Global,
+}
 
-impl FileStore for NoFiles {
-    fn read(&self, _name: &str) -> Result<Vec<u8>, Unread> {
-        Err(Unread::Because("there is none"))
+impl FileStore for OneScript {
+    fn read(&self, name: &str) -> Result<Vec<u8>, Unread> {
+        if name != "suite.acc" {
+            return Err(Unread::Absent);
+        }
+        let mut bytes = Vec::new(self.alloc);
+        match bytes.extend_from_slice(SUITE.as_bytes()) {
+            Ok(()) => Ok(bytes),
+            Err(_) => Err(Unread::Memory),
+        }
     }
 
-    fn write(&self, _name: &str, _bytes: &[u8]) -> bool {
-        true
+    fn write(&self, _name: &str, _bytes: &[u8]) -> Result<(), Unread> {
+        Ok(())
     }
 }
 
@@ -69,8 +81,21 @@ fn run_over<R: Threads + Wait + Sync + AllocGlobal, S: Source, O: Sink, E: Sink>
     out: &mut O,
     err: &mut E,
 ) -> Result<u8, AllocError> {
+    run_at(rt, options, Terminals::NONE, source, out, err)
+}
+
+/// The same where these streams are terminals.
+fn run_at<R: Threads + Wait + Sync + AllocGlobal, S: Source, O: Sink, E: Sink>(
+    rt: &R,
+    options: &str,
+    terminals: Terminals,
+    source: &mut S,
+    out: &mut O,
+    err: &mut E,
+) -> Result<u8, AllocError> {
     let words = words(rt.alloc(), options)?;
-    Ok(tool(rt, words, source, out, err, &NoFiles))
+    let files = OneScript { alloc: rt.alloc() };
+    Ok(tool(rt, words, terminals, source, out, err, &files))
 }
 
 /// Runs the program on a script in memory, and returns the status.

@@ -2,24 +2,55 @@
 //! output.
 #![tactic(auto)]
 
+mod colours;
+mod pipes;
+mod words;
+
 use acc_base::Fault;
-use acc_command::{Disk, FAULTED, read_words, tell, tell_words, tool};
+use acc_command::{Disk, FAULTED, Terminals, tell, tool};
 use acc_script::{FromRead, ToWrite};
-use std::io::BufWriter;
+use colours::are_wanted;
+use pipes::{Errors, Output};
+use std::cell::Cell;
+use std::io::{BufWriter, IsTerminal};
 use std::process::ExitCode;
+use words::{read_words, tell_words};
 
 fn main(rt: HostRuntime) -> ExitCode {
     let rt = &rt;
-    let mut err = ToWrite::new(rt.stderr());
+    let terminals = Terminals {
+        input: rt.stdin().is_terminal(),
+        errors: rt.stderr().is_terminal(),
+    };
+    let is_coloured = terminals.errors && are_wanted(rt);
+    let is_closed = Cell::new(false);
+    let mut err = ToWrite::new(Errors {
+        inner: rt.stderr(),
+        is_closed: &is_closed,
+        colours: is_coloured.then_some(rt.alloc()),
+    });
     let words = match read_words(rt) {
         Ok(words) => words,
         Err(fault) => return ExitCode::from(tell_words(&mut err, fault)),
     };
-    let Ok(stdout) = BufWriter::new(rt.alloc(), rt.stdout()) else {
+    let stdout = Output {
+        inner: rt.stdout(),
+        is_closed: &is_closed,
+    };
+    let Ok(stdout) = BufWriter::new(rt.alloc(), stdout) else {
         tell(&mut err, Fault::Memory);
         return ExitCode::from(FAULTED);
     };
     let mut reader = FromRead::new(rt.stdin());
     let mut out = ToWrite::new(stdout);
-    ExitCode::from(tool(rt, words, &mut reader, &mut out, &mut err, &Disk { rt }))
+    let files = Disk { rt };
+    ExitCode::from(tool(
+        rt,
+        words,
+        terminals,
+        &mut reader,
+        &mut out,
+        &mut err,
+        &files,
+    ))
 }

@@ -9,17 +9,17 @@ use std::thread::Threads;
 
 /// Command lines that are accepted, and a text that standard output has then for an empty script.
 const ACCEPTED: [(&str, &str); 4] = [
-    ("--help", "Usage: accrun [OPTIONS] [FILE]"),
+    ("--help", "Usage: accrun [OPTIONS] [FILE]..."),
     ("-h", "[possible values: counts, full]\n"),
     ("--emit c --threads 2 --host 64", "int main("),
     ("--random 1 --lines 1", "wait\nshow a\n"),
 ];
 
 /// Command lines that are refused, and a text that standard error has then.
-const REFUSED: [(&str, &str); 35] = [
+const REFUSED: [(&str, &str); 48] = [
     (
         "--expect - -",
-        "standard input cannot be both FILE and OUTPUT",
+        "standard input can be one of FILE and OUTPUT",
     ),
     (
         "--host 15",
@@ -44,7 +44,16 @@ const REFUSED: [(&str, &str); 35] = [
     ("--expect", "'--expect <OUTPUT>'"),
     ("--emit", "'--emit <LANGUAGE>'"),
     ("--emit d", "'d' for '--emit <LANGUAGE>'"),
-    ("--until-refusal", "--emit <LANGUAGE>"),
+    ("--until-refusal", "'--until-refusal' goes with '--emit'"),
+    ("- -", "standard input can be one of FILE and OUTPUT"),
+    ("life.acc --html life.acc", "'--html' would write over FILE"),
+    ("life.acc --out wall", "'--out' goes with '--emit' alone"),
+    ("--emit c --out wall", "'--out' wants FILEs or folders"),
+    (
+        "life.acc --emit c --out wall --expect life.out",
+        "and no '--expect'",
+    ),
+    ("--rows wall --until-refusal", "'--until-refusal' goes with"),
     (
         "--emit c --log",
         "'--emit <LANGUAGE>' cannot be used with '--log'",
@@ -58,7 +67,10 @@ const REFUSED: [(&str, &str); 35] = [
     ("life.acc --drill 1", "'--drill <ROUNDS>'"),
     ("--expect -", "[FILE]"),
     ("--svg", "'--svg <PICTURE>'"),
-    ("life.acc life.acc", "'life.acc'"),
+    (
+        "life.acc life.acc --svg wall.svg",
+        "'--svg' goes with one FILE",
+    ),
     ("--host", "'--host <BYTES>'"),
     ("--rows", "'--rows <FILE>...'"),
     ("--rows life.acc", "accrun: cannot read life.acc"),
@@ -71,7 +83,28 @@ const REFUSED: [(&str, &str); 35] = [
         "--random 1 --rows life.acc",
         "'--random <SEED>' cannot be used with '--rows <FILE>...'",
     ),
-    ("--lines 3", "--random <SEED>"),
+    ("--lines 3", "'--lines' goes with '--random' alone"),
+    ("life.acc --lines 3", "'--lines' goes with '--random'"),
+    ("--explain=some", "'some' for '--explain[=<WHEN>]'"),
+    (
+        "--random 1 --line",
+        "'--random <SEED>' cannot be used with '--line'",
+    ),
+    (
+        "--emit c --keep-going",
+        "'--emit <LANGUAGE>' cannot be used with '--keep-going'",
+    ),
+    ("--test", "'--test <PATH>...'"),
+    (
+        "--test wall --emit c",
+        "'--test <PATH>...' cannot be used with '--emit <LANGUAGE>'",
+    ),
+    ("--bless", "'--bless' goes with '--test' alone"),
+    ("life.acc --bless", "'--bless' goes with '--test'"),
+    ("--emit c --junit wall.xml", "'--junit' goes with '--test'"),
+    ("life.acc --jobs 2", "'--jobs' goes with '--test'"),
+    ("--random 1 --jobs 1", "'--jobs' goes with '--test'"),
+    ("--test wall --jobs 0", "'0' for '--jobs <N>'"),
     ("--random 1 --lines 0", "'0' for '--lines <N>'"),
 ];
 
@@ -113,13 +146,15 @@ fn command_lines_are_read(rt: HostRuntime) -> Result<(), Fail> {
 
 /// What the help has to name, with bars between the words.
 const HELP_WORDS: &str =
-    "[FILE]|--expect <OUTPUT>|--echo|--json|--log|--explain|--svg <PICTURE>|--svg-every <PICTURE>|--html <PAGE>|\
-    --version|--emit <LANGUAGE>|--until-refusal|--rows <FILE>|--random <SEED>|--lines <N>|--devices <N>|--threads <N>|--drill <ROUNDS>|\
+    "[FILE]|--test <PATH>|--bless|--junit <FILE>|--jobs <N>|--expect <OUTPUT>|--echo|--json|--log|--explain[=<WHEN>]|--line|\
+    --keep-going|--svg <PICTURE>|\
+    --svg-every <PICTURE>|--html <PAGE>|\
+    --version|--emit <LANGUAGE>|--out <FOLDER>|--until-refusal|--rows <FILE>|--random <SEED>|--lines <N>|--devices <N>|--threads <N>|--drill <ROUNDS>|\
     --trace <WHAT>|read whole|array NAME|write PLACE|point PLACE to PLACE|data CLAUSES|copy(REFS)|\
     copyin(REFS)|copyout(REFS)|create(REFS)|no_create(REFS)|present(REFS)|attach(PLACES)|end data|\
     enter data copyin(REFS)|enter data create(REFS)|enter data attach(PLACES)|exit data delete(REFS)|\
     exit data copyout(REFS)|exit data detach(PLACES)|finalize|update self(REFS)|update device(REFS)|\
-    wait, wait(QUEUE)|step(QUEUE)|set device_num(N)|async(QUEUE)|kernel add K REF|kernel xor K REF|\
+    undo|save FILE|history|wait, wait(QUEUE)|step(QUEUE)|set device_num(N)|async(QUEUE)|kernel add K REF|kernel xor K REF|\
     kernel number K REF|kernel plus REF REF|show REF|peek REF|present REF|address PLACE|report|\
     REF via PLACE";
 

@@ -1,12 +1,12 @@
 //! What pictures have, and which are made. Those of `docs/pictures` are compared whole; here stands what they lack.
 
 use super::{same, words};
-use acc_command::{FileStore, Unread, tool};
+use acc_command::{FileStore, Terminals, Unread, tool};
 use acc_script::{MemorySink, MemorySource};
 use std::alloc::AllocError;
-use std::cell::Cell;
 use std::process::Abort;
 use std::sync::Wait;
+use std::sync::atomic::{AtomicU64, Ordering};
 use std::test::Fail;
 use std::thread::Threads;
 
@@ -16,7 +16,7 @@ struct PictureStore {
     /// What a picture has to have.
     wanted: &'static [&'static str],
     /// How many pictures were written that have all of it.
-    pictures: Cell<u64>,
+    pictures: AtomicU64,
 }
 
 impl FileStore for PictureStore {
@@ -24,13 +24,13 @@ impl FileStore for PictureStore {
         Err(Unread::Because("there is none"))
     }
 
-    fn write(&self, name: &str, bytes: &[u8]) -> bool {
+    fn write(&self, name: &str, bytes: &[u8]) -> Result<(), Unread> {
         if let Ok(text) = str::from_utf8(bytes) {
             if self.wanted.iter().all(|part| has_part(name, text, part)) {
-                self.pictures.set(self.pictures.get().saturating_add(1));
+                self.pictures.fetch_add(1, Ordering::SeqCst);
             }
         }
-        true
+        Ok(())
     }
 }
 
@@ -138,8 +138,8 @@ const ROWS: [Row; 14] = [
         1,
     ),
     ("--svg-every life.svg", LIFE, 1, &["After line "], 4),
-    ("--svg-every life.svg", LIFE, 1, &["life.4.svg"], 1),
-    ("--svg-every life.svg", LIFE, 1, &["life.6.svg"], 0),
+    ("--svg-every life.svg", LIFE, 1, &["life.000004.svg"], 1),
+    ("--svg-every life.svg", LIFE, 1, &["life.000006.svg"], 0),
     ("--svg-every a.b/life", LIFE, 1, &["a.b/life.5"], 1),
     (
         "--svg life.svg",
@@ -169,11 +169,19 @@ fn check_row<R: Threads + Wait + Sync + AllocGlobal + Abort>(
     let mut err = MemorySink::new(rt.alloc());
     let store = PictureStore {
         wanted,
-        pictures: Cell::new(0),
+        pictures: AtomicU64::new(0),
     };
-    let found = tool(rt, words, &mut reader, &mut out, &mut err, &store);
+    let found = tool(
+        rt,
+        words,
+        Terminals::NONE,
+        &mut reader,
+        &mut out,
+        &mut err,
+        &store,
+    );
     same(rt, found, status, options);
-    same(rt, store.pictures.get(), count, options);
+    same(rt, store.pictures.load(Ordering::SeqCst), count, options);
     Ok(())
 }
 

@@ -2,13 +2,12 @@
 
 use super::Row;
 
-/// The script in which a copy from the device leaves the host's later bytes behind.
-pub const COPYIN: Row = (
-    "",
-    "array a 4\nwrite a[0] 01020304\nenter data copyin(a)\nwrite a[0] ffffffff\npeek a\nupdate self(a)\nshow a\n",
-    "01020304\n01020304\n",
-    0,
-);
+/// A script in which a copy from the device leaves the host's later bytes behind.
+const COPIED: &str =
+    "array a 4\nwrite a[0] 01020304\nenter data copyin(a)\nwrite a[0] ffffffff\npeek a\nupdate self(a)\nshow a\n";
+
+/// That script.
+pub const COPYIN: Row = ("", COPIED, "01020304\n01020304\n", 0);
 
 /// A pointer that is attached twice, and then anew at another target.
 pub const ATTACHED: Row = (
@@ -65,4 +64,22 @@ pub const SMALL_DEVICE: Row = (
         address d[0]\n",
     "line 7: refused 14 DeviceFull item 0 need 32\nline 8: refused 14 DeviceFull item 1 need 16\nno\n0x100000000\n",
     1,
+);
+
+/// That script line by line: an empty line ends what each prints.
+pub const BY_LINE: Row = ("--line", COPIED, "\n\n\n\n01020304\n\n\n01020304\n\n", 0);
+
+/// A script that is run as a test. It has options, requires what it has, and has to fail.
+pub const SUITE: &str =
+    "# options: --devices 2\n# requires: devices 2\n# xfail: a new array has no byte 1\narray a 1\nshow a\n#> 01\n";
+
+/// What is told of that script.
+pub const TOLD: Row = (
+    "--test suite.acc",
+    "",
+    "TAP version 14\n1..1\nnot ok 1 - suite.acc # TODO a new array has no byte 1\n  ---\n  message: |\n    \
+        suite.acc:5: line 1 of the output is not as expected\n    --- suite.acc\n    +++ suite.acc\n    \
+        @@ -6,1 +6,1 @@ show a\n    -#> 01\n    +#> 00\n  ...\n\
+        # 1 tests: 0 failed, 1 skipped or expected to fail\n",
+    0,
 );

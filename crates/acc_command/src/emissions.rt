@@ -1,0 +1,246 @@
+//! Scripts that are written as programs in C.
+
+use crate::endings::{Mishap, tell_mishap};
+use crate::file_stores::{FileStore, Unread};
+use crate::paths::scripts_of;
+use crate::programs::write_page;
+use crate::tools::{Ends, Told, limits, options_for, read_expected, read_file};
+use acc_base::Fault;
+use acc_emit::{CHECK, EmitFault, MAKEFILE, Origin, Reason, emit};
+use acc_follow::Page;
+use acc_options::Options;
+use acc_script::{Sink, Source, Status, read_all, write_all};
+use std::alloc::Global;
+use std::sync::Wait;
+use std::thread::Threads;
+
+/// What stands in each file that is written here.
+const MARK: &[u8] = b"accrun --emit c";
+
+/// Reads the script and writes it as a program in C. With `--expect` that has to have the output in the file.
+///
+/// # Errors
+///
+/// A file that cannot be read; those of [`read_all`] and [`emit`]; [`Fault::Write`] where the sink fails. Before that
+/// nothing is written.
+pub fn emit_script<
+    'a,
+    R: Threads + Wait + Sync + AllocGlobal,
+    S: Source,
+    O: Sink,
+    E: Sink,
+    D: FileStore,
+>(
+    rt: &R,
+    options: Options<'a>,
+    reader: &mut S,
+    ends: Ends<'_, O, E, D>,
+) -> Result<Status, Mishap<'a>> {
+    let Ends {
+        out,
+        files,
+        told,
+        ..
+    } = ends;
+    let output = match options.expect {
+        Some(name) => Some(read_expected(rt, name, reader, files)?),
+        None => None,
+    };
+    let script = match options.file {
+        Some(name) => read_file(files, name)?,
+        None => read_all(rt.alloc(), reader)?,
+    };
+    let page = program_of(rt, options, &script, output.as_deref(), told)?;
+    write_page(out, &page)
+}
+
+/// A script as a program in C, with the options of its first line where it comes from a file.
+fn program_of<'a, R: Threads + Wait + Sync + AllocGlobal>(
+    rt: &R,
+    options: Options<'a>,
+    script: &[u8],
+    output: Option<&[u8]>,
+    told: &mut Told,
+) -> Result<Page, Mishap<'a>> {
+    let options = match options.file {
+        Some(name) => options_for(rt.alloc(), options, name, script, told)?,
+        None => options,
+    };
+    let origin = Origin {
+        name: options.file.map(file_name),
+        script,
+        output,
+        until_refusal: options.until_refusal,
+    };
+    let config = limits(options)?;
+    let page = match emit(rt, config, origin) {
+        // Among many scripts, those that are refused are programs up to that.
+        Err(
+            EmitFault::Line {
+                reason: Reason::Refused,
+                ..
+            },
+        ) if options.out.is_some() => {
+            let until_refusal = true;
+            emit(
+                rt,
+                config,
+                Origin {
+                    until_refusal,
+                    ..origin
+                },
+            )
+        }
+        emitted => emitted,
+    };
+    Ok(page?)
+}
+
+/// The name of a file without its folders.
+fn file_name(path: &str) -> &str {
+    path.rsplit_once('/').map_or(path, |parts| parts.1)
+}
+
+/// Writes scripts as programs in C into a folder, and beside them a Makefile and a runner. Why a script gives no program
+/// is told on standard error; [`Status::Refused`] where one gives none.
+///
+/// # Errors
+///
+/// A path without a script; a folder that cannot be written; [`Mishap::Told`] where the Makefile or the runner cannot be;
+/// [`Fault::Memory`].
+pub fn emit_all<'a, R: Threads + Wait + Sync + AllocGlobal, O: Sink, E: Sink, D: FileStore>(
+    rt: &R,
+    options: Options<'a>,
+    folder: &'a str,
+    ends: Ends<'_, O, E, D>,
+) -> Result<Status, Mishap<'a>> {
+    let Ends { err, files, .. } = ends;
+    let scripts = scripts_of(rt.alloc(), options.files, files)?;
+    if let Err(unread) = files.make_folder(folder) {
+        return Err(Mishap::Unwritten(folder, None, unread.reason()?));
+    }
+    let maker = Maker { rt, files };
+    let mut status = Status::Clean;
+    let mut programs = Vec::new(rt.alloc());
+    for script in &scripts {
+        let name = program_name(rt.alloc(), folder, script.as_str())?;
+        if programs.contains(&name) {
+            tell_taken(rt.alloc(), err, script.as_str(), name.as_str());
+            status = Status::Refused;
+        } else if maker.make(options, script.as_str(), name.as_str(), err)? {
+            programs.push(name).map_err(Fault::from)?;
+        } else {
+            status = Status::Refused;
+        }
+    }
+    if maker.write_kit(folder, err)? {
+        Ok(status)
+    } else {
+        Err(Mishap::Told)
+    }
+}
+
+/// The name of the program of a script: `FOLDER/life.c` for `tests/life.acc`. It has `_` for each letter that make or a
+/// shell might take for another thing than a part of a name.
+fn program_name(alloc: Global, folder: &str, script: &str) -> Result<String, Fault> {
+    let name = file_name(script);
+    let mut path = format!(in alloc; "{folder}/")?;
+    for letter in name.strip_suffix(".acc").unwrap_or(name).chars() {
+        let is_plain = letter.is_ascii_alphanumeric() || matches!(letter, '.' | '_' | '-');
+        path.push(if is_plain { letter } else { '_' })?;
+    }
+    path.push_str(".c")?;
+    Ok(path)
+}
+
+/// Tells that another script has the program of this name.
+fn tell_taken<E: Sink>(alloc: Global, err: &mut E, script: &str, name: &str) {
+    let mut page = Page::new(alloc);
+    page.text("accrun: cannot write ");
+    page.text(name);
+    page.text(" for ");
+    page.text(script);
+    page.text(": another script has this name\n");
+    let _ = write_all(err, page.as_slice());
+}
+
+/// Whether a file was written by `--emit c`.
+fn is_emitted(text: &[u8]) -> bool {
+    text.windows(MARK.len()).any(|part| part == MARK)
+}
+
+/// Makes programs of scripts.
+#[derive(Drop)]
+struct Maker<'a, R, D> {
+    /// The handle for what runs them.
+    rt: &'a R,
+    /// The store of files.
+    files: &'a D,
+}
+
+impl<R: Threads + Wait + Sync + AllocGlobal, D: FileStore> Maker<'_, R, D> {
+    /// Writes the program of a script to a file. Where it gives none, that is told, and no older program of it stays; then
+    /// this is false.
+    fn make<'x, E: Sink>(
+        &self,
+        options: Options<'x>,
+        script: &'x str,
+        name: &'x str,
+        err: &mut E,
+    ) -> Result<bool, Fault> {
+        let mut told = Told::new(self.rt.alloc());
+        let file = Some(script);
+        let options = Options { file, ..options };
+        match self.write_program(options, script, name, &mut told) {
+            Ok(()) => return Ok(true),
+            Err(Mishap::Fault(Fault::Memory)) => return Err(Fault::Memory),
+            Err(mishap) => tell_mishap(self.rt.alloc(), err, Some(script), 0, mishap),
+        }
+        let _ = write_all(err, told.reason.as_slice());
+        if self.files.read(name).is_ok_and(|old| is_emitted(&old)) {
+            self.files.remove(name);
+        }
+        Ok(false)
+    }
+
+    fn write_program<'x>(
+        &self,
+        options: Options<'x>,
+        script: &'x str,
+        name: &'x str,
+        told: &mut Told,
+    ) -> Result<(), Mishap<'x>> {
+        let text = read_file(self.files, script)?;
+        let page = program_of(self.rt, options, &text, None, told)?;
+        self.write(name, page.whole()?)
+    }
+
+    /// Writes a file, unless one has its name that `--emit c` did not write.
+    fn write<'x>(&self, name: &'x str, text: &[u8]) -> Result<(), Mishap<'x>> {
+        let written = match self.files.read(name) {
+            Ok(old) if !is_emitted(&old) => Err(Unread::Because("another file has this name")),
+            Ok(_) | Err(Unread::Absent) => self.files.write(name, text),
+            Err(unread) => Err(unread),
+        };
+        match written {
+            Ok(()) => Ok(()),
+            Err(unread) => Err(Mishap::Unwritten(name, None, unread.reason()?)),
+        }
+    }
+
+    /// Writes the Makefile and the runner into a folder; false where one cannot be written, which is told.
+    fn write_kit<E: Sink>(&self, folder: &str, err: &mut E) -> Result<bool, Fault> {
+        for (name, text) in [("Makefile", MAKEFILE), ("check", CHECK)] {
+            let path = format!(in self.rt.alloc(); "{folder}/{name}")?;
+            match self.write(path.as_str(), text.as_bytes()) {
+                Ok(()) => {}
+                Err(Mishap::Fault(fault)) => return Err(fault),
+                Err(mishap) => {
+                    tell_mishap(self.rt.alloc(), err, None, 0, mishap);
+                    return Ok(false);
+                }
+            }
+        }
+        Ok(true)
+    }
+}

@@ -1,0 +1,279 @@
+//! Scripts as tests: those of files and folders are run, and compared with what they have to print.
+
+use crate::endings::{Mishap, tell_mishap};
+use crate::file_stores::{FileStore, Unread};
+use crate::paths::scripts_of;
+use crate::tools::{Ends, Told, options_for, run_text};
+use acc_base::Fault;
+use acc_follow::{Page, warnings_of};
+use acc_options::Options;
+use acc_script::{MemorySink, Sink, Status, write_all};
+use acc_trials::{BAIL_OUT, Played, Report, Trial, blessed, compared, expectation, lines_of};
+use std::alloc::{AllocError, Global};
+use std::sync::Wait;
+use std::thread::{self, Threads};
+
+/// Runs tests.
+#[derive(Drop)]
+pub struct Tester<'a, 'b, R, D> {
+    /// The handle for what runs them.
+    pub rt: &'b R,
+    /// What is asked for.
+    pub options: Options<'a>,
+    /// The store of files.
+    pub files: &'b D,
+}
+
+impl<'a, R: Threads + Wait + Sync + AllocGlobal, D: FileStore + Sync> Tester<'a, '_, R, D> {
+    /// Runs the scripts of files and folders as tests, some at a time, and writes what came of each in their order;
+    /// [`Status::Refused`] where one failed.
+    ///
+    /// # Errors
+    ///
+    /// A folder without a script; a file that cannot be written, or is one of the scripts; [`Fault::Memory`];
+    /// [`Fault::Write`] where the sink fails.
+    pub fn run<O: Sink>(&self, out: &mut O) -> Result<Status, Mishap<'a>> {
+        let names = scripts_of(self.rt.alloc(), self.options.tests, self.files)?;
+        self.keep_scripts(&names)?;
+        // An older report would tell of this run, if it ends early.
+        self.write_junit(b"")?;
+        let mut report = Report::new(self.rt.alloc(), names.len());
+        if let Err(fault) = self.run_all(&mut report, &names, out) {
+            if fault == Fault::Memory {
+                let _ = write_all(out, BAIL_OUT);
+            }
+            return Err(Mishap::Fault(fault));
+        }
+        self.end(&report)
+    }
+
+    /// Refuses a file of JUnit that has the name of one of the scripts, or of what one has to print.
+    fn keep_scripts(&self, names: &[String]) -> Result<(), Mishap<'a>> {
+        let Some(name) = self.options.junit else {
+            return Ok(());
+        };
+        let script = name.strip_suffix(".out");
+        let is_kept = names.iter().any(|kept| {
+            kept.as_str() == name
+                || script.is_some() && kept.as_str().strip_suffix(".acc") == script
+        });
+        if is_kept {
+            return Err(Mishap::Unwritten(name, None, "it belongs to a script"));
+        }
+        Ok(())
+    }
+
+    fn run_all<O: Sink>(
+        &self,
+        report: &mut Report,
+        names: &[String],
+        out: &mut O,
+    ) -> Result<(), Fault> {
+        for part in names.chunks(self.options.jobs.max(1) as usize) {
+            self.run_part(report, part)?;
+            write_page(out, &mut report.tap)?;
+        }
+        report.put_counts();
+        write_page(out, &mut report.tap)
+    }
+
+    /// Runs tests side by side, and adds what came of each.
+    fn run_part(&self, report: &mut Report, names: &[String]) -> Result<(), Fault> {
+        let trials = self.try_all(names)?;
+        for (name, trial) in names.iter().zip(trials.iter()) {
+            report.add(self.rt.alloc(), name.as_str(), trial)?;
+        }
+        Ok(())
+    }
+
+    fn try_all(&self, names: &[String]) -> Result<Vec<Result<Trial, Fault>>, AllocError> {
+        thread::map_indices(
+            self.rt,
+            self.rt.alloc(),
+            names.len(),
+            &|index| { self.try_name(names.get(index).map_or("", |name| name.as_str())) },
+        )
+    }
+
+    fn try_name(&self, name: &str) -> Result<Trial, Fault> {
+        if self.options.bless {
+            // Lines that are new or gone move others, and what these print may have their numbers.
+            self.try_file(name)?;
+        }
+        self.try_file(name)
+    }
+
+    fn end(&self, report: &Report) -> Result<Status, Mishap<'a>> {
+        let page = report.junit(self.rt.alloc())?;
+        self.write_junit(page.whole()?)?;
+        Ok(if report.has_failed() {
+            Status::Refused
+        } else {
+            Status::Clean
+        })
+    }
+
+    /// Writes the file of JUnit, if there is to be one.
+    fn write_junit(&self, text: &[u8]) -> Result<(), Mishap<'a>> {
+        let Some(name) = self.options.junit else {
+            return Ok(());
+        };
+        match self.files.write(name, text) {
+            Ok(()) => Ok(()),
+            Err(unread) => Err(Mishap::Unwritten(name, None, unread.reason()?)),
+        }
+    }
+
+    fn try_file(&self, name: &str) -> Result<Trial, Fault> {
+        match self.files.read(name) {
+            Ok(script) => self.try_script(name, &script),
+            Err(unread) => self.unreadable(name, unread.reason()?),
+        }
+    }
+
+    fn unreadable<'x>(&self, name: &'x str, reason: &'x str) -> Result<Trial, Fault> {
+        Trial::failed(self.rt.alloc(), &["cannot read ", name, ": ", reason])
+    }
+
+    fn try_script(&self, name: &str, script: &[u8]) -> Result<Trial, Fault> {
+        let alloc = self.rt.alloc();
+        let mut told = Told::new(alloc);
+        let options = match options_for(alloc, self.options, name, script, &mut told) {
+            Ok(options) => options,
+            Err(Mishap::Fault(fault)) => return Err(fault),
+            Err(_) => return Trial::noted(alloc, &[], told.reason),
+        };
+        let mut trial = self.try_with(options, name, script, &mut told)?;
+        // A script that is explained told them.
+        if !options.views().explain {
+            trial.warnings = warnings_of(alloc, Some(name), script)?;
+        }
+        Ok(trial)
+    }
+
+    /// Runs a script with its options, unless these do not give what it requires, and judges what it prints.
+    fn try_with(
+        &self,
+        options: Options<'_>,
+        name: &str,
+        script: &[u8],
+        told: &mut Told,
+    ) -> Result<Trial, Fault> {
+        let alloc = self.rt.alloc();
+        let lines = lines_of(alloc, script)?;
+        if let Some(trial) = options.machine().unmet(alloc, name, &lines)? {
+            return Ok(trial);
+        }
+        let mut sink = MemorySink::new(alloc);
+        let place = self.play(options, script, &mut sink, told)?;
+        let printed = lines_of(alloc, sink.as_slice())?;
+        told.lines.resize(printed.len().saturating_add(1), place)?;
+        self.judge(Played {
+            name,
+            lines: &lines,
+            printed: &printed,
+            places: &told.lines,
+        })
+    }
+
+    /// Runs a script. Behind what it prints stands what standard error gets. It returns the number of the line that is
+    /// at fault, if one is, and else that of no line.
+    fn play(
+        &self,
+        options: Options<'_>,
+        script: &[u8],
+        sink: &mut MemorySink,
+        told: &mut Told,
+    ) -> Result<u64, Fault> {
+        let mut beside = MemorySink::new(self.rt.alloc());
+        let ends = Ends {
+            out: &mut *sink,
+            err: &mut beside,
+            files: self.files,
+            told: &mut *told,
+        };
+        let ending = run_text(self.rt, options, script, ends);
+        put_all(sink, beside.as_slice())?;
+        match ending {
+            Ok(_) => Ok(u64::MAX),
+            // These sinks fail for lack of memory alone.
+            Err(Mishap::Fault(Fault::Memory | Fault::Write)) => Err(Fault::Memory),
+            Err(mishap) => self.put_mishap(sink, mishap, told),
+        }
+    }
+
+    /// Puts why a script ended.
+    fn put_mishap(
+        &self,
+        sink: &mut MemorySink,
+        mishap: Mishap<'_>,
+        told: &Told,
+    ) -> Result<u64, Fault> {
+        let before = sink.as_slice().len();
+        tell_mishap(self.rt.alloc(), sink, None, 0, mishap);
+        if sink.as_slice().len() == before {
+            return Err(Fault::Memory);
+        }
+        put_all(sink, told.reason.whole()?)?;
+        Ok(mishap.line())
+    }
+
+    /// Judges what a script printed by the file that says what it has to print; one that is not there is empty.
+    fn judge(&self, played: Played<'_>) -> Result<Trial, Fault> {
+        let alloc = self.rt.alloc();
+        let name = expectation(alloc, played)?;
+        match self.files.read(name.as_str()) {
+            Ok(wanted) => self.compare(played, name.as_str(), &wanted),
+            Err(Unread::Absent) => self.compare(played, name.as_str(), &[]),
+            Err(unread) => self.unreadable(name.as_str(), unread.reason()?),
+        }
+    }
+
+    /// Compares what a script printed with that file. Where it differs, and has not to, the file may be blessed.
+    fn compare(&self, played: Played<'_>, name: &str, wanted: &[u8]) -> Result<Trial, Fault> {
+        let found = blessed(self.rt.alloc(), played);
+        let trial = compared(self.rt.alloc(), played, name, wanted, found.whole()?)?;
+        if !self.options.bless || !trial.is_failed() || played.has_to_fail() {
+            return Ok(trial);
+        }
+        match played.unstorable(wanted) {
+            Some(reason) => self.unblessed(name, reason),
+            None => self.bless(name, found.as_slice()),
+        }
+    }
+
+    fn unblessed<'x>(&self, name: &'x str, reason: &'x str) -> Result<Trial, Fault> {
+        Trial::failed(self.rt.alloc(), &[name, ": ", reason])
+    }
+
+    /// Writes what a script printed as what it has to print.
+    fn bless(&self, name: &str, text: &[u8]) -> Result<Trial, Fault> {
+        let alloc = self.rt.alloc();
+        match self.files.write(name, text) {
+            Ok(()) => Trial::noted(alloc, &[], Page::new(alloc)),
+            Err(unread) => self.unwritable(name, unread.reason()?),
+        }
+    }
+
+    fn unwritable<'x>(&self, name: &'x str, reason: &'x str) -> Result<Trial, Fault> {
+        Trial::failed(self.rt.alloc(), &["cannot write ", name, ": ", reason])
+    }
+}
+
+/// Adds to what a script printed, which fails for lack of memory alone.
+fn put_all(sink: &mut MemorySink, bytes: &[u8]) -> Result<(), Fault> {
+    if write_all(sink, bytes) {
+        Ok(())
+    } else {
+        Err(Fault::Memory)
+    }
+}
+
+/// Writes a page, so that it is seen before the next test runs.
+fn write_page<O: Sink>(out: &mut O, page: &mut Page) -> Result<(), Fault> {
+    if !write_all(out, page.whole()?) || !out.flush() {
+        return Err(Fault::Write);
+    }
+    page.clear();
+    Ok(())
+}

@@ -1,0 +1,69 @@
+//! What the comments of a script say to the program.
+
+use acc_read::next_line;
+use std::alloc::{AllocError, Global};
+
+/// A comment that says something of its script.
+#[derive(Clone, Copy)]
+pub struct Note<'a> {
+    /// The number of its line.
+    pub line: u64,
+    /// What stands behind its heading; a question mark where that is not UTF-8.
+    pub text: &'a str,
+}
+
+/// The lines of a text, without what ends them.
+pub fn lines_of(alloc: Global, text: &[u8]) -> Result<Vec<&[u8]>, AllocError> {
+    let mut lines = Vec::new(alloc);
+    let mut rest = text;
+    for _ in 0..text.len() {
+        if rest.is_empty() {
+            break;
+        }
+        let (line, after) = next_line(rest);
+        lines.push(line)?;
+        rest = after;
+    }
+    Ok(lines)
+}
+
+/// What stands behind `# options:` in the first line of a script, if it begins so.
+pub fn options_in(script: &[u8]) -> Option<&[u8]> {
+    if script.is_empty() {
+        return None;
+    }
+    let (line, _) = next_line(script);
+    line.strip_prefix(b"# options:")
+}
+
+/// The words of a first line for the parser: one in place of the program's name, and those of what [`options_in`]
+/// returned.
+pub fn first_words(alloc: Global, text: &str) -> Result<Vec<&str>, AllocError> {
+    let mut words = Vec::new(alloc);
+    words.push("options:")?;
+    for word in text.split_ascii_whitespace() {
+        words.push(word)?;
+    }
+    Ok(words)
+}
+
+/// The comments that begin with a heading, by rising lines.
+pub fn notes_in<'a>(
+    alloc: Global,
+    lines: &[&'a [u8]],
+    heading: &str,
+) -> Result<Vec<Note<'a>>, AllocError> {
+    let mut notes = Vec::new(alloc);
+    for (index, line) in lines.iter().enumerate() {
+        if let Some(text) = text_behind(*line, heading) {
+            let line = index.saturating_add(1) as u64;
+            notes.push(Note { line, text })?;
+        }
+    }
+    Ok(notes)
+}
+
+fn text_behind<'a>(line: &'a [u8], heading: &str) -> Option<&'a str> {
+    let text = line.strip_prefix(heading.as_bytes())?;
+    Some(str::from_utf8(text.trim_ascii()).unwrap_or("?"))
+}

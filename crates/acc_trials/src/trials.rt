@@ -1,0 +1,289 @@
+//! What came of a script as a test, by what it printed and what it had to print.
+
+use crate::notes::{lines_of, notes_in};
+use acc_base::Fault;
+use acc_read::Page;
+use std::alloc::{AllocError, Global};
+use std::fmt::Write;
+
+/// What stands in front of a line that has to be printed, behind the statement that prints it.
+const MARK: &[u8] = b"#>";
+
+/// How many bytes a line that is printed may have to stand behind `#> ` in a line of a script.
+const MARKED_MAX: usize = 4_093;
+
+/// The heading of why a script has to fail.
+const XFAIL: &str = "# xfail:";
+
+/// What came of a test. There was memory for all that it says.
+#[derive(Drop)]
+pub struct Trial {
+    /// Why it was skipped, or failed as it has to, as TAP says it; nothing of others.
+    pub(crate) note: Page,
+    /// Where and how it failed; nothing where it did not.
+    pub(crate) wrong: Page,
+    /// What its author may not mean, each line behind its place.
+    pub warnings: Page,
+}
+
+impl Trial {
+    /// A test with a note, and with what is wrong, if these say something.
+    ///
+    /// # Errors
+    ///
+    /// [`Fault::Memory`], of what is wrong too.
+    pub fn noted(alloc: Global, texts: &[&str], wrong: Page) -> Result<Trial, Fault> {
+        let mut note = Page::new(alloc);
+        put_texts(&mut note, texts);
+        note.whole()?;
+        wrong.whole()?;
+        let warnings = Page::new(alloc);
+        Ok(Trial {
+            note,
+            wrong,
+            warnings,
+        })
+    }
+
+    /// Whether it failed, and has not to.
+    pub fn is_failed(&self) -> bool {
+        self.note.as_slice().is_empty() && !self.wrong.as_slice().is_empty()
+    }
+
+    /// A test that failed for what these texts say.
+    ///
+    /// # Errors
+    ///
+    /// [`Fault::Memory`].
+    pub fn failed(alloc: Global, texts: &[&str]) -> Result<Trial, Fault> {
+        let mut wrong = Page::new(alloc);
+        put_texts(&mut wrong, texts);
+        wrong.text("\n");
+        Trial::noted(alloc, &[], wrong)
+    }
+
+    /// A test that failed for what these texts say of a line of a script.
+    ///
+    /// # Errors
+    ///
+    /// [`Fault::Memory`].
+    pub fn failed_at(alloc: Global, name: &str, line: u64, texts: &[&str]) -> Result<Trial, Fault> {
+        let mut wrong = Page::new(alloc);
+        let _ = write!(wrong, "{name}:{line}: ");
+        put_texts(&mut wrong, texts);
+        wrong.text("\n");
+        Trial::noted(alloc, &[], wrong)
+    }
+}
+
+/// A script that ran.
+#[derive(Clone, Copy)]
+pub struct Played<'a> {
+    /// The name of its file.
+    pub name: &'a str,
+    /// Its lines.
+    pub lines: &'a [&'a [u8]],
+    /// The lines that it printed.
+    pub printed: &'a [&'a [u8]],
+    /// For each of these the number of the line that printed it, and then that of the line that ended the script.
+    pub places: &'a [u64],
+}
+
+impl Played<'_> {
+    /// Whether it has to fail.
+    pub fn has_to_fail(self) -> bool {
+        self.lines
+            .iter()
+            .any(|line| line.starts_with(XFAIL.as_bytes()))
+    }
+
+    /// Why what it printed cannot be stored in the file that has this text; `None` where it can.
+    pub fn unstorable(self, text: &[u8]) -> Option<&'static str> {
+        if text.windows(2).any(|pair| pair == b"\r\n".as_slice()) {
+            return Some("its lines end in CR LF, which '--bless' does not keep");
+        }
+        if is_marked(self) && self.printed.iter().any(|line| line.len() > MARKED_MAX) {
+            return Some("a line of the output is too long for '#>'; store it in a file .out");
+        }
+        None
+    }
+}
+
+/// Whether a script says itself what it has to print.
+fn is_marked(played: Played<'_>) -> bool {
+    played.lines.iter().any(|line| is_mark(*line))
+}
+
+/// Whether a line says what has to be printed. One that is indented differs from what stands there if it is blessed.
+fn is_mark(line: &[u8]) -> bool {
+    line.trim_ascii_start().starts_with(MARK)
+}
+
+/// The name of the file that says what a script has to print: its own, or `life.out` for `life.acc`.
+pub fn expectation(alloc: Global, played: Played<'_>) -> Result<String, AllocError> {
+    if is_marked(played) {
+        return String::from_str(alloc, played.name);
+    }
+    let stem = played.name.strip_suffix(".acc").unwrap_or(played.name);
+    format!(in alloc; "{stem}.out")
+}
+
+/// What that file has to say of what was printed: all of it, or each line behind the statement that printed it.
+pub fn blessed(alloc: Global, played: Played<'_>) -> Page {
+    let mut page = Page::new(alloc);
+    if !is_marked(played) {
+        put_lines(&mut page, "", played.printed);
+        return page;
+    }
+    let mut done = 0;
+    for (index, line) in played.lines.iter().enumerate() {
+        if !is_mark(*line) {
+            put_line(&mut page, "", line);
+        }
+        done = put_printed(&mut page, played, done, index.saturating_add(1) as u64);
+    }
+    put_printed(&mut page, played, done, u64::MAX);
+    page
+}
+
+/// Puts what was printed up to a line of the script, but for so many lines, and returns how many there are then.
+fn put_printed(page: &mut Page, played: Played<'_>, done: usize, number: u64) -> usize {
+    let places = played.places.get(done..).unwrap_or(&[]);
+    let lines = played.printed.get(done..).unwrap_or(&[]);
+    let pairs = places.iter().zip(lines.iter());
+    let count = pairs.take_while(|pair| *pair.0 <= number).count();
+    put_lines(page, "#> ", lines.get(..count).unwrap_or(&[]));
+    done.saturating_add(count)
+}
+
+/// Puts texts, one behind the other.
+pub fn put_texts(page: &mut Page, texts: &[&str]) {
+    for text in texts {
+        page.text(text);
+    }
+}
+
+/// Puts lines, each behind a mark.
+pub fn put_lines(page: &mut Page, mark: &str, lines: &[&[u8]]) {
+    for line in lines {
+        put_line(page, mark, line);
+    }
+}
+
+/// Puts a line behind a mark.
+pub fn put_line(page: &mut Page, mark: &str, line: &[u8]) {
+    page.text(mark);
+    page.bytes(line);
+    page.text("\n");
+}
+
+/// What came of a script, by the text of the file of a name, and by the one that it should have.
+///
+/// # Errors
+///
+/// [`Fault::Memory`].
+pub fn compared(
+    alloc: Global,
+    played: Played<'_>,
+    name: &str,
+    wanted: &[u8],
+    found: &[u8],
+) -> Result<Trial, Fault> {
+    let (wanted, found) = (lines_of(alloc, wanted)?, lines_of(alloc, found)?);
+    let wrong = difference(alloc, played, name, &wanted, &found);
+    judged(alloc, played, wrong)
+}
+
+/// What came of a script with this wrong, by whether it has to fail.
+fn judged(alloc: Global, played: Played<'_>, wrong: Page) -> Result<Trial, Fault> {
+    let notes = notes_in(alloc, played.lines, XFAIL)?;
+    match notes.first() {
+        None => Trial::noted(alloc, &[], wrong),
+        Some(note) if wrong.whole()?.is_empty() => {
+            let told = "it passes, in spite of '# xfail:'";
+            Trial::failed_at(alloc, played.name, note.line, &[told])
+        }
+        Some(note) => Trial::noted(alloc, &["TODO ", note.text], wrong),
+    }
+}
+
+/// Where and how what was printed is not as wanted, by the lines of that file; nothing where it is.
+fn difference(
+    alloc: Global,
+    played: Played<'_>,
+    name: &str,
+    wanted: &[&[u8]],
+    found: &[&[u8]],
+) -> Page {
+    let mut page = Page::new(alloc);
+    let pairs = wanted.iter().zip(found.iter());
+    let front = pairs.take_while(|pair| pair.0 == pair.1).count();
+    if front < wanted.len().max(found.len()) {
+        let index = printed_before(played, found, front);
+        let place = place_of(played, found, front, index);
+        let statement = played.lines.get(place.wrapping_sub(1) as usize);
+        put_heading(&mut page, played.name, name, place, index.saturating_add(1));
+        put_diff(
+            &mut page,
+            front,
+            wanted,
+            found,
+            statement.copied().unwrap_or(&[]),
+        );
+    }
+    page
+}
+
+/// Puts the line of the script and the line of its output, and whose lines the piece behind has.
+fn put_heading(page: &mut Page, script: &str, name: &str, place: u64, number: usize) {
+    let _ = writeln!(
+        page,
+        "{script}:{place}: line {number} of the output is not as expected"
+    );
+    let _ = writeln!(page, "--- {name}\n+++ {name}");
+}
+
+/// The number of the line that printed a line of the output, or had to print one that is missing.
+fn place_of(played: Played<'_>, found: &[&[u8]], front: usize, index: usize) -> u64 {
+    let place = if is_marked(played) {
+        let lines = found.get(..front).unwrap_or(&[]).iter().rev();
+        let marked = lines.take_while(|line| is_mark(*line)).count();
+        front.saturating_sub(marked) as u64
+    } else {
+        played.places.get(index).copied().unwrap_or(1)
+    };
+    place.clamp(1, (played.lines.len() as u64).max(1))
+}
+
+/// How many of the first lines of a file were printed.
+fn printed_before(played: Played<'_>, found: &[&[u8]], front: usize) -> usize {
+    let lines = found.iter().take(front);
+    if is_marked(played) {
+        lines.filter(|line| is_mark(*line)).count()
+    } else {
+        front
+    }
+}
+
+/// Puts how lines differ, as `diff -U0` does, in one piece. Behind its place stands the statement that printed its
+/// first line.
+fn put_diff(page: &mut Page, front: usize, wanted: &[&[u8]], found: &[&[u8]], statement: &[u8]) {
+    let wanted = wanted.get(front..).unwrap_or(&[]);
+    let found = found.get(front..).unwrap_or(&[]);
+    let pairs = wanted.iter().rev().zip(found.iter().rev());
+    let back = pairs.take_while(|pair| pair.0 == pair.1).count();
+    let (wanted, _) = wanted.split_at(wanted.len().saturating_sub(back));
+    let (found, _) = found.split_at(found.len().saturating_sub(back));
+    page.text("@@");
+    put_piece(page, " -", front, wanted.len());
+    put_piece(page, " +", front, found.len());
+    put_line(page, " @@ ", statement);
+    put_lines(page, "-", wanted);
+    put_lines(page, "+", found);
+}
+
+/// Puts where a piece begins, behind so many lines, and how many it has.
+fn put_piece(page: &mut Page, sign: &str, behind: usize, count: usize) {
+    let first = behind.saturating_add(count.min(1));
+    let _ = write!(page, "{sign}{first},{count}");
+}

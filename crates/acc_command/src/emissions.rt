@@ -1,14 +1,14 @@
 //! Scripts that are written as programs in C.
 
-use crate::endings::{Mishap, tell_mishap};
-use crate::file_stores::{FileStore, Unread};
-use crate::paths::scripts_of;
 use crate::programs::write_page;
-use crate::tools::{Ends, Told, limits, options_for, read_expected, read_file};
 use acc_base::Fault;
 use acc_emit::{CHECK, EmitFault, MAKEFILE, Origin, Reason, emit};
+use acc_files::{FileStore, Unread};
 use acc_follow::Page;
 use acc_options::Options;
+use acc_runs::{
+    Ends, Mishap, Told, limits, options_for, read_expected, read_file, scripts_of, tell_mishap,
+};
 use acc_script::{Sink, Source, Status, read_all, write_all};
 use std::alloc::Global;
 use std::sync::Wait;

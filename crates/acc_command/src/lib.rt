@@ -4,14 +4,10 @@
 
 mod drills;
 mod emissions;
-mod endings;
-mod file_stores;
-mod paths;
-mod picture_files;
 mod programs;
 mod suites;
 mod tools;
 
+pub use acc_files::{Disk, FileStore, Unread};
 pub use acc_lines::{Terminals, tell};
-pub use file_stores::{Disk, FileStore, Unread};
 pub use tools::{CLEAN, FAULTED, REFUSED, tool};

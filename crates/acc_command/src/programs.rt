@@ -1,13 +1,12 @@
 //! What is written in place of what a script prints: a script by chance, and which rows of the clause tables scripts
 //! reach.
 
-use crate::endings::Mishap;
-use crate::file_stores::FileStore;
-use crate::tools::{Ends, limits, options_for, read_file};
 use acc_base::{Config, Fault};
+use acc_files::FileStore;
 use acc_follow::{Page, RowCounts, count_rows};
 use acc_options::Options;
 use acc_random::random_script;
+use acc_runs::{Ends, Mishap, limits, options_for, read_file};
 use acc_script::{Sink, Status, write_all};
 use std::sync::Wait;
 use std::thread::Threads;

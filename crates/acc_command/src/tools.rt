@@ -1,23 +1,21 @@
 //! The program, over any source, any two sinks and any store of files.
 
-ghost use Rattle.std.specs.Prelude.{◌≤◌};
-
 use crate::drills::run_drill;
 use crate::emissions::{emit_all, emit_script};
-use crate::endings::{Mishap, put_sizes, tell_difference, tell_mishap, tell_sizes};
-use crate::file_stores::FileStore;
-use crate::picture_files::{PictureFiles, Shown};
 use crate::programs::{write_random, write_rows};
 use crate::suites::Tester;
 use acc_base::{Config, Fault};
-use acc_follow::{Beside, Frame, Page, Setting, Stop, Unkept, first_difference, warnings_of};
-use acc_lines::{Terminals, run_script, tell};
-use acc_options::{DEFAULT_THREADS, Options, options_of, parsed_words, with_first_line};
-use acc_script::{MemorySink, MemorySource, Sink, Source, Status, ToWrite, read_all, write_all};
-use acc_trials::put_texts;
+use acc_files::FileStore;
+use acc_follow::first_difference;
+use acc_lines::{Terminals, tell};
+use acc_options::{Options, options_of, parsed_words};
+use acc_runs::{
+    Ends, Mishap, Shown, Told, limits, options_for, read_expected, read_file, run_text,
+    tell_difference, tell_mishap, tell_sizes, threads, use_script,
+};
+use acc_script::{MemorySink, Sink, Source, Status, ToWrite, read_all, write_all};
 use clap::Error;
 use clap::error::ErrorKind;
-use std::alloc::Global;
 use std::cell::Cell;
 use std::io;
 use std::sync::Wait;
@@ -33,21 +31,6 @@ pub const REFUSED: u8 = 1;
 
 /// The status of a fault, of the command line too.
 pub const FAULTED: u8 = 2;
-
-/// How many data regions may be open at a time.
-const REGIONS: u64 = 64;
-
-/// How many events there may be.
-const TICKETS: u64 = 1_048_576;
-
-/// The greatest value of a counter.
-const COUNTER_MAX: u64 = 4_294_967_295;
-
-/// How many transfers may wait in one queue.
-const QUEUE_CAP: u64 = 256;
-
-/// How many events the trace may have.
-const TRACE_CAP: u64 = 262_144;
 
 /// Parses the command line, does what it asks for, flushes the output, and returns the status: [`CLEAN`], [`REFUSED`]
 /// or [`FAULTED`].
@@ -146,41 +129,6 @@ fn tell_end<R: AllocGlobal, E: Sink>(
         Mishap::Fault(Fault::BadConfig) if is_more => tell_sizes(err, options.machine()),
         _ => tell_mishap(rt.alloc(), err, options.file, column, mishap),
     }
-}
-
-/// What a run tells beside its output, for whoever ends it.
-#[derive(Drop)]
-pub struct Told {
-    /// Why a line is at fault, or what is wrong with the options of the first line.
-    pub reason: Page,
-    /// The column of what is wrong in it, from 1 on; 0 where none is known.
-    column: u64,
-    /// For each line of the output the number of the line that printed it, where that is asked for.
-    pub lines: Vec<u64>,
-}
-
-impl Told {
-    /// Nothing so far.
-    pub fn new(alloc: Global) -> Told {
-        Told {
-            reason: Page::new(alloc),
-            column: 0,
-            lines: Vec::new(alloc),
-        }
-    }
-}
-
-/// What a run writes to, and the store of its files.
-#[derive(Drop)]
-pub struct Ends<'a, O, E, D> {
-    /// Gets its output.
-    pub out: &'a mut O,
-    /// Gets the log and the explanations.
-    pub err: &'a mut E,
-    /// The store of files.
-    pub files: &'a D,
-    /// Gets what it tells beside.
-    pub told: &'a mut Told,
 }
 
 fn flushed<'a, O: Sink>(
@@ -291,72 +239,6 @@ fn run_file<'a, R: Threads + Wait + Sync + AllocGlobal, O: Sink, E: Sink, D: Fil
     run_text(rt, options, &script, ends)
 }
 
-/// Runs a script of this text. Where it is explained, warnings come first.
-pub fn run_text<'a, R: Threads + Wait + Sync + AllocGlobal, O: Sink, E: Sink, D: FileStore>(
-    rt: &R,
-    options: Options<'a>,
-    script: &[u8],
-    ends: Ends<'_, O, E, D>,
-) -> Result<Status, Mishap<'a>> {
-    if options.views().explain {
-        let warnings = warnings_of(rt.alloc(), options.file, script)?;
-        let _ = write_all(ends.err, warnings.as_slice());
-    }
-    use_script(rt, options, &mut MemorySource::new(script), ends)
-}
-
-/// Options with those of the first line of a file's script. What is wrong with these is told as the reason.
-pub fn options_for<'a>(
-    alloc: Global,
-    options: Options<'a>,
-    name: &str,
-    script: &[u8],
-    told: &mut Told,
-) -> Result<Options<'a>, Mishap<'a>> {
-    match with_first_line(alloc, options, script) {
-        Ok(options) if limits(options).is_ok() => return Ok(options),
-        Ok(options) => {
-            put_texts(&mut told.reason, &[name, ":1: error: "]);
-            let _ = put_sizes(&mut told.reason, options.machine());
-        }
-        Err(error) if error.kind() == ErrorKind::OutOfMemory => {
-            return Err(Mishap::Fault(Fault::Memory));
-        }
-        Err(error) => {
-            let text = error.to_string(alloc).map_err(Fault::from)?;
-            put_texts(&mut told.reason, &[name, ":1: ", text.as_str()]);
-        }
-    }
-    told.reason.whole()?;
-    Err(Mishap::FirstLine)
-}
-
-/// Reads a file, which has to be there.
-pub fn read_file<'a, D: FileStore>(files: &D, name: &'a str) -> Result<Vec<u8>, Mishap<'a>> {
-    match files.read(name) {
-        Ok(bytes) => Ok(bytes),
-        Err(unread) => Err(Mishap::Unread(name, unread.reason()?)),
-    }
-}
-
-/// Reads the expected output from a file, or from standard input where that is named `-`.
-///
-/// # Errors
-///
-/// That it cannot be read.
-pub fn read_expected<'a, R: AllocGlobal, S: Source, D: FileStore>(
-    rt: &R,
-    name: &'a str,
-    reader: &mut S,
-    files: &D,
-) -> Result<Vec<u8>, Mishap<'a>> {
-    if name == "-" {
-        Ok(read_all(rt.alloc(), reader)?)
-    } else {
-        read_file(files, name)
-    }
-}
-
 fn compared<
     'a,
     R: Threads + Wait + Sync + AllocGlobal,
@@ -409,77 +291,6 @@ fn agreement<R: AllocGlobal, E: Sink>(
     }
 }
 
-fn use_script<
-    'a,
-    R: Threads + Wait + Sync + AllocGlobal,
-    S: Source,
-    O: Sink,
-    E: Sink,
-    D: FileStore,
->(
-    rt: &R,
-    options: Options<'a>,
-    reader: &mut S,
-    ends: Ends<'_, O, E, D>,
-) -> Result<Status, Mishap<'a>> {
-    let Ends {
-        out,
-        err,
-        files,
-        told,
-    } = ends;
-    match run_drawn(rt, options, reader, out, err, files, told) {
-        Ok(status) => status.ok_or(Mishap::Told),
-        Err(stop) => Err(mishap_of(options, stop)),
-    }
-}
-
-/// Runs a script, and keeps its pictures; `None` where its faults are told already.
-fn run_drawn<'x, R: Threads + Wait + Sync + AllocGlobal, S: Source, O: Sink, E: Sink, D: FileStore>(
-    rt: &R,
-    options: Options<'x>,
-    reader: &mut S,
-    out: &mut O,
-    err: &mut E,
-    files: &'x D,
-    told: &mut Told,
-) -> Result<Option<Status>, Stop> {
-    let config = limits(options)?;
-    let setting = Setting {
-        config,
-        parts: threads(options),
-        views: options.views(),
-    };
-    let beside = Beside {
-        err,
-        pictures: &PictureFiles {
-            files,
-            alloc: rt.alloc(),
-            file: options.file,
-            last: options.svg,
-            each: options.svg_every,
-            page: options.html,
-        },
-        reason: &mut told.reason,
-        column: &mut told.column,
-        lines: &mut told.lines,
-    };
-    run_script(rt, setting, options.manner(), reader, out, beside)
-}
-
-fn mishap_of(options: Options<'_>, stop: Stop) -> Mishap<'_> {
-    let Unkept { frame, reason } = match stop {
-        Stop::Fault(fault) => return Mishap::Fault(fault),
-        Stop::Picture(unkept) => unkept,
-    };
-    let (name, line) = match frame {
-        Frame::Last => (options.svg, None),
-        Frame::Line(number) => (options.svg_every, Some(number)),
-        Frame::Each => (options.html, None),
-    };
-    Mishap::Unwritten(name.unwrap_or(""), line, reason)
-}
-
 fn drill_threads<R: Threads + Wait + Sync + AllocGlobal, O: Sink>(
     rt: &R,
     options: Options<'_>,
@@ -489,36 +300,6 @@ fn drill_threads<R: Threads + Wait + Sync + AllocGlobal, O: Sink>(
 ) -> Result<Status, Fault> {
     run_drill(rt, out, config, threads(options), rounds.clamp(1, 1_000))?;
     Ok(Status::Clean)
-}
-
-/// The limits of a run.
-///
-/// # Errors
-///
-/// [`Fault::BadConfig`] where a size is no multiple of 16.
-pub fn limits(options: Options<'_>) -> Result<Config, Fault> {
-    let machine = options.machine();
-    let config = Config::new(
-        machine.host,
-        machine.device,
-        REGIONS,
-        TICKETS,
-        COUNTER_MAX,
-        QUEUE_CAP,
-        TRACE_CAP,
-    )?
-    .with_devices(machine.devices)?;
-    Ok(match options.full {
-        Some(true) => config.with_full_trace(),
-        _ => config,
-    })
-}
-
-/// The number of threads. The parser allows no number but 1 to 64; the contract shows that to the prover.
-fn threads(options: Options<'_>) -> usize
-    ensures { (1 ≤ result) × (result ≤ 64) }
-{
-    options.threads.unwrap_or(DEFAULT_THREADS).clamp(1, 64) as usize
 }
 
 /// Writes what the parser returned. A fault of the command line goes to `err`; help and the version go to `out`.

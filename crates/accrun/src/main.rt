@@ -2,15 +2,12 @@
 //! output.
 #![tactic(auto)]
 
-mod colours;
-mod pipes;
 mod words;
 
 use acc_base::Fault;
 use acc_command::{Disk, FAULTED, Terminals, tell, tool};
 use acc_script::{FromRead, ToWrite};
-use colours::are_wanted;
-use pipes::{Errors, Output};
+use acc_streams::{Errors, Output, are_wanted};
 use std::cell::Cell;
 use std::io::{BufWriter, IsTerminal};
 use std::process::ExitCode;

@@ -141,7 +141,7 @@ pub fn tell_difference<E: Sink>(
 }
 
 /// Puts that a line of the output is not the expected one.
-pub fn put_differing(page: &mut Page, line: u64) {
+fn put_differing(page: &mut Page, line: u64) {
     let _ = writeln!(page, ": line {line} of the output is not as expected");
 }
 

@@ -1,7 +1,7 @@
 //! The files that pictures become.
 
-use crate::file_stores::{FileStore, Unread};
 use acc_base::Fault;
+use acc_files::{FileStore, Unread};
 use acc_follow::{Frame, Page, PictureSink, Stop, Unkept};
 use acc_lines::Keeper;
 use acc_options::statements;

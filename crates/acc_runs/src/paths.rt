@@ -1,8 +1,8 @@
 //! The scripts that paths of the command line lead to.
 
 use crate::endings::Mishap;
-use crate::file_stores::{FileStore, Unread};
 use acc_base::Fault;
+use acc_files::{FileStore, Unread};
 use std::alloc::Global;
 use std::collections::VecDeque;
 

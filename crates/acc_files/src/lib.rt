@@ -1,0 +1,6 @@
+//! The files that a command line names.
+#![tactic(auto)]
+
+mod file_stores;
+
+pub use file_stores::{Disk, FileStore, Unread};

@@ -14,8 +14,8 @@ use std::alloc::Global;
 use std::sync::Wait;
 use std::thread::Threads;
 
-/// What stands in each file that is written here.
-const MARK: &[u8] = b"accrun --emit c";
+/// How a line of each program begins that is written here.
+const MARK: &[u8] = b"/* Written from a script by accrun --emit c. ";
 
 /// Reads the script and writes it as a program in C. With `--expect` that has to have the output in the file.
 ///
@@ -164,9 +164,19 @@ fn tell_taken<E: Sink>(alloc: Global, err: &mut E, script: &str, name: &str) {
     let _ = write_all(err, page.as_slice());
 }
 
-/// Whether a file was written by `--emit c`.
+/// Whether a file was written by `--emit c`: a program, or the Makefile or the runner beside programs.
 fn is_emitted(text: &[u8]) -> bool {
-    text.windows(MARK.len()).any(|part| part == MARK)
+    let first = first_line(text);
+    first == first_line(MAKEFILE.as_bytes())
+        || first == first_line(CHECK.as_bytes())
+        || text
+            .split(|byte| *byte == b'\n')
+            .any(|line| line.starts_with(MARK))
+}
+
+/// The first line of a text, without what ends it.
+fn first_line(text: &[u8]) -> &[u8] {
+    text.split(|byte| *byte == b'\n').next().unwrap_or(text)
 }
 
 /// Makes programs of scripts.

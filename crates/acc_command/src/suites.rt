@@ -6,7 +6,9 @@ use acc_follow::{Page, warnings_of};
 use acc_options::Options;
 use acc_runs::{Ends, Mishap, Told, options_for, run_text, scripts_of, tell_mishap};
 use acc_script::{MemorySink, Sink, Status, write_all};
-use acc_trials::{BAIL_OUT, Played, Report, Trial, blessed, compared, expectation, lines_of};
+use acc_trials::{
+    BAIL_OUT, Played, Report, Trial, blessed, compared, expectation, lines_of, output_name,
+};
 use std::alloc::{AllocError, Global};
 use std::sync::Wait;
 use std::thread::{self, Threads};
@@ -32,6 +34,7 @@ impl<'a, R: Threads + Wait + Sync + AllocGlobal, D: FileStore + Sync> Tester<'a,
     /// [`Fault::Write`] where the sink fails.
     pub fn run<O: Sink>(&self, out: &mut O) -> Result<Status, Mishap<'a>> {
         let names = scripts_of(self.rt.alloc(), self.options.tests, self.files)?;
+        self.keep_outputs(&names)?;
         self.keep_scripts(&names)?;
         // An older report would tell of this run, if it ends early.
         self.write_junit(b"")?;
@@ -45,18 +48,34 @@ impl<'a, R: Threads + Wait + Sync + AllocGlobal, D: FileStore + Sync> Tester<'a,
         self.end(&report)
     }
 
-    /// Refuses a file of JUnit that has the name of one of the scripts, or of what one has to print.
+    /// Refuses a file of JUnit that is one of the scripts, or what one has to print.
     fn keep_scripts(&self, names: &[String]) -> Result<(), Mishap<'a>> {
-        let Some(name) = self.options.junit else {
+        let Some(junit) = self.options.junit else {
             return Ok(());
         };
-        let script = name.strip_suffix(".out");
-        let is_kept = names.iter().any(|kept| {
-            kept.as_str() == name
-                || script.is_some() && kept.as_str().strip_suffix(".acc") == script
-        });
-        if is_kept {
-            return Err(Mishap::Unwritten(name, None, "it belongs to a script"));
+        for name in names {
+            if self.belongs_to(junit, name.as_str())? {
+                return Err(Mishap::Unwritten(junit, None, "it belongs to a script"));
+            }
+        }
+        Ok(())
+    }
+
+    /// Whether a file is a script, or what that has to print.
+    fn belongs_to(&self, file: &str, script: &str) -> Result<bool, Fault> {
+        let output = output_name(self.rt.alloc(), script)?;
+        Ok(self.files.is_same(file, script) || self.files.is_same(file, output.as_str()))
+    }
+
+    /// Refuses a script without `.acc` beside one that has the same name with it: both have to print the same file.
+    fn keep_outputs(&self, names: &[String]) -> Result<(), Mishap<'a>> {
+        for path in self.options.tests {
+            if names
+                .iter()
+                .any(|name| name.as_str().strip_suffix(".acc") == Some(*path))
+            {
+                return Err(Mishap::Unread(*path, "another script has the same output"));
+            }
         }
         Ok(())
     }
@@ -69,10 +88,10 @@ impl<'a, R: Threads + Wait + Sync + AllocGlobal, D: FileStore + Sync> Tester<'a,
     ) -> Result<(), Fault> {
         for part in names.chunks(self.options.jobs.max(1) as usize) {
             self.run_part(report, part)?;
-            write_page(out, &mut report.tap)?;
+            flush_page(out, &mut report.tap)?;
         }
         report.put_counts();
-        write_page(out, &mut report.tap)
+        flush_page(out, &mut report.tap)
     }
 
     /// Runs tests side by side, and adds what came of each.
@@ -268,7 +287,7 @@ fn put_all(sink: &mut MemorySink, bytes: &[u8]) -> Result<(), Fault> {
 }
 
 /// Writes a page, so that it is seen before the next test runs.
-fn write_page<O: Sink>(out: &mut O, page: &mut Page) -> Result<(), Fault> {
+fn flush_page<O: Sink>(out: &mut O, page: &mut Page) -> Result<(), Fault> {
     if !write_all(out, page.whole()?) || !out.flush() {
         return Err(Fault::Write);
     }

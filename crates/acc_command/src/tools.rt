@@ -10,7 +10,7 @@ use acc_follow::first_difference;
 use acc_lines::{Terminals, tell};
 use acc_options::{Options, options_of, parsed_words};
 use acc_runs::{
-    Ends, Mishap, Shown, Told, limits, options_for, read_expected, read_file, run_text,
+    Ends, Mishap, Shown, Told, keep_read, limits, options_for, read_expected, read_file, run_text,
     tell_difference, tell_mishap, tell_sizes, threads, use_script,
 };
 use acc_script::{MemorySink, Sink, Source, Status, ToWrite, read_all, write_all};
@@ -155,6 +155,7 @@ fn carried_out<
     ends: Ends<'_, O, E, D>,
 ) -> Result<Status, Mishap<'a>> {
     let config = limits(options)?;
+    keep_read(ends.files, options)?;
     if let Some(rounds) = options.drill {
         return Ok(drill_threads(rt, options, config, rounds, ends.out)?);
     }
@@ -203,10 +204,12 @@ fn run_shown<'a, R: Threads + Wait + Sync + AllocGlobal, S: Source, O: Sink, E: 
         files: &shown,
         told,
     };
-    let status = run_asked(rt, options, reader, within)?;
+    let ending = run_asked(rt, options, reader, within);
     match shown.held.take() {
-        Some(picture) if !write_all(out, &picture) => Err(Mishap::Fault(Fault::Write)),
-        _ => Ok(status),
+        Some(picture) if !write_all(out, &picture) && ending.is_ok() => {
+            Err(Mishap::Fault(Fault::Write))
+        }
+        _ => ending,
     }
 }
 

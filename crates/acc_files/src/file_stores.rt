@@ -5,6 +5,7 @@ use acc_script::{FromRead, read_all};
 use std::alloc::Global;
 use std::fs::{self, File, OpenFile};
 use std::io::{self, ErrorKind, Read, Write};
+use std::os::unix::fs::MetadataExt;
 use std::rt::Files;
 
 /// Why a file cannot be read, or cannot be written.
@@ -63,6 +64,11 @@ pub trait FileStore {
         Ok(None)
     }
 
+    /// Whether two names are those of one file. Where a file is not there, its name tells.
+    fn is_same(&self, one: &str, other: &str) -> bool {
+        one == other
+    }
+
     /// Removes a file, if that can be.
     fn remove(&self, _name: &str) {}
 
@@ -110,6 +116,13 @@ impl<R: Files + AllocGlobal + Sync> FileStore for Disk<'_, R> {
         match fs::create_dir(self.rt, name) {
             Err(_) if fs::metadata(self.rt, name).is_ok_and(|old| old.is_dir()) => Ok(()),
             made => Ok(made?),
+        }
+    }
+
+    fn is_same(&self, one: &str, other: &str) -> bool {
+        match (fs::metadata(self.rt, one), fs::metadata(self.rt, other)) {
+            (Ok(first), Ok(second)) => first.dev() == second.dev() && first.ino() == second.ino(),
+            _ => one == other,
         }
     }
 

@@ -351,11 +351,22 @@ fn replayed<R: Threads + Wait + Sync + AllocGlobal, E: Sink, G: Keeper>(
     let mut session = Session::new(rt.alloc(), setting.config, setting.parts)?;
     follower.forget();
     follower.is_silent = true;
-    for entry in entries {
-        run_again(rt, &mut session, entry, follower)?;
-    }
+    let ran = run_all_again(rt, &mut session, entries, follower);
     follower.is_silent = false;
+    ran?;
     Ok(session)
+}
+
+fn run_all_again<R: Threads + Wait + Sync + AllocGlobal, E: Sink, G: Keeper>(
+    rt: &R,
+    session: &mut Session,
+    entries: &[Entry],
+    follower: &mut Follower<'_, E, G>,
+) -> Result<(), Fault> {
+    for entry in entries {
+        run_again(rt, session, entry, follower)?;
+    }
+    Ok(())
 }
 
 fn run_again<R: Threads + Wait + Sync + AllocGlobal, E: Sink, G: Keeper>(

@@ -364,15 +364,6 @@ fn is_shown_twice(matches: &ArgMatches<'_>) -> bool {
     shown > 1 || shown == 1 && matches.contains_id("expect")
 }
 
-/// What would be written over a script, if anything would.
-fn written_over(matches: &ArgMatches<'_>) -> Option<&'static str> {
-    let scripts = matches.get_strs("FILE").unwrap_or(&[]);
-    ["svg", "html"].iter().copied().find(|name| {
-        let file = matches.get_str(name).unwrap_or("-");
-        file != "-" && scripts.contains(&file)
-    })
-}
-
 /// What goes with one file alone, where it is asked for and there are several.
 fn of_one_file(matches: &ArgMatches<'_>) -> Option<&'static str> {
     if matches.get_strs("FILE").unwrap_or(&[]).len() < 2 {
@@ -394,6 +385,9 @@ fn wrong_together(matches: &ArgMatches<'_>) -> Option<&'static str> {
     if inputs.saturating_add(input_count(matches, "expect")) > 1 {
         return Some("standard input can be one of FILE and OUTPUT alone");
     }
+    if matches.contains_id("svg") && matches.get_str("svg") == matches.get_str("html") {
+        return Some("PICTURE and PAGE are one file");
+    }
     if is_shown_twice(matches) {
         return Some("standard output can be one of PICTURE and PAGE, without '--expect'");
     }
@@ -410,9 +404,6 @@ fn wrong_together(matches: &ArgMatches<'_>) -> Option<&'static str> {
 fn bad_value(alloc: Global, matches: &ArgMatches<'_>) -> Result<Option<String>, AllocError> {
     if let Some(told) = wrong_together(matches) {
         return Ok(Some(String::from_str(alloc, told)?));
-    }
-    if let Some(name) = written_over(matches) {
-        return Ok(Some(format!(in alloc; "'--{name}' would write over FILE")?));
     }
     if let Some(name) = of_one_file(matches) {
         return Ok(Some(format!(in alloc; "'--{name}' goes with one FILE alone")?));

@@ -30,7 +30,7 @@ impl<D: FileStore> PictureSink for PictureFiles<'_, D> {
     fn keep(&self, frame: Frame, picture: &[u8]) -> Result<(), Stop> {
         let written = match frame {
             Frame::Last => self.files.write(self.last.unwrap_or(""), picture),
-            Frame::Line(number) => self.write_numbered(number, picture)?,
+            Frame::Line(number) => self.write_numbered(number, picture),
             Frame::Each => self.files.write(self.page.unwrap_or(""), picture),
         };
         match written {
@@ -61,12 +61,16 @@ impl<D: FileStore> Keeper for PictureFiles<'_, D> {
 }
 
 impl<D: FileStore> PictureFiles<'_, D> {
-    fn write_numbered(&self, number: u64, picture: &[u8]) -> Result<Result<(), Unread>, Fault> {
+    fn write_numbered(&self, number: u64, picture: &[u8]) -> Result<(), Unread> {
         let mut page = Page::new(self.alloc);
         put_numbered(&mut page, self.each.unwrap_or(""), number);
-        // The name is that of the command line, with a number.
-        let name = str::from_utf8(page.whole()?).unwrap_or("");
-        Ok(self.files.write(name, picture))
+        match page.whole() {
+            // The name is that of the command line, with a number.
+            Ok(name) => self
+                .files
+                .write(str::from_utf8(name).unwrap_or(""), picture),
+            Err(_) => Err(Unread::Memory),
+        }
     }
 }
 
@@ -84,6 +88,22 @@ pub struct Shown<'a, D> {
 impl<D: FileStore> FileStore for Shown<'_, D> {
     fn read(&self, name: &str) -> Result<Vec<u8>, Unread> {
         self.files.read(name)
+    }
+
+    fn list(&self, folder: &str) -> Result<Option<Vec<String>>, Unread> {
+        self.files.list(folder)
+    }
+
+    fn is_same(&self, one: &str, other: &str) -> bool {
+        self.files.is_same(one, other)
+    }
+
+    fn remove(&self, name: &str) {
+        self.files.remove(name);
+    }
+
+    fn make_folder(&self, name: &str) -> Result<(), Unread> {
+        self.files.make_folder(name)
     }
 
     fn write(&self, name: &str, bytes: &[u8]) -> Result<(), Unread> {

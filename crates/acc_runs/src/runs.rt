@@ -237,3 +237,29 @@ pub fn read_expected<'a, R: AllocGlobal, S: Source, D: FileStore>(
         read_file(files, name)
     }
 }
+
+/// Refuses a picture or a page that is a file which is read: a script, or the expected output.
+///
+/// # Errors
+///
+/// [`Mishap::Unwritten`] for the first of them.
+pub fn keep_read<'a, D: FileStore>(files: &D, options: Options<'a>) -> Result<(), Mishap<'a>> {
+    keep(files, options, options.svg)?;
+    keep(files, options, options.html)
+}
+
+/// Refuses a file that is written and read.
+fn keep<'a, D: FileStore>(
+    files: &D,
+    options: Options<'a>,
+    written: Option<&'a str>,
+) -> Result<(), Mishap<'a>> {
+    let Some(name) = written else {
+        return Ok(());
+    };
+    let read = [options.file, options.expect];
+    if name != "-" && read.iter().flatten().any(|file| files.is_same(name, file)) {
+        return Err(Mishap::Unwritten(name, None, "it is read"));
+    }
+    Ok(())
+}

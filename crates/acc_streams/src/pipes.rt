@@ -1,5 +1,7 @@
 //! Standard output and standard error, where nobody may read the output any more.
 
+ghost use Rattle.std.specs.Io.{WritesAtMost};
+
 use crate::colours::put_coloured;
 use acc_read::Page;
 use std::alloc::Global;
@@ -49,10 +51,7 @@ impl<W: Write> Write for Errors<'_, W> {
             return Ok(piece.len());
         }
         match self.colours {
-            Some(alloc) => {
-                write_coloured(alloc, &mut self.inner, piece)?;
-                Ok(piece.len())
-            }
+            Some(alloc) => write_coloured(alloc, &mut self.inner, piece),
             None => self.inner.write(piece),
         }
     }
@@ -62,8 +61,11 @@ impl<W: Write> Write for Errors<'_, W> {
     }
 }
 
-/// Writes whole lines with colours; as they are where there is no memory for these.
-fn write_coloured<W: Write>(alloc: Global, inner: &mut W, piece: &[u8]) -> io::Result<usize> {
+/// Writes whole lines with colours; as they are where there is no memory for these. It returns how many bytes of these
+/// lines are written.
+fn write_coloured<W: Write>(alloc: Global, inner: &mut W, piece: &[u8]) -> io::Result<usize>
+    ensures { WritesAtMost result piece.now }
+{
     let mut page = Page::new(alloc);
     put_coloured(&mut page, piece);
     match page.whole() {

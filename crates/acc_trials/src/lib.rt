@@ -9,4 +9,4 @@ mod trials;
 pub use machines::{Machine, bytes_of};
 pub use notes::{first_words, lines_of, options_in};
 pub use reports::{BAIL_OUT, Report};
-pub use trials::{Played, Trial, blessed, compared, expectation, put_texts};
+pub use trials::{Played, Trial, blessed, compared, expectation, output_name, put_texts};

@@ -57,6 +57,11 @@ impl Machine {
 /// The number of bytes that a text says: decimal digits, and behind them K for 1,024 bytes or M for 1,048,576, if any.
 pub fn bytes_of(text: &str) -> Option<u64> {
     let (digits, unit) = unit_of(text);
+    // A sign is no digit.
+    digits
+        .as_bytes()
+        .first()
+        .filter(|first| first.is_ascii_digit())?;
     Some(digits.parse::<u64>().ok()?.saturating_mul(unit))
 }
 

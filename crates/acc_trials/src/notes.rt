@@ -13,6 +13,10 @@ pub struct Note<'a> {
 }
 
 /// The lines of a text, without what ends them.
+///
+/// # Errors
+///
+/// That there is no memory for their places.
 pub fn lines_of(alloc: Global, text: &[u8]) -> Result<Vec<&[u8]>, AllocError> {
     let mut lines = Vec::new(alloc);
     let mut rest = text;
@@ -38,6 +42,10 @@ pub fn options_in(script: &[u8]) -> Option<&[u8]> {
 
 /// The words of a first line for the parser: one in place of the program's name, and those of what [`options_in`]
 /// returned.
+///
+/// # Errors
+///
+/// That there is no memory for their places.
 pub fn first_words(alloc: Global, text: &str) -> Result<Vec<&str>, AllocError> {
     let mut words = Vec::new(alloc);
     words.push("options:")?;

@@ -1,7 +1,7 @@
 //! What is told of tests: lines of TAP 14, and JUnit.
 
 use crate::notes::lines_of;
-use crate::trials::{Trial, put_line, put_lines, put_texts};
+use crate::trials::{Trial, put_texts};
 use acc_base::Fault;
 use acc_read::Page;
 use std::alloc::Global;
@@ -63,7 +63,9 @@ impl Report {
         self.failed = self.failed.saturating_add(u64::from(trial.is_failed()));
         self.noted = self.noted.saturating_add(u64::from(!note.is_empty()));
         put_trial(&mut self.tap, self.all, name, note, &wrong);
-        put_lines(&mut self.tap, "# ", &warnings);
+        for warning in &warnings {
+            put_shown(&mut self.tap, "# ", warning);
+        }
         put_element(&mut self.elements, name, note, &wrong);
         Ok(())
     }
@@ -107,19 +109,19 @@ fn put_trial(page: &mut Page, number: u64, name: &str, note: &[u8], wrong: &[&[u
     let mark = if note.is_empty() { "" } else { " # " };
     let _ = write!(page, "{result} {number} - ");
     put_name(page, name);
-    put_line(page, mark, note);
+    put_shown(page, mark, note.trim_ascii_end());
     if !wrong.is_empty() {
         page.text("  ---\n  message: |\n");
         for line in wrong {
-            put_message(page, *line);
+            put_shown(page, "    ", line);
         }
         page.text("  ...\n");
     }
 }
 
-/// Puts a line of what is wrong; a question mark for a control character but the tab.
-fn put_message(page: &mut Page, line: &[u8]) {
-    page.text("    ");
+/// Puts a line behind a mark; a question mark for a control character but the tab.
+fn put_shown(page: &mut Page, mark: &str, line: &[u8]) {
+    page.text(mark);
     for byte in line {
         if byte.is_ascii_control() && *byte != b'\t' {
             page.text("?");

@@ -119,12 +119,25 @@ fn is_mark(line: &[u8]) -> bool {
     line.trim_ascii_start().starts_with(MARK)
 }
 
-/// The name of the file that says what a script has to print: its own, or `life.out` for `life.acc`.
+/// The name of the file that says what a script has to print: its own, or that of [`output_name`].
+///
+/// # Errors
+///
+/// That there is no memory for it.
 pub fn expectation(alloc: Global, played: Played<'_>) -> Result<String, AllocError> {
     if is_marked(played) {
         return String::from_str(alloc, played.name);
     }
-    let stem = played.name.strip_suffix(".acc").unwrap_or(played.name);
+    output_name(alloc, played.name)
+}
+
+/// The name of the file that says what a script has to print, where the script does not: `life.out` for `life.acc`.
+///
+/// # Errors
+///
+/// That there is no memory for it.
+pub fn output_name(alloc: Global, script: &str) -> Result<String, AllocError> {
+    let stem = script.strip_suffix(".acc").unwrap_or(script);
     format!(in alloc; "{stem}.out")
 }
 
@@ -164,14 +177,14 @@ pub fn put_texts(page: &mut Page, texts: &[&str]) {
 }
 
 /// Puts lines, each behind a mark.
-pub fn put_lines(page: &mut Page, mark: &str, lines: &[&[u8]]) {
+fn put_lines(page: &mut Page, mark: &str, lines: &[&[u8]]) {
     for line in lines {
         put_line(page, mark, line);
     }
 }
 
 /// Puts a line behind a mark.
-pub fn put_line(page: &mut Page, mark: &str, line: &[u8]) {
+fn put_line(page: &mut Page, mark: &str, line: &[u8]) {
     page.text(mark);
     page.bytes(line);
     page.text("\n");

@@ -16,7 +16,7 @@ const ACCEPTED: [(&str, &str); 4] = [
 ];
 
 /// Command lines that are refused, and a text that standard error has then.
-const REFUSED: [(&str, &str); 48] = [
+const REFUSED: [(&str, &str); 50] = [
     (
         "--expect - -",
         "standard input can be one of FILE and OUTPUT",
@@ -46,7 +46,12 @@ const REFUSED: [(&str, &str); 48] = [
     ("--emit d", "'d' for '--emit <LANGUAGE>'"),
     ("--until-refusal", "'--until-refusal' goes with '--emit'"),
     ("- -", "standard input can be one of FILE and OUTPUT"),
-    ("life.acc --html life.acc", "'--html' would write over FILE"),
+    (
+        "life.acc --html life.acc",
+        "accrun: cannot write life.acc: it is read",
+    ),
+    ("--svg wall --html wall", "PICTURE and PAGE are one file"),
+    ("--host +64", "'+64' for '--host <BYTES>'"),
     ("life.acc --out wall", "'--out' goes with '--emit' alone"),
     ("--emit c --out wall", "'--out' wants FILEs or folders"),
     (

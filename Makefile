@@ -25,6 +25,8 @@ install: $(ACCRUN) $(ARCHIVE) $(SHARED)
 	sed 's|@PREFIX@|$(prefix)|; s|@VERSION@|$(version)|' share/lamwiest_acc.pc >$(root)/lib/pkgconfig/lamwiest_acc.pc
 	$(ACCRUN) --help | awk -f share/man.awk >$(root)/share/man/man1/accrun.1
 	install -D -m 644 share/accrun.bash $(root)/share/bash-completion/completions/accrun
+	install -D -m 644 share/accrun.fish $(root)/share/fish/vendor_completions.d/accrun.fish
+	install -D -m 644 share/accrun.zsh $(root)/share/zsh/site-functions/_accrun
 
 $(ACCRUN) $(ARCHIVE) $(SHARED):
 	@echo "$@ is not there: .ci/run builds it" >&2 && false

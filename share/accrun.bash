@@ -1,9 +1,17 @@
-# Completion of accrun for bash: its options, as its help names them, the words that two of them take, and files.
+# Completion of accrun for bash: its options, as its help names them, the words that three of them take, and files.
 _accrun() {
-    local word=${COMP_WORDS[COMP_CWORD]} words
-    case ${COMP_WORDS[COMP_CWORD - 1]} in
-    --emit) words=c ;;
-    --trace) words='counts full' ;;
+    local word=${COMP_WORDS[COMP_CWORD]} before=${COMP_WORDS[COMP_CWORD - 1]} words
+    # An equals sign is a word of its own here.
+    if [[ $word == = ]]; then
+        word=
+        before+='='
+    elif [[ $before == = ]]; then
+        before=${COMP_WORDS[COMP_CWORD - 2]}=
+    fi
+    case $before in
+    --explain=) words='auto always never' ;;
+    --emit | --emit=) words=c ;;
+    --trace | --trace=) words='counts full' ;;
     *)
         if [[ $word != -* ]]; then return; fi
         words=$(accrun --help | sed -nE 's/^ +(-., )?(--[a-z-]+).*/\2/p')

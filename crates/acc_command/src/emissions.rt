@@ -7,7 +7,8 @@ use acc_files::{FileStore, Unread};
 use acc_follow::Page;
 use acc_options::Options;
 use acc_runs::{
-    Ends, Mishap, Told, limits, options_for, read_expected, read_file, scripts_of, tell_mishap,
+    Ends, Mishap, Told, find_column, limits, options_for, read_expected, read_file, scripts_of,
+    tell_mishap,
 };
 use acc_script::{Sink, Source, Status, read_all, write_all};
 use std::alloc::Global;
@@ -50,50 +51,9 @@ pub fn emit_script<
         Some(name) => read_file(files, name)?,
         None => read_all(rt.alloc(), reader)?,
     };
-    let page = program_of(rt, options, &script, output.as_deref(), told)?;
+    let maker = Maker { rt, files };
+    let page = maker.program_of(options, &script, output.as_deref(), told)?;
     write_page(out, &page)
-}
-
-/// A script as a program in C, with the options of its first line where it comes from a file.
-fn program_of<'a, R: Threads + Wait + Sync + AllocGlobal>(
-    rt: &R,
-    options: Options<'a>,
-    script: &[u8],
-    output: Option<&[u8]>,
-    told: &mut Told,
-) -> Result<Page, Mishap<'a>> {
-    let options = match options.file {
-        Some(name) => options_for(rt.alloc(), options, name, script, told)?,
-        None => options,
-    };
-    let origin = Origin {
-        name: options.file.map(file_name),
-        script,
-        output,
-        until_refusal: options.until_refusal,
-    };
-    let config = limits(options)?;
-    let page = match emit(rt, config, origin) {
-        // Among many scripts, those that are refused are programs up to that.
-        Err(
-            EmitFault::Line {
-                reason: Reason::Refused,
-                ..
-            },
-        ) if options.out.is_some() => {
-            let until_refusal = true;
-            emit(
-                rt,
-                config,
-                Origin {
-                    until_refusal,
-                    ..origin
-                },
-            )
-        }
-        emitted => emitted,
-    };
-    Ok(page?)
 }
 
 /// The name of a file without its folders.
@@ -189,6 +149,61 @@ struct Maker<'a, R, D> {
 }
 
 impl<R: Threads + Wait + Sync + AllocGlobal, D: FileStore> Maker<'_, R, D> {
+    /// A script as a program in C, with the options of its first line where it comes from a file.
+    fn program_of<'x>(
+        &self,
+        options: Options<'x>,
+        script: &[u8],
+        output: Option<&[u8]>,
+        told: &mut Told,
+    ) -> Result<Page, Mishap<'x>> {
+        let options = match options.file {
+            Some(name) => options_for(self.rt.alloc(), options, name, script, told)?,
+            None => options,
+        };
+        let emitted = self.emitted(options, script, output);
+        if let Err(Mishap::Fault(Fault::Script { .. })) = &emitted {
+            find_column(self.rt, options, script, self.files, told);
+        }
+        emitted
+    }
+
+    fn emitted<'x>(
+        &self,
+        options: Options<'x>,
+        script: &[u8],
+        output: Option<&[u8]>,
+    ) -> Result<Page, Mishap<'x>> {
+        let config = limits(options)?;
+        let origin = Origin {
+            name: options.file.map(file_name),
+            script,
+            output,
+            until_refusal: options.until_refusal,
+        };
+        let page = match emit(self.rt, config, origin) {
+            // Among many scripts, those that are refused are programs up to that.
+            Err(
+                EmitFault::Line {
+                    reason: Reason::Refused,
+                    ..
+                },
+            ) if options.out.is_some() => {
+                let until_refusal = true;
+                emit(
+                    self.rt,
+                    config,
+                    Origin {
+                        until_refusal,
+                        ..origin
+                    },
+                )
+            }
+            emitted => emitted,
+        };
+        Ok(page?)
+    }
+
     /// Writes the program of a script to a file. Where it gives none, that is told, and no older program of it stays; then
     /// this is false.
     fn make<'x, E: Sink>(
@@ -204,7 +219,7 @@ impl<R: Threads + Wait + Sync + AllocGlobal, D: FileStore> Maker<'_, R, D> {
         match self.write_program(options, script, name, &mut told) {
             Ok(()) => return Ok(true),
             Err(Mishap::Fault(Fault::Memory)) => return Err(Fault::Memory),
-            Err(mishap) => tell_mishap(self.rt.alloc(), err, Some(script), 0, mishap),
+            Err(mishap) => tell_mishap(self.rt.alloc(), err, Some(script), told.column, mishap),
         }
         let _ = write_all(err, told.reason.as_slice());
         if self.files.read(name).is_ok_and(|old| is_emitted(&old)) {
@@ -221,7 +236,7 @@ impl<R: Threads + Wait + Sync + AllocGlobal, D: FileStore> Maker<'_, R, D> {
         told: &mut Told,
     ) -> Result<(), Mishap<'x>> {
         let text = read_file(self.files, script)?;
-        let page = program_of(self.rt, options, &text, None, told)?;
+        let page = self.program_of(options, &text, None, told)?;
         self.write(name, page.whole()?)
     }
 

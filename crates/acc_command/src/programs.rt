@@ -6,7 +6,7 @@ use acc_files::FileStore;
 use acc_follow::{Page, RowCounts, count_rows};
 use acc_options::Options;
 use acc_random::random_script;
-use acc_runs::{Ends, Mishap, limits, options_for, read_file};
+use acc_runs::{Ends, Mishap, find_column, limits, options_for, read_file};
 use acc_script::{Sink, Status, write_all};
 use std::sync::Wait;
 use std::thread::Threads;
@@ -44,12 +44,28 @@ pub fn write_rows<'a, R: Threads + Wait + Sync + AllocGlobal, O: Sink, E: Sink, 
         let script = read_file(ends.files, name)?;
         let options = options_for(rt.alloc(), options, name, &script, ends.told)?;
         let config = limits(options)?;
-        rows = count_rows(rt, config, &script, rows).map_err(|fault| Mishap::Within(name, fault))?;
+        rows = match count_rows(rt, config, &script, rows) {
+            Ok(rows) => rows,
+            Err(fault) => return Err(within(rt, options, name, &script, fault, ends)),
+        };
     }
     let mut page = Page::new(rt.alloc());
     let is_complete = rows.put(&mut page);
     let status = write_page(ends.out, &page)?;
     Ok(if is_complete { status } else { Status::Refused })
+}
+
+/// Why the script of a file ended the count: its fault, with its column.
+fn within<'a, R: Threads + Wait + Sync + AllocGlobal, O: Sink, E: Sink, D: FileStore>(
+    rt: &R,
+    options: Options<'a>,
+    name: &'a str,
+    script: &[u8],
+    fault: Fault,
+    ends: Ends<'_, O, E, D>,
+) -> Mishap<'a> {
+    find_column(rt, options, script, ends.files, ends.told);
+    Mishap::Within(name, ends.told.column, fault)
 }
 
 /// Writes a page.

@@ -10,7 +10,7 @@ use acc_follow::first_difference;
 use acc_lines::{Terminals, tell};
 use acc_options::{Options, options_of, parsed_words};
 use acc_runs::{
-    Ends, Mishap, Shown, Told, keep_read, limits, options_for, read_expected, read_file, run_text,
+    Ends, Mishap, Shown, Told, keep_apart, limits, options_for, read_expected, read_file, run_text,
     tell_difference, tell_mishap, tell_sizes, threads, use_script,
 };
 use acc_script::{MemorySink, Sink, Source, Status, ToWrite, read_all, write_all};
@@ -155,7 +155,7 @@ fn carried_out<
     ends: Ends<'_, O, E, D>,
 ) -> Result<Status, Mishap<'a>> {
     let config = limits(options)?;
-    keep_read(ends.files, options)?;
+    keep_apart(ends.files, options)?;
     if let Some(rounds) = options.drill {
         return Ok(drill_threads(rt, options, config, rounds, ends.out)?);
     }

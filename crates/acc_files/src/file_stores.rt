@@ -64,7 +64,7 @@ pub trait FileStore {
         Ok(None)
     }
 
-    /// Whether two names are those of one file. Where a file is not there, its name tells.
+    /// Whether two names are those of one file, or of one that is not there.
     fn is_same(&self, one: &str, other: &str) -> bool {
         one == other
     }
@@ -120,9 +120,10 @@ impl<R: Files + AllocGlobal + Sync> FileStore for Disk<'_, R> {
     }
 
     fn is_same(&self, one: &str, other: &str) -> bool {
-        match (fs::metadata(self.rt, one), fs::metadata(self.rt, other)) {
-            (Ok(first), Ok(second)) => first.dev() == second.dev() && first.ino() == second.ino(),
-            _ => one == other,
+        match (number_of(self.rt, one), number_of(self.rt, other)) {
+            (Some(first), Some(second)) => first == second,
+            (None, None) => is_same_name(self.rt, one, other),
+            _ => false,
         }
     }
 
@@ -136,6 +137,28 @@ impl<R: Files + AllocGlobal + Sync> FileStore for Disk<'_, R> {
         }
         let mut beside = String::from_str(self.rt.alloc(), name).map_err(io::Error::from)?;
         Ok(write_beside(self.rt, name, &mut beside, bytes)?)
+    }
+}
+
+/// The numbers of a file that is there: those of its disk and of its node.
+fn number_of<R: Files>(rt: &R, name: &str) -> Option<(u64, u64)> {
+    let metadata = fs::metadata(rt, name).ok()?;
+    Some((metadata.dev(), metadata.ino()))
+}
+
+/// Whether two files that are not there would be one: in the same folder, under the same name.
+fn is_same_name<R: Files>(rt: &R, one: &str, other: &str) -> bool {
+    let (first, second) = (parts_of(one), parts_of(other));
+    let folder = number_of(rt, first.0);
+    first.1 == second.1 && folder.is_some() && folder == number_of(rt, second.0)
+}
+
+/// The folder of a file, and its name there.
+fn parts_of(name: &str) -> (&str, &str) {
+    match name.rsplit_once('/') {
+        Some(("", last)) => ("/", last),
+        Some(parts) => parts,
+        None => (".", name),
     }
 }
 

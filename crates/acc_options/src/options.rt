@@ -385,8 +385,11 @@ fn wrong_together(matches: &ArgMatches<'_>) -> Option<&'static str> {
     if inputs.saturating_add(input_count(matches, "expect")) > 1 {
         return Some("standard input can be one of FILE and OUTPUT alone");
     }
-    if matches.contains_id("svg") && matches.get_str("svg") == matches.get_str("html") {
-        return Some("PICTURE and PAGE are one file");
+    if ["svg-every", "junit"]
+        .iter()
+        .any(|name| matches.get_str(name) == Some("-"))
+    {
+        return Some("'-' is none of what '--svg-every' and '--junit' take");
     }
     if is_shown_twice(matches) {
         return Some("standard output can be one of PICTURE and PAGE, without '--expect'");
@@ -402,14 +405,14 @@ fn wrong_together(matches: &ArgMatches<'_>) -> Option<&'static str> {
 
 /// What is wrong with the files, the options or the sizes, if anything is.
 fn bad_value(alloc: Global, matches: &ArgMatches<'_>) -> Result<Option<String>, AllocError> {
-    if let Some(told) = wrong_together(matches) {
-        return Ok(Some(String::from_str(alloc, told)?));
-    }
     if let Some(name) = of_one_file(matches) {
         return Ok(Some(format!(in alloc; "'--{name}' goes with one FILE alone")?));
     }
     if let Some((name, other)) = misplaced(matches) {
         return Ok(Some(format!(in alloc; "'--{name}' goes with '--{other}' alone")?));
+    }
+    if let Some(told) = wrong_together(matches) {
+        return Ok(Some(String::from_str(alloc, told)?));
     }
     match size_told(alloc, "host", matches.get_str("host").unwrap_or(""))? {
         Some(text) => Ok(Some(text)),

@@ -20,8 +20,8 @@ pub enum Mishap<'a> {
     FirstLine,
     /// Some lines are at fault, which is told already.
     Told,
-    /// A fault of the script in a file of this name, one of several.
-    Within(&'a str, Fault),
+    /// A fault of the script in a file of this name, one of several, and its column; 0 where none is known.
+    Within(&'a str, u64, Fault),
     /// A file of this name cannot be read, and why.
     Unread(&'a str, &'static str),
     /// The line of a number cannot be emitted as C, and why.
@@ -67,7 +67,7 @@ pub fn tell_mishap<E: Sink>(
 ) {
     match mishap {
         Mishap::Fault(fault) => tell_fault(alloc, err, file, column, fault),
-        Mishap::Within(name, fault) => tell_fault(alloc, err, Some(name), 0, fault),
+        Mishap::Within(name, column, fault) => tell_fault(alloc, err, Some(name), column, fault),
         _ => {
             let mut page = Page::new(alloc);
             put_mishap(&mut page, file, mishap);

@@ -10,6 +10,6 @@ pub use endings::{Mishap, tell_difference, tell_mishap, tell_sizes};
 pub use paths::scripts_of;
 pub use picture_files::Shown;
 pub use runs::{
-    Ends, Told, keep_read, limits, options_for, read_expected, read_file, run_text, threads,
-    use_script,
+    Ends, Told, find_column, keep_apart, limits, options_for, read_expected, read_file, run_text,
+    threads, use_script,
 };

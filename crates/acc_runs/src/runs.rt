@@ -9,10 +9,11 @@ use acc_files::FileStore;
 use acc_follow::{Beside, Frame, Page, Setting, Stop, Unkept, warnings_of};
 use acc_lines::run_script;
 use acc_options::{DEFAULT_THREADS, Options, with_first_line};
-use acc_script::{MemorySource, Sink, Source, Status, read_all, write_all};
+use acc_script::{MemorySource, Sink, Source, Status, ToWrite, read_all, write_all};
 use acc_trials::put_texts;
 use clap::error::ErrorKind;
 use std::alloc::Global;
+use std::io;
 use std::sync::Wait;
 use std::thread::Threads;
 
@@ -238,28 +239,53 @@ pub fn read_expected<'a, R: AllocGlobal, S: Source, D: FileStore>(
     }
 }
 
-/// Refuses a picture or a page that is a file which is read: a script, or the expected output.
+/// Refuses a picture or a page that is another file of a run too: the script, the expected output, or each other.
 ///
 /// # Errors
 ///
 /// [`Mishap::Unwritten`] for the first of them.
-pub fn keep_read<'a, D: FileStore>(files: &D, options: Options<'a>) -> Result<(), Mishap<'a>> {
-    keep(files, options, options.svg)?;
-    keep(files, options, options.html)
+pub fn keep_apart<'a, D: FileStore>(files: &D, options: Options<'a>) -> Result<(), Mishap<'a>> {
+    keep(files, options.svg, &[options.file, options.expect])?;
+    keep(
+        files,
+        options.html,
+        &[options.file, options.expect, options.svg],
+    )
 }
 
-/// Refuses a file that is written and read.
+/// Refuses a file that is one of the others.
 fn keep<'a, D: FileStore>(
     files: &D,
-    options: Options<'a>,
     written: Option<&'a str>,
+    others: &[Option<&str>],
 ) -> Result<(), Mishap<'a>> {
     let Some(name) = written else {
         return Ok(());
     };
-    let read = [options.file, options.expect];
-    if name != "-" && read.iter().flatten().any(|file| files.is_same(name, file)) {
-        return Err(Mishap::Unwritten(name, None, "it is read"));
+    if name != "-"
+        && others
+            .iter()
+            .flatten()
+            .any(|other| files.is_same(name, other))
+    {
+        return Err(Mishap::Unwritten(name, None, "it is named twice"));
     }
     Ok(())
+}
+
+/// Puts the column of the line at fault of a script, by a run that shows nothing.
+pub fn find_column<R: Threads + Wait + Sync + AllocGlobal, D: FileStore>(
+    rt: &R,
+    options: Options<'_>,
+    script: &[u8],
+    files: &D,
+    told: &mut Told,
+) {
+    let ends = Ends {
+        out: &mut ToWrite::new(io::sink()),
+        err: &mut ToWrite::new(io::sink()),
+        files,
+        told,
+    };
+    let _ = use_script(rt, options, &mut MemorySource::new(script), ends);
 }

@@ -16,7 +16,7 @@ const ACCEPTED: [(&str, &str); 4] = [
 ];
 
 /// Command lines that are refused, and a text that standard error has then.
-const REFUSED: [(&str, &str); 50] = [
+const REFUSED: [(&str, &str); 51] = [
     (
         "--expect - -",
         "standard input can be one of FILE and OUTPUT",
@@ -48,9 +48,13 @@ const REFUSED: [(&str, &str); 50] = [
     ("- -", "standard input can be one of FILE and OUTPUT"),
     (
         "life.acc --html life.acc",
-        "accrun: cannot write life.acc: it is read",
+        "accrun: cannot write life.acc: it is named twice",
     ),
-    ("--svg wall --html wall", "PICTURE and PAGE are one file"),
+    (
+        "--svg wall --html wall",
+        "accrun: cannot write wall: it is named twice",
+    ),
+    ("--svg-every -", "'-' is none of what"),
     ("--host +64", "'+64' for '--host <BYTES>'"),
     ("life.acc --out wall", "'--out' goes with '--emit' alone"),
     ("--emit c --out wall", "'--out' wants FILEs or folders"),

@@ -16,7 +16,7 @@ const ACCEPTED: [(&str, &str); 4] = [
 ];
 
 /// Command lines that are refused, and a text that standard error has then.
-const REFUSED: [(&str, &str); 51] = [
+const REFUSED: [(&str, &str); 56] = [
     (
         "--expect - -",
         "standard input can be one of FILE and OUTPUT",

@@ -26,15 +26,11 @@ const PAGE: Row = (
     1,
 );
 
-/// The same tests, side by side and with JUnit, and where they are blessed.
-const TOLD_OTHERWISE: [Row; 2] = [
-    (
-        "--test suite.acc --jobs 2 --junit suite.xml",
-        TOLD.1,
-        TOLD.2,
-        TOLD.3,
-    ),
-    ("--test suite.acc --bless", TOLD.1, TOLD.2, TOLD.3),
+/// That script as a test, also side by side and with JUnit, and where it is blessed.
+const TESTED: [Row; 3] = [
+    ("--test suite.acc", "", TOLD, 0),
+    ("--test suite.acc --jobs 2 --junit suite.xml", "", TOLD, 0),
+    ("--test suite.acc --bless", "", TOLD, 0),
 ];
 
 /// Scripts that become programs in a folder.
@@ -142,8 +138,7 @@ fn a_refused_growth_leaves_what_a_script_prints_line_by_line(rt: HostRuntime) {
 
 #[test]
 fn a_refused_growth_leaves_what_is_told_of_a_test(rt: HostRuntime) {
-    check_scarce(&rt, &[TOLD]);
-    check_scarce(&rt, &TOLD_OTHERWISE);
+    check_scarce(&rt, &TESTED);
 }
 
 #[test]

@@ -74,12 +74,8 @@ pub const SUITE: &str =
     "# options: --devices 2\n# requires: devices 2\n# xfail: a new array has no byte 1\narray a 1\nshow a\n#> 01\n";
 
 /// What is told of that script.
-pub const TOLD: Row = (
-    "--test suite.acc",
-    "",
+pub const TOLD: &str =
     "TAP version 14\n1..1\nnot ok 1 - suite.acc # TODO a new array has no byte 1\n  ---\n  message: |\n    \
         suite.acc:5: line 1 of the output is not as expected\n    --- suite.acc\n    +++ suite.acc\n    \
         @@ -6,1 +6,1 @@ show a\n    -#> 01\n    +#> 00\n  ...\n\
-        # 1 tests: 0 failed, 1 skipped or expected to fail\n",
-    0,
-);
+        # 1 tests: 0 failed, 1 skipped or expected to fail\n";

@@ -3,7 +3,7 @@
 use crate::programs::write_page;
 use acc_base::Fault;
 use acc_emit::{CHECK, EmitFault, MAKEFILE, Origin, Reason, emit};
-use acc_files::{FileStore, Unread};
+use acc_files::{FileFault, FileStore};
 use acc_follow::Page;
 use acc_options::Options;
 use acc_runs::{
@@ -76,8 +76,8 @@ pub fn emit_all<'a, R: Threads + Wait + Sync + AllocGlobal, O: Sink, E: Sink, D:
 ) -> Result<Status, Mishap<'a>> {
     let Ends { err, files, .. } = ends;
     let scripts = scripts_of(rt.alloc(), options.files, files)?;
-    if let Err(unread) = files.make_folder(folder) {
-        return Err(Mishap::Unwritten(folder, None, unread.reason()?));
+    if let Err(fault) = files.make_folder(folder) {
+        return Err(Mishap::Unwritten(folder, None, fault.reason()?));
     }
     let maker = Maker { rt, files };
     let mut status = Status::Clean;
@@ -243,13 +243,13 @@ impl<R: Threads + Wait + Sync + AllocGlobal, D: FileStore> Maker<'_, R, D> {
     /// Writes a file, unless one has its name that `--emit c` did not write.
     fn write<'x>(&self, name: &'x str, text: &[u8]) -> Result<(), Mishap<'x>> {
         let written = match self.files.read(name) {
-            Ok(old) if !is_emitted(&old) => Err(Unread::Because("another file has this name")),
-            Ok(_) | Err(Unread::Absent) => self.files.write(name, text),
-            Err(unread) => Err(unread),
+            Ok(old) if !is_emitted(&old) => Err(FileFault::Because("another file has this name")),
+            Ok(_) | Err(FileFault::Absent) => self.files.write(name, text),
+            Err(fault) => Err(fault),
         };
         match written {
             Ok(()) => Ok(()),
-            Err(unread) => Err(Mishap::Unwritten(name, None, unread.reason()?)),
+            Err(fault) => Err(Mishap::Unwritten(name, None, fault.reason()?)),
         }
     }
 

@@ -8,6 +8,6 @@ mod programs;
 mod suites;
 mod tools;
 
-pub use acc_files::{Disk, FileStore, Unread};
+pub use acc_files::{Disk, FileFault, FileStore};
 pub use acc_lines::{Terminals, tell};
 pub use tools::{CLEAN, FAULTED, REFUSED, tool};

@@ -1,7 +1,7 @@
 //! Scripts as tests: those of files and folders are run, and compared with what they have to print.
 
 use acc_base::Fault;
-use acc_files::{FileStore, Unread};
+use acc_files::{FileFault, FileStore};
 use acc_follow::{Page, warnings_of};
 use acc_options::Options;
 use acc_runs::{Ends, Mishap, Told, options_for, run_text, scripts_of, tell_mishap};
@@ -137,14 +137,14 @@ impl<'a, R: Threads + Wait + Sync + AllocGlobal, D: FileStore + Sync> Tester<'a,
         };
         match self.files.write(name, text) {
             Ok(()) => Ok(()),
-            Err(unread) => Err(Mishap::Unwritten(name, None, unread.reason()?)),
+            Err(fault) => Err(Mishap::Unwritten(name, None, fault.reason()?)),
         }
     }
 
     fn try_file(&self, name: &str) -> Result<Trial, Fault> {
         match self.files.read(name) {
             Ok(script) => self.try_script(name, &script),
-            Err(unread) => self.unreadable(name, unread.reason()?),
+            Err(fault) => self.unreadable(name, fault.reason()?),
         }
     }
 
@@ -241,8 +241,8 @@ impl<'a, R: Threads + Wait + Sync + AllocGlobal, D: FileStore + Sync> Tester<'a,
         let name = expectation(alloc, played)?;
         match self.files.read(name.as_str()) {
             Ok(wanted) => self.compare(played, name.as_str(), &wanted),
-            Err(Unread::Absent) => self.compare(played, name.as_str(), &[]),
-            Err(unread) => self.unreadable(name.as_str(), unread.reason()?),
+            Err(FileFault::Absent) => self.compare(played, name.as_str(), &[]),
+            Err(fault) => self.unreadable(name.as_str(), fault.reason()?),
         }
     }
 
@@ -268,7 +268,7 @@ impl<'a, R: Threads + Wait + Sync + AllocGlobal, D: FileStore + Sync> Tester<'a,
         let alloc = self.rt.alloc();
         match self.files.write(name, text) {
             Ok(()) => Trial::noted(alloc, &[], Page::new(alloc)),
-            Err(unread) => self.unwritable(name, unread.reason()?),
+            Err(fault) => self.unwritable(name, fault.reason()?),
         }
     }
 

@@ -10,7 +10,7 @@ use std::rt::Files;
 
 /// Why a file cannot be read, or cannot be written.
 #[derive(Clone, Copy)]
-pub enum Unread {
+pub enum FileFault {
     /// There is no memory for it.
     Memory,
     /// It is not there.
@@ -19,7 +19,7 @@ pub enum Unread {
     Because(&'static str),
 }
 
-impl Unread {
+impl FileFault {
     /// Why, in words.
     ///
     /// # Errors
@@ -27,19 +27,19 @@ impl Unread {
     /// [`Fault::Memory`].
     pub fn reason(self) -> Result<&'static str, Fault> {
         match self {
-            Unread::Memory => Err(Fault::Memory),
-            Unread::Absent => Ok("No such file or directory"),
-            Unread::Because(reason) => Ok(reason),
+            FileFault::Memory => Err(Fault::Memory),
+            FileFault::Absent => Ok("No such file or directory"),
+            FileFault::Because(reason) => Ok(reason),
         }
     }
 }
 
-impl From<io::Error> for Unread {
-    fn from(error: io::Error) -> Unread {
+impl From<io::Error> for FileFault {
+    fn from(error: io::Error) -> FileFault {
         match error.kind() {
-            ErrorKind::OutOfMemory => Unread::Memory,
-            ErrorKind::NotFound => Unread::Absent,
-            kind => Unread::Because(reason_of(kind)),
+            ErrorKind::OutOfMemory => FileFault::Memory,
+            ErrorKind::NotFound => FileFault::Absent,
+            kind => FileFault::Because(reason_of(kind)),
         }
     }
 }
@@ -50,8 +50,8 @@ pub trait FileStore {
     ///
     /// # Errors
     ///
-    /// Those of [`Unread`]; a file may have 16,777,216 bytes.
-    fn read(&self, name: &str) -> Result<Vec<u8>, Unread>;
+    /// Those of [`FileFault`]; a file may have 16,777,216 bytes.
+    fn read(&self, name: &str) -> Result<Vec<u8>, FileFault>;
 
     /// Returns the paths of what is in a folder, in any order; `None` where that is no folder. It leaves out names that
     /// begin with `.`, and links that lead to no file. Where a name is not UTF-8, U+FFFD stands in it, and no such file
@@ -59,8 +59,8 @@ pub trait FileStore {
     ///
     /// # Errors
     ///
-    /// Those of [`Unread`].
-    fn list(&self, _folder: &str) -> Result<Option<Vec<String>>, Unread> {
+    /// Those of [`FileFault`].
+    fn list(&self, _folder: &str) -> Result<Option<Vec<String>>, FileFault> {
         Ok(None)
     }
 
@@ -76,8 +76,8 @@ pub trait FileStore {
     ///
     /// # Errors
     ///
-    /// Those of [`Unread`].
-    fn make_folder(&self, _name: &str) -> Result<(), Unread> {
+    /// Those of [`FileFault`].
+    fn make_folder(&self, _name: &str) -> Result<(), FileFault> {
         Ok(())
     }
 
@@ -86,8 +86,8 @@ pub trait FileStore {
     ///
     /// # Errors
     ///
-    /// Those of [`Unread`].
-    fn write(&self, name: &str, bytes: &[u8]) -> Result<(), Unread>;
+    /// Those of [`FileFault`].
+    fn write(&self, name: &str, bytes: &[u8]) -> Result<(), FileFault>;
 }
 
 /// The files of the system.
@@ -98,21 +98,21 @@ pub struct Disk<'a, R> {
 }
 
 impl<R: Files + AllocGlobal + Sync> FileStore for Disk<'_, R> {
-    fn read(&self, name: &str) -> Result<Vec<u8>, Unread> {
+    fn read(&self, name: &str) -> Result<Vec<u8>, FileFault> {
         read_open(self.rt.alloc(), fs::open(self.rt, name)?)
     }
 
-    fn list(&self, folder: &str) -> Result<Option<Vec<String>>, Unread> {
+    fn list(&self, folder: &str) -> Result<Option<Vec<String>>, FileFault> {
         // The slash follows a link to a folder.
         let path = path_in(self.rt.alloc(), folder, b"")?;
         match self.rt.open_dir(path.as_str()) {
             Ok(names) => Ok(Some(paths_in(self.rt, folder, &read_whole(self.rt.alloc(), names)?)?)),
             Err(error) if error.kind() == ErrorKind::NotADirectory => Ok(None),
-            Err(error) => Err(Unread::from(error)),
+            Err(error) => Err(FileFault::from(error)),
         }
     }
 
-    fn make_folder(&self, name: &str) -> Result<(), Unread> {
+    fn make_folder(&self, name: &str) -> Result<(), FileFault> {
         match fs::create_dir(self.rt, name) {
             Err(_) if fs::metadata(self.rt, name).is_ok_and(|old| old.is_dir()) => Ok(()),
             made => Ok(made?),
@@ -131,7 +131,7 @@ impl<R: Files + AllocGlobal + Sync> FileStore for Disk<'_, R> {
         let _ = fs::remove_file(self.rt, name);
     }
 
-    fn write(&self, name: &str, bytes: &[u8]) -> Result<(), Unread> {
+    fn write(&self, name: &str, bytes: &[u8]) -> Result<(), FileFault> {
         if fs::symlink_metadata(self.rt, name).is_ok_and(|old| !old.is_file()) {
             return Ok(fs::write(self.rt, name, bytes)?);
         }
@@ -238,18 +238,18 @@ fn leads_nowhere<R: Files>(rt: &R, path: &str) -> bool {
         && !fs::metadata(rt, path).is_ok_and(|target| target.is_file())
 }
 
-fn read_open<F: Read + OpenFile + Drop>(alloc: Global, file: F) -> Result<Vec<u8>, Unread> {
+fn read_open<F: Read + OpenFile + Drop>(alloc: Global, file: F) -> Result<Vec<u8>, FileFault> {
     if file.metadata().is_ok_and(|metadata| metadata.is_dir()) {
-        return Err(Unread::Because("Is a directory"));
+        return Err(FileFault::Because("Is a directory"));
     }
     read_whole(alloc, file)
 }
 
-fn read_whole<F: Read + Drop>(alloc: Global, file: F) -> Result<Vec<u8>, Unread> {
+fn read_whole<F: Read + Drop>(alloc: Global, file: F) -> Result<Vec<u8>, FileFault> {
     match read_all(alloc, &mut FromRead::new(file)) {
         Ok(bytes) => Ok(bytes),
-        Err(Fault::Memory) => Err(Unread::Memory),
-        Err(_) => Err(Unread::Because("it is too long, or a read failed")),
+        Err(Fault::Memory) => Err(FileFault::Memory),
+        Err(_) => Err(FileFault::Because("it is too long, or a read failed")),
     }
 }
 

@@ -3,4 +3,4 @@
 
 mod file_stores;
 
-pub use file_stores::{Disk, FileStore, Unread};
+pub use file_stores::{Disk, FileFault, FileStore};

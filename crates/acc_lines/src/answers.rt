@@ -81,23 +81,9 @@ fn run_copied<R: Threads + Wait + Sync + AllocGlobal, O: Sink, X: Watcher<O>>(
 ) -> Result<bool, Fault> {
     let mut printed = MemorySink::new(rt.alloc());
     let mut lines = Vec::new(rt.alloc());
-    let mut copier = Copier {
-        out,
-        watcher,
-        alloc: rt.alloc(),
-        echo: views.echo,
-        json: views.json,
-        lines: &mut lines,
-        copied: 0,
-        failed: None,
-    };
+    let mut copier = Copier::new(rt.alloc(), views, out, watcher, &mut lines);
     let ending = run_line(rt, number, session, line, &mut printed, &mut copier);
-    match (copier.failed, ending) {
-        (Some(fault), _) => Err(fault),
-        // This sink fails for lack of memory alone.
-        (None, Err(Fault::Write)) => Err(Fault::Memory),
-        (None, ending) => ending,
-    }
+    copier.ended(ending)
 }
 
 /// Writes the empty line that ends an answer.

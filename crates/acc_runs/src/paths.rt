@@ -2,7 +2,7 @@
 
 use crate::endings::Mishap;
 use acc_base::Fault;
-use acc_files::{FileStore, Unread};
+use acc_files::{FileFault, FileStore};
 use std::alloc::Global;
 use std::collections::VecDeque;
 
@@ -57,7 +57,7 @@ fn visit<D: FileStore>(
     match files.list(name.as_str()) {
         Ok(Some(names)) => pending.extend(names)?,
         Ok(None) if !is_named && !name.as_str().ends_with(".acc") => {}
-        Err(Unread::Memory) => return Err(Fault::Memory),
+        Err(FileFault::Memory) => return Err(Fault::Memory),
         _ => scripts.push(name)?,
     }
     Ok(())

@@ -1,7 +1,7 @@
 //! The files that pictures become.
 
 use acc_base::Fault;
-use acc_files::{FileStore, Unread};
+use acc_files::{FileFault, FileStore};
 use acc_follow::{Frame, Page, PictureSink, Stop, Unkept};
 use acc_lines::Keeper;
 use acc_options::statements;
@@ -35,9 +35,9 @@ impl<D: FileStore> PictureSink for PictureFiles<'_, D> {
         };
         match written {
             Ok(()) => Ok(()),
-            Err(unread) => Err(Stop::Picture(Unkept {
+            Err(fault) => Err(Stop::Picture(Unkept {
                 frame,
-                reason: unread.reason()?,
+                reason: fault.reason()?,
             })),
         }
     }
@@ -55,13 +55,13 @@ impl<D: FileStore> Keeper for PictureFiles<'_, D> {
     fn save(&self, name: &str, script: &[u8]) -> Result<(), &'static str> {
         match self.files.write(name, script) {
             Ok(()) => Ok(()),
-            Err(unread) => Err(unread.reason().unwrap_or("there is no memory")),
+            Err(fault) => Err(fault.reason().unwrap_or("there is no memory")),
         }
     }
 }
 
 impl<D: FileStore> PictureFiles<'_, D> {
-    fn write_numbered(&self, number: u64, picture: &[u8]) -> Result<(), Unread> {
+    fn write_numbered(&self, number: u64, picture: &[u8]) -> Result<(), FileFault> {
         let mut page = Page::new(self.alloc);
         put_numbered(&mut page, self.each.unwrap_or(""), number);
         match page.whole() {
@@ -69,7 +69,7 @@ impl<D: FileStore> PictureFiles<'_, D> {
             Ok(name) => self
                 .files
                 .write(str::from_utf8(name).unwrap_or(""), picture),
-            Err(_) => Err(Unread::Memory),
+            Err(_) => Err(FileFault::Memory),
         }
     }
 }
@@ -86,11 +86,11 @@ pub struct Shown<'a, D> {
 }
 
 impl<D: FileStore> FileStore for Shown<'_, D> {
-    fn read(&self, name: &str) -> Result<Vec<u8>, Unread> {
+    fn read(&self, name: &str) -> Result<Vec<u8>, FileFault> {
         self.files.read(name)
     }
 
-    fn list(&self, folder: &str) -> Result<Option<Vec<String>>, Unread> {
+    fn list(&self, folder: &str) -> Result<Option<Vec<String>>, FileFault> {
         self.files.list(folder)
     }
 
@@ -102,11 +102,11 @@ impl<D: FileStore> FileStore for Shown<'_, D> {
         self.files.remove(name);
     }
 
-    fn make_folder(&self, name: &str) -> Result<(), Unread> {
+    fn make_folder(&self, name: &str) -> Result<(), FileFault> {
         self.files.make_folder(name)
     }
 
-    fn write(&self, name: &str, bytes: &[u8]) -> Result<(), Unread> {
+    fn write(&self, name: &str, bytes: &[u8]) -> Result<(), FileFault> {
         if name != "-" {
             return self.files.write(name, bytes);
         }
@@ -115,7 +115,7 @@ impl<D: FileStore> FileStore for Shown<'_, D> {
                 self.held.set(Some(copy));
                 Ok(())
             }
-            Err(_) => Err(Unread::Memory),
+            Err(_) => Err(FileFault::Memory),
         }
     }
 }

@@ -128,6 +128,7 @@ fn run_drawn<'x, R: Threads + Wait + Sync + AllocGlobal, S: Source, O: Sink, E: 
         views: options.views(),
     };
     let beside = Beside {
+        file: options.file,
         err,
         pictures: &PictureFiles {
             files,
@@ -217,7 +218,7 @@ pub fn threads(options: Options<'_>) -> usize
 pub fn read_file<'a, D: FileStore>(files: &D, name: &'a str) -> Result<Vec<u8>, Mishap<'a>> {
     match files.read(name) {
         Ok(bytes) => Ok(bytes),
-        Err(unread) => Err(Mishap::Unread(name, unread.reason()?)),
+        Err(fault) => Err(Mishap::Unread(name, fault.reason()?)),
     }
 }
 

@@ -1,7 +1,7 @@
 //! What the program does over sources, sinks and files in memory: where one of them fails, where memory cannot grow, and
 //! with options that `tests/commands` cannot show. How scripts end at limits that no option gives.
 
-use acc_command::{FileStore, Terminals, Unread, tool};
+use acc_command::{FileFault, FileStore, Terminals, tool};
 use acc_script::{MemorySink, MemorySource, Sink, Source};
 use std::alloc::{AllocError, Global};
 use std::fmt::Debug;
@@ -57,18 +57,18 @@ struct OneScript {
 }
 
 impl FileStore for OneScript {
-    fn read(&self, name: &str) -> Result<Vec<u8>, Unread> {
+    fn read(&self, name: &str) -> Result<Vec<u8>, FileFault> {
         if name != "suite.acc" {
-            return Err(Unread::Absent);
+            return Err(FileFault::Absent);
         }
         let mut bytes = Vec::new(self.alloc);
         match bytes.extend_from_slice(SUITE.as_bytes()) {
             Ok(()) => Ok(bytes),
-            Err(_) => Err(Unread::Memory),
+            Err(_) => Err(FileFault::Memory),
         }
     }
 
-    fn write(&self, _name: &str, _bytes: &[u8]) -> Result<(), Unread> {
+    fn write(&self, _name: &str, _bytes: &[u8]) -> Result<(), FileFault> {
         Ok(())
     }
 }

@@ -1,7 +1,7 @@
 //! What pictures have, and which are made. Those of `docs/pictures` are compared whole; here stands what they lack.
 
 use super::{same, words};
-use acc_command::{FileStore, Terminals, Unread, tool};
+use acc_command::{FileFault, FileStore, Terminals, tool};
 use acc_script::{MemorySink, MemorySource};
 use std::alloc::AllocError;
 use std::process::Abort;
@@ -20,11 +20,11 @@ struct PictureStore {
 }
 
 impl FileStore for PictureStore {
-    fn read(&self, _name: &str) -> Result<Vec<u8>, Unread> {
-        Err(Unread::Because("there is none"))
+    fn read(&self, _name: &str) -> Result<Vec<u8>, FileFault> {
+        Err(FileFault::Because("there is none"))
     }
 
-    fn write(&self, name: &str, bytes: &[u8]) -> Result<(), Unread> {
+    fn write(&self, name: &str, bytes: &[u8]) -> Result<(), FileFault> {
         if let Ok(text) = str::from_utf8(bytes) {
             if self.wanted.iter().all(|part| has_part(name, text, part)) {
                 self.pictures.fetch_add(1, Ordering::SeqCst);

@@ -2,7 +2,7 @@
 //! a person reads it.
 
 use super::{check_status, run_at, same, words};
-use acc_command::{FileStore, Terminals, Unread, tool};
+use acc_command::{FileFault, FileStore, Terminals, tool};
 use acc_script::{MemorySink, MemorySource};
 use std::alloc::AllocError;
 use std::process::Abort;
@@ -70,13 +70,13 @@ struct OneFile {
 }
 
 impl FileStore for OneFile {
-    fn read(&self, _name: &str) -> Result<Vec<u8>, Unread> {
-        Err(Unread::Absent)
+    fn read(&self, _name: &str) -> Result<Vec<u8>, FileFault> {
+        Err(FileFault::Absent)
     }
 
-    fn write(&self, name: &str, bytes: &[u8]) -> Result<(), Unread> {
+    fn write(&self, name: &str, bytes: &[u8]) -> Result<(), FileFault> {
         if name != "kept.acc" {
-            return Err(Unread::Because("it is a wall"));
+            return Err(FileFault::Because("it is a wall"));
         }
         if bytes == self.wanted.as_bytes() {
             self.taken.fetch_add(1, Ordering::SeqCst);

@@ -3,9 +3,6 @@
 #![tactic(auto)]
 
 mod drills;
-mod emissions;
-mod programs;
-mod suites;
 mod tools;
 
 pub use acc_files::{Disk, FileFault, FileStore};

@@ -1,19 +1,18 @@
 //! The program, over any source, any two sinks and any store of files.
 
 use crate::drills::run_drill;
-use crate::emissions::{emit_all, emit_script};
-use crate::programs::{write_random, write_rows};
-use crate::suites::Tester;
 use acc_base::{Config, Fault};
 use acc_files::FileStore;
 use acc_follow::first_difference;
 use acc_lines::{Terminals, tell};
 use acc_options::{Options, options_of, parsed_words};
+use acc_programs::{emit_all, emit_script, write_random, write_rows};
 use acc_runs::{
     Ends, Mishap, Shown, Told, keep_apart, limits, options_for, read_expected, read_file, run_text,
     tell_difference, tell_mishap, tell_sizes, threads, use_script,
 };
 use acc_script::{MemorySink, Sink, Source, Status, ToWrite, read_all, write_all};
+use acc_suites::Tester;
 use clap::Error;
 use clap::error::ErrorKind;
 use std::cell::Cell;

@@ -1,0 +1,6 @@
+//! Scripts that are run as tests.
+#![tactic(auto)]
+
+mod suites;
+
+pub use suites::Tester;

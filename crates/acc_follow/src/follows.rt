@@ -64,8 +64,8 @@ pub struct Setting {
 /// Where all goes that is shown beside what a script prints.
 #[derive(Drop)]
 pub struct Beside<'a, E, G> {
-    /// The file of the script, which stands in front of explanations; `None` for standard input.
-    pub file: Option<&'a str>,
+    /// The file of the script, which stands in front of explanations; empty for standard input.
+    pub file: &'a str,
     /// Gets the log and the explanations, each line's behind what it prints. Its failure changes nothing.
     pub err: &'a mut E,
     /// Keeps the pictures.
@@ -169,7 +169,7 @@ impl<'a, E, G> Follower<'a, E, G> {
         Follower {
             alloc,
             views,
-            file: beside.file,
+            file: Some(beside.file).filter(|name| !name.is_empty()),
             err: beside.err,
             pictures: beside.pictures,
             reason: beside.reason,

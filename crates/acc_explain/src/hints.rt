@@ -5,6 +5,7 @@ use crate::routines::{Advice, QUESTIONS, ROUTINES, WORDS};
 use crate::tokens::{Token, nth_bytes};
 use acc_base::ScriptFault;
 use acc_read::{Page, is_text};
+use std::fmt::Write;
 
 /// A line at fault, cut into tokens, with the number of the one that is wrong.
 #[derive(Clone, Copy)]
@@ -204,9 +205,11 @@ pub fn is_pragma(line: &[u8]) -> bool {
     rest.trim_ascii_start().starts_with(b"acc")
 }
 
-/// Puts a warning for such a line, by its number.
-pub fn warn_of_pragma(page: &mut Page, number: u64) {
-    page.text("accrun: line ");
-    page.number(number);
+/// Puts a warning for such a line, by its number; behind its place in the script's file, if it has one.
+pub fn warn_of_pragma(page: &mut Page, file: Option<&str>, number: u64) {
+    let _ = match file {
+        Some(name) => write!(page, "{name}:{number}:1: warning: this"),
+        None => write!(page, "accrun: line {number}"),
+    };
     page.text(" is a comment, since it begins with #: a directive stands without #pragma acc\n");
 }

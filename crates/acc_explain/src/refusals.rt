@@ -4,6 +4,7 @@ use crate::sources::put_cause;
 use acc_base::{Directive, Fault, Found, Free, HOST_BASE, Item, List, QUEUE_COUNT, Section};
 use acc_read::{Names, Page, ScriptKernel, Statement};
 use acc_table::{Mapped, Table};
+use std::fmt::Write;
 
 /// How many ranges that a section meets are shown at most.
 const TOLD: u64 = 8;
@@ -31,19 +32,21 @@ impl DeviceView<'_> {
     }
 }
 
-/// Puts why the statement of a line was refused, on the table that it left as it was. It names the item by its array.
+/// Puts why the statement of a line was refused, on the table that it left as it was; behind the place in the script's
+/// file, if it has one. It names the item by its array.
 /// The mapped ranges that the item meets on its device follow with their counters, and the holes of a full device.
 pub fn explain_refusal(
     page: &mut Page,
     table: &Table,
     names: &Names,
+    file: Option<&str>,
     number: u64,
     statement: &Statement<'_>,
     fault: Fault,
 ) {
     let device = device_of(table, statement);
     let view = DeviceView { table, device };
-    put_place(page, number);
+    put_place(page, file, number);
     if let Some((nth, item)) = item_of(statement, fault) {
         put_item(page, names, nth, item);
         if is_of_ranges(fault) {
@@ -62,10 +65,11 @@ fn device_of(table: &Table, statement: &Statement<'_>) -> u64 {
     }
 }
 
-fn put_place(page: &mut Page, number: u64) {
-    page.text("accrun: line ");
-    page.number(number);
-    page.text(" is refused\n");
+fn put_place(page: &mut Page, file: Option<&str>, number: u64) {
+    let _ = match file {
+        Some(name) => writeln!(page, "{name}:{number}: refused"),
+        None => writeln!(page, "accrun: line {number} is refused"),
+    };
 }
 
 /// Whether a refusal depends on the mapped ranges that the item meets.

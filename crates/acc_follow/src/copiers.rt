@@ -1,5 +1,6 @@
 //! Copies what a script prints, with more lines between, or JSON in place of a report.
 
+use crate::follows::Views;
 use crate::report_objects::put_report;
 use acc_base::Fault;
 use acc_read::{Page, Statement, statement_text};
@@ -10,22 +11,50 @@ use std::alloc::Global;
 /// Copies what a run prints into memory to another sink, behind each line, for a watcher of that sink.
 #[derive(Drop)]
 pub struct Copier<'a, O, X> {
-    /// The sink that gets the copy.
-    pub out: &'a mut O,
-    /// The watcher of that sink.
-    pub watcher: &'a mut X,
-    /// The allocator.
-    pub alloc: Global,
-    /// Whether each statement stands before what it prints.
-    pub echo: bool,
-    /// Whether a report is an object of JSON.
-    pub json: bool,
-    /// For each line that was copied the number of the line that printed it.
-    pub lines: &'a mut Vec<u64>,
+    alloc: Global,
+    views: Views,
+    out: &'a mut O,
+    watcher: &'a mut X,
+    lines: &'a mut Vec<u64>,
     /// How many bytes of what was printed are copied.
-    pub copied: usize,
+    copied: usize,
     /// Why nothing more is copied; `None` while copies go on.
-    pub failed: Option<Fault>,
+    failed: Option<Fault>,
+}
+
+impl<'a, O, X> Copier<'a, O, X> {
+    /// A copier to a sink, for its watcher, with these views. `lines` gets for each line that is copied the number of
+    /// the line that printed it.
+    pub fn new(
+        alloc: Global,
+        views: Views,
+        out: &'a mut O,
+        watcher: &'a mut X,
+        lines: &'a mut Vec<u64>,
+    ) -> Copier<'a, O, X> {
+        Copier {
+            alloc,
+            views,
+            out,
+            watcher,
+            lines,
+            copied: 0,
+            failed: None,
+        }
+    }
+
+    /// How a run ended, of which this copied what it printed.
+    ///
+    /// # Errors
+    ///
+    /// Why nothing more was copied; else that of the run. What it prints into fails for lack of memory alone.
+    pub fn ended<T: Drop>(&self, ending: Result<T, Fault>) -> Result<T, Fault> {
+        match (self.failed, ending) {
+            (Some(fault), _) => Err(fault),
+            (None, Err(Fault::Write)) => Err(Fault::Memory),
+            (None, ending) => ending,
+        }
+    }
 }
 
 impl<O: Sink, X: Watcher<O>> Copier<'_, O, X> {
@@ -38,10 +67,10 @@ impl<O: Sink, X: Watcher<O>> Copier<'_, O, X> {
         printed: &[u8],
     ) -> Result<(), Fault> {
         let mut page = Page::new(self.alloc);
-        if self.echo {
+        if self.views.echo {
             put_echo(&mut page, statement_text(line));
         }
-        if self.json && matches!(effect, Effect::Reported) {
+        if self.views.json && matches!(effect, Effect::Reported) {
             put_report(&mut page, table);
         } else {
             page.bytes(printed.get(self.copied..).unwrap_or(&[]));

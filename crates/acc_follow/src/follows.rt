@@ -64,6 +64,8 @@ pub struct Setting {
 /// Where all goes that is shown beside what a script prints.
 #[derive(Drop)]
 pub struct Beside<'a, E, G> {
+    /// The file of the script, which stands in front of explanations; empty for standard input.
+    pub file: &'a str,
     /// Gets the log and the explanations, each line's behind what it prints. Its failure changes nothing.
     pub err: &'a mut E,
     /// Keeps the pictures.
@@ -121,16 +123,7 @@ fn run_copied<R: Threads + Wait + Sync + AllocGlobal, S: Source, O: Sink, X: Wat
     requires { (1 ≤ setting.parts) × (setting.parts ≤ 64) }
 {
     let mut printed = MemorySink::new(rt.alloc());
-    let mut copier = Copier {
-        out,
-        watcher,
-        alloc: rt.alloc(),
-        echo: setting.views.echo,
-        json: setting.views.json,
-        lines,
-        copied: 0,
-        failed: None,
-    };
+    let mut copier = Copier::new(rt.alloc(), setting.views, out, watcher, lines);
     let ending = run(
         rt,
         reader,
@@ -139,12 +132,7 @@ fn run_copied<R: Threads + Wait + Sync + AllocGlobal, S: Source, O: Sink, X: Wat
         setting.parts,
         &mut copier,
     );
-    match (copier.failed, ending) {
-        (Some(fault), _) => Err(fault),
-        // This sink fails for lack of memory alone.
-        (None, Err(Fault::Write)) => Err(Fault::Memory),
-        (None, ending) => ending,
-    }
+    copier.ended(ending)
 }
 
 /// Watches a run, and shows more of it.
@@ -152,6 +140,7 @@ fn run_copied<R: Threads + Wait + Sync + AllocGlobal, S: Source, O: Sink, X: Wat
 pub struct Follower<'a, E, G> {
     alloc: Global,
     views: Views,
+    file: Option<&'a str>,
     /// As in [`Beside`], with those that follow.
     pub err: &'a mut E,
     /// Keeps the pictures.
@@ -180,6 +169,7 @@ impl<'a, E, G> Follower<'a, E, G> {
         Follower {
             alloc,
             views,
+            file: Some(beside.file).filter(|name| !name.is_empty()),
             err: beside.err,
             pictures: beside.pictures,
             reason: beside.reason,
@@ -290,7 +280,13 @@ impl<E: Sink, G: PictureSink> Follower<'_, E, G> {
                 .tell(&self.names, number, ran.statement(), table, effect)?;
         }
         if self.views.explain {
-            ran.explain(&mut self.log.page, self.alloc, &self.names, effect);
+            ran.explain(
+                &mut self.log.page,
+                self.alloc,
+                &self.names,
+                self.file,
+                effect,
+            );
         }
         if self.views.page {
             self.timeline.add_line(&self.names, ran, effect)?;

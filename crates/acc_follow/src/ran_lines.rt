@@ -24,11 +24,18 @@ impl<'a> RanLine<'a> {
         statement_text(self.line)
     }
 
-    /// Explains the line where it was refused, or is a comment and looks like a directive of C. A refused line is read
-    /// once more: it changed nothing.
-    pub fn explain(self, page: &mut Page, alloc: Global, names: &Names, effect: Effect) {
+    /// Explains the line, of the script of a file if that has one, where it was refused, or is a comment and looks like
+    /// a directive of C. A refused line is read once more: it changed nothing.
+    pub fn explain(
+        self,
+        page: &mut Page,
+        alloc: Global,
+        names: &Names,
+        file: Option<&str>,
+        effect: Effect,
+    ) {
         if is_pragma(self.line) {
-            warn_of_pragma(page, self.number);
+            warn_of_pragma(page, file, self.number);
         }
         let Effect::Refused(fault) = effect else {
             return;
@@ -36,7 +43,15 @@ impl<'a> RanLine<'a> {
         let session = self.session;
         let (device, innermost) = (session.device, session.innermost());
         if let Ok(statement) = line_at(alloc, &session.arrays, device, innermost, self.line) {
-            explain_refusal(page, &session.table, names, self.number, &statement, fault);
+            explain_refusal(
+                page,
+                &session.table,
+                names,
+                file,
+                self.number,
+                &statement,
+                fault,
+            );
         }
     }
 

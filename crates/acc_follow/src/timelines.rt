@@ -47,7 +47,7 @@ impl Timeline {
     ) -> Result<(), Fault> {
         let printed = ran.printed(self.alloc, effect)?;
         let mut reason = Page::new(self.alloc);
-        ran.explain(&mut reason, self.alloc, names, effect);
+        ran.explain(&mut reason, self.alloc, names, None, effect);
         self.open_line(ran.line, printed.as_slice(), reason.whole()?);
         self.add_state(names, ran, effect)?;
         self.lines.text("]");

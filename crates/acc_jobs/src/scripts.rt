@@ -149,6 +149,7 @@ fn follow_text<R: Threads + Wait + Sync + AllocGlobal>(
     let mut column = 0;
     let mut lines = Vec::new(rt.alloc());
     let beside = Beside {
+        file: "",
         err: &mut aside.err,
         pictures: &aside.album,
         reason: &mut aside.reason,

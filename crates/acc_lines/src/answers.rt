@@ -6,45 +6,9 @@ ghost use Rattle.acc_script.specs.Sessions.{session_state};
 
 use acc_base::Fault;
 use acc_follow::{Copier, Views};
-use acc_read::{Trouble, line_at};
-use acc_script::{MemorySink, Session, Sink, Watcher, write_all, write_effect};
+use acc_script::{MemorySink, Session, Sink, Watcher, run_line, write_all};
 use std::sync::Wait;
 use std::thread::Threads;
-
-/// Runs the line of a number on a session as [`acc_script::run`] does, and returns whether it was refused. The watcher
-/// changes nothing of that.
-///
-/// # Errors
-///
-/// - [`Fault::Script`] where the line is at fault. Nothing was written.
-/// - [`Fault::Write`] where the writer fails. It took a front of what the line prints.
-/// - [`Fault::Memory`] as [`Session::perform`], or where a line lists items or bytes. Nothing was written.
-#[tactic(auto, unfolding(acc_script::specs::Scripts::line_turned))]
-pub fn run_line<R: Threads + Wait + Sync + AllocGlobal, W: Sink, X: Watcher<W>>(
-    rt: &R,
-    number: u64,
-    session: &mut Session,
-    line: &[u8],
-    writer: &mut W,
-    watcher: &mut X,
-) -> Result<bool, Fault>
-    ensures { LineRuns number (session_state session.old) line.now (W.told writer.old) (W.told writer.new) (session_state session.new) result }
-{
-    let innermost = session.innermost();
-    let device = session.device;
-    let statement = match line_at(rt.alloc(), &session.arrays, device, innermost, line) {
-        Ok(statement) => statement,
-        Err(Trouble::Memory) => return Err(Fault::Memory),
-        Err(Trouble::Line(kind)) => return Err(Fault::Script { line: number, kind }),
-    };
-    watcher.before(number, line, &statement, session);
-    let effect = session.perform(rt, statement)?;
-    if !write_effect(writer, number, &session.table, effect) {
-        return Err(Fault::Write);
-    }
-    watcher.after(number, line, session, effect, writer);
-    Ok(effect.is_refused())
-}
 
 /// Runs the line of a number as [`run_line`] does. Views may show its statement before what it prints, or a report as
 /// JSON.
@@ -81,23 +45,9 @@ fn run_copied<R: Threads + Wait + Sync + AllocGlobal, O: Sink, X: Watcher<O>>(
 ) -> Result<bool, Fault> {
     let mut printed = MemorySink::new(rt.alloc());
     let mut lines = Vec::new(rt.alloc());
-    let mut copier = Copier {
-        out,
-        watcher,
-        alloc: rt.alloc(),
-        echo: views.echo,
-        json: views.json,
-        lines: &mut lines,
-        copied: 0,
-        failed: None,
-    };
+    let mut copier = Copier::new(rt.alloc(), views, out, watcher, &mut lines);
     let ending = run_line(rt, number, session, line, &mut printed, &mut copier);
-    match (copier.failed, ending) {
-        (Some(fault), _) => Err(fault),
-        // This sink fails for lack of memory alone.
-        (None, Err(Fault::Write)) => Err(Fault::Memory),
-        (None, ending) => ending,
-    }
+    copier.ended(ending)
 }
 
 /// Writes the empty line that ends an answer.

@@ -2,7 +2,7 @@
 
 ghost use Rattle.std.specs.Prelude.{◌≤◌};
 
-use crate::answers::{end_answer, run_line, run_shown};
+use crate::answers::{end_answer, run_shown};
 use crate::fault_lines::tell_fault;
 use crate::histories::{Entry, History, Mark};
 use crate::line_readers::LineReader;
@@ -11,7 +11,7 @@ use crate::prompt_words::Word;
 use acc_base::{Fault, ScriptFault};
 use acc_follow::{Beside, Follower, RanLine, Setting, Stop, follow};
 use acc_read::Page;
-use acc_script::{MemorySink, Session, Sink, Source, Status, Watcher, write_all};
+use acc_script::{MemorySink, Session, Sink, Source, Status, Watcher, run_line, write_all};
 use std::alloc::Global;
 use std::fmt::Write;
 use std::sync::Wait;

@@ -128,6 +128,7 @@ fn run_drawn<'x, R: Threads + Wait + Sync + AllocGlobal, S: Source, O: Sink, E: 
         views: options.views(),
     };
     let beside = Beside {
+        file: options.file.unwrap_or(""),
         err,
         pictures: &PictureFiles {
             files,

@@ -17,6 +17,6 @@ pub use ends::whole::{read_all, write_all};
 pub use ends::{Sink, Source};
 pub use print::effects::{Effect, write_effect};
 pub use print::reports::report;
-pub use runs::{Status, run};
+pub use runs::{Status, run, run_line};
 pub use sessions::Session;
 pub use watchers::{Unwatched, Watcher};

@@ -114,8 +114,16 @@ fn play_lines<R: Threads + Wait + Sync + AllocGlobal, W: Sink, X: Watcher<W>>(
     Ok(status)
 }
 
+/// Runs the line of a number on a session as [`run`] does, and returns whether it was refused. The watcher sees the
+/// line, and no end. With any watcher, the line reads, writes and returns the same.
+///
+/// # Errors
+///
+/// - [`Fault::Script`] where the line is at fault. Nothing was written.
+/// - [`Fault::Write`] where the writer fails. It took a front of what the line prints.
+/// - [`Fault::Memory`] as [`Session::perform`], or where a line lists items or bytes. Nothing was written.
 #[tactic(auto, unfolding(crate::specs::Scripts::line_turned))]
-fn run_line<R: Threads + Wait + Sync + AllocGlobal, W: Sink, X: Watcher<W>>(
+pub fn run_line<R: Threads + Wait + Sync + AllocGlobal, W: Sink, X: Watcher<W>>(
     rt: &R,
     number: u64,
     session: &mut Session,

@@ -40,7 +40,7 @@ fn put_line(page: &mut Page, colour: &str, line: &[u8]) {
 
 fn colour_of(line: &[u8]) -> Option<&'static str> {
     let text = line.trim_ascii_start();
-    if line.starts_with(b"accrun: ") || has_fault(line) {
+    if line.starts_with(b"accrun: ") || has_fault(line) || line.ends_with(b": refused\n") {
         return Some(BOLD);
     }
     if text.starts_with(b"= ") {

@@ -20,37 +20,37 @@ use crate::transfers::{move_bytes, transfer_at};
 use acc_base::{Counter, Item, RegionClause, Section, Step, Task, Transfer};
 use acc_dev::Device;
 use acc_host::HostMem;
-use acc_present::Present;
+use acc_present::{Place, Present};
 
-/// Raises a counter of the range that is mapped to a block. An address says where it is looked for first.
+/// Raises a counter of the range that is mapped to a block. It is not searched for where it stands at the place.
 #[inline(always)]
-fn raise(present: &mut Present, counter: Counter, block: u64, at: u64)
+fn raise(present: &mut Present, counter: Counter, block: u64, near: Place)
     requires there { HasRange present.old.table block }
     requires below { counter_of counter block present.old.table.ranges < present.old.table.counter_max }
     ensures table { present.new.table ≡ with_ranges present.old.table (changed_at block (risen counter) present.old.table.ranges) }
     ensures room { IsRoomKept present.old.room present.new.room }
 {
-    let Ok(()) = present.count_near(counter, block, at) else {
+    let Ok(()) = present.count_near(counter, block, near) else {
         unreachable!()
     };
 }
 
-/// Changes the counters of the range that is mapped to a block as the task does (OpenACC 3.3, section 2.6.7).
+/// Changes the counters of the range that is mapped to a block as the task does (OpenACC 3.3, section 2.6.7). It is not
+/// searched for where it stands at the place.
 #[inline(always)]
-fn recount(present: &mut Present, task: &Task, block: u64)
+fn recount(present: &mut Present, task: &Task, block: u64, near: Place)
     requires can { CanCount present.old.table.counter_max task.now block present.old.table.ranges }
     ensures table { present.new.table ≡ with_ranges present.old.table (changed_at block (recounted task.now) present.old.table.ranges) }
     ensures room { IsRoomKept present.old.room present.new.room }
 {
-    let at = section_of(*task).start;
     match *task {
-        Task::Enter { counter, .. } => raise(present, counter, block, at),
-        Task::ExitRegion { .. } => present.drop_near(Counter::Structured, block, at),
-        Task::ExitData { finalize: true, .. } => present.clear_near(block, at),
+        Task::Enter { counter, .. } => raise(present, counter, block, near),
+        Task::ExitRegion { .. } => present.drop_near(Counter::Structured, block, near),
+        Task::ExitData { finalize: true, .. } => present.clear_near(block, near),
         Task::ExitData {
             finalize: false,
             ..
-        } => present.drop_near(Counter::Dynamic, block, at),
+        } => present.drop_near(Counter::Dynamic, block, near),
         Task::Move { .. } => {}
     }
 }
@@ -111,7 +111,8 @@ fn fill_later(
     }
 }
 
-/// Maps the section of an item to a new block, with a counter of one.
+/// Maps the section of an item to a new block, with a counter of one. No search comes first where the last range before
+/// it stands at the place.
 fn bear(
     environment: &mut Environment,
     host: &mut HostMem,
@@ -120,6 +121,7 @@ fn bear(
     queue: Option<u64>,
     block: u64,
     place: u64,
+    near: Place,
 )
     requires can { CanBear environment.old.present.table.counter_max environment.old.device.memory (section_of (Enter counter item queue)) block place (bare_state (beside environment.old host.old)) }
     requires queue { CanQueue (Enter counter item queue) (Born block place) (beside environment.old host.old) }
@@ -138,7 +140,7 @@ fn bear(
     make_block(&mut environment.device, host, copied, section, item.clause);
     environment
         .present
-        .add_counted_reserved(section, block, counter);
+        .add_counted_reserved(section, block, counter, near);
     fill_later(environment, host, queue, item, block);
 }
 
@@ -157,8 +159,9 @@ fn give_bytes(environment: &mut Environment, host: &mut HostMem, task: &Task, bl
     }
 }
 
-/// Ends the mapping to a block. A block that a queued transfer names stays; else it is given back.
-fn end(environment: &mut Environment, host: &mut HostMem, task: &Task, block: u64)
+/// Ends the mapping to a block, whose range is not searched for where it stands at the place. A block that a queued
+/// transfer names stays; else it is given back.
+fn end(environment: &mut Environment, host: &mut HostMem, task: &Task, block: u64, near: Place)
     requires can { CanDrop task.now block true (bare_state (beside environment.old host.old)) }
     requires free { is_lent block environment.old.device.loans ≡ false }
     requires queue { CanQueue task.now (Dropped block true) (beside environment.old host.old) }
@@ -168,15 +171,23 @@ fn end(environment: &mut Environment, host: &mut HostMem, task: &Task, block: u6
 {
     give_bytes(environment, host, task, block);
     environment.device.laws();
-    environment.present.end_mapping(block);
+    environment.present.end_mapping(block, near);
     if environment.device.retire(block) {
         environment.attached.forget(block);
     }
 }
 
-/// Lowers the counters of a range, or ends its mapping where none is above zero then.
+/// Lowers the counters of a range, or ends its mapping where none is above zero then. It is not searched for where it
+/// stands at the place.
 #[inline(always)]
-fn lower(environment: &mut Environment, host: &mut HostMem, task: &Task, block: u64, ended: bool)
+fn lower(
+    environment: &mut Environment,
+    host: &mut HostMem,
+    task: &Task,
+    block: u64,
+    ended: bool,
+    near: Place,
+)
     requires can { CanDrop task.now block ended (bare_state (beside environment.old host.old)) }
     requires free { is_lent block environment.old.device.loans ≡ false }
     requires queue { CanQueue task.now (Dropped block ended) (beside environment.old host.old) }
@@ -185,9 +196,9 @@ fn lower(environment: &mut Environment, host: &mut HostMem, task: &Task, block: 
     ensures acted { IsActedBy task.now (Dropped block ended) (beside environment.old host.old) (beside environment.new host.new) }
 {
     if ended {
-        end(environment, host, task, block);
+        end(environment, host, task, block, near);
     } else {
-        recount(&mut environment.present, task, block);
+        recount(&mut environment.present, task, block, near);
     }
 }
 
@@ -204,9 +215,9 @@ fn update(environment: &mut Environment, host: &mut HostMem, task: &Task, block:
     move_bytes(environment, host, queue_of(*task), t);
 }
 
-/// Does the step of a task.
+/// Does the step of a task. Its range is not searched for where it stands at the place.
 #[inline(always)]
-fn step_on(environment: &mut Environment, host: &mut HostMem, x: &Acted)
+fn step_on(environment: &mut Environment, host: &mut HostMem, x: &Acted, near: Place)
     requires can { CanAct environment.old.present.table.counter_max environment.old.device.memory x.now.task x.now.did.step (bare_state (beside environment.old host.old)) }
     requires needed { CanNeed x.now.task x.now.did.step (beside environment.old host.old) }
     requires queue { CanQueue x.now.task x.now.did.step (beside environment.old host.old) }
@@ -217,7 +228,7 @@ fn step_on(environment: &mut Environment, host: &mut HostMem, x: &Acted)
 {
     match x.did.step {
         Step::Nothing => {}
-        Step::Counted { block } => recount(&mut environment.present, &x.task, block),
+        Step::Counted { block } => recount(&mut environment.present, &x.task, block, near),
         Step::Born { block, place } => {
             let Task::Enter {
                 counter,
@@ -227,16 +238,17 @@ fn step_on(environment: &mut Environment, host: &mut HostMem, x: &Acted)
             else {
                 unreachable!()
             };
-            bear(environment, host, counter, item, queue, block, place);
+            bear(environment, host, counter, item, queue, block, place, near);
         }
-        Step::Dropped { block, ended } => lower(environment, host, &x.task, block, ended),
+        Step::Dropped { block, ended } => lower(environment, host, &x.task, block, ended, near),
         Step::Moved { block } => update(environment, host, &x.task, block),
     }
 }
 
-/// Does what a task does: entry attaches after its step, and exit detaches before its step.
+/// Does what a task does: entry attaches after its step, and exit detaches before its step. Its range is not searched
+/// for where it stands at the place.
 #[inline(always)]
-pub(crate) fn act_on(environment: &mut Environment, host: &mut HostMem, x: &Acted)
+pub(crate) fn act_on(environment: &mut Environment, host: &mut HostMem, x: &Acted, near: Place)
     requires can { CanDo (beside environment.old host.old) x.now.task x.now.did }
     requires room { HasRoomFor (birth_of x.now.task x.now.did.step) (room_of (beside environment.old host.old)) }
     requires pointers { pointers_of x.now.did.aim ≤ (room_of (beside environment.old host.old)).attachments }
@@ -246,12 +258,12 @@ pub(crate) fn act_on(environment: &mut Environment, host: &mut HostMem, x: &Acte
 {
     match x.task {
         Task::Enter { .. } => {
-            step_on(environment, host, x);
+            step_on(environment, host, x, near);
             aim_on(environment, host, x.did.aim);
         }
         Task::ExitRegion { .. } | Task::ExitData { .. } | Task::Move { .. } => {
             aim_on(environment, host, x.did.aim);
-            step_on(environment, host, x);
+            step_on(environment, host, x, near);
         }
     }
 }

@@ -32,6 +32,7 @@ use crate::views::View;
 use acc_base::{Config, Fault, Holding, Loan};
 use acc_host::HostMem;
 use acc_lend::Lease;
+use acc_present::Place;
 use std::alloc::Global;
 use std::marker::Model;
 
@@ -119,9 +120,10 @@ impl DeviceData {
         self.environment.device.laws();
     }
 
-    /// Does what a task is judged to do, where there is room for it. It allocates nothing and is never refused.
+    /// Does what a task is judged to do, where there is room for it. Its range is not searched for where it stands at the
+    /// place. It allocates nothing and is never refused.
     #[inline(always)]
-    pub(crate) fn act(&mut self, host: &mut HostMem, x: &Acted)
+    pub(crate) fn act(&mut self, host: &mut HostMem, x: &Acted, near: Place)
         requires host { length host.old ≡ self.old.limits.host }
         requires judged { IsJudged self.old.limits x.now.task x.now.did self.old.device.records }
         requires known { IsKnown self.old.device.records x.now.task }
@@ -134,7 +136,7 @@ impl DeviceData {
         ensures host { length host.new ≡ length host.old }
         ensures room { IsRoomLeft (birth_of x.now.task x.now.did.step) (pointers_of x.now.did.aim) (λ q. puts_by q x.now.task x.now.did.step) self.old.room self.new.room }
     {
-        act_on(&mut self.environment, host, x);
+        act_on(&mut self.environment, host, x, near);
     }
 
     /// Makes the first transfer of a queue, if it has one; its block is not lent. It allocates nothing and is never

@@ -12,12 +12,16 @@ use crate::rows::section_of;
 use crate::slates::Slate;
 use crate::spans::add_birth;
 use acc_base::{Aim, Did, Section, Step};
+use acc_present::Place;
 use std::marker::Model;
 
 /// The tasks of a directive that were judged so far, in the order in which they act, each with what it does.
 #[derive(Drop)]
 pub(crate) struct Draft {
     acts: Slate<Acted>,
+    // Where the range stood that each of them changes, when it was judged. No contract speaks of it: it is looked at, and
+    // not trusted.
+    places: [Place; 64],
     // What they do.
     dids: Slate<Did>,
     // The lengths of the blocks that they give birth to.
@@ -83,6 +87,7 @@ impl Draft {
     {
         Draft {
             acts: Slate::new(),
+            places: [Place::default(); 64],
             dids: Slate::new(),
             lens: Slate::new(),
             spans: Slate::new(),
@@ -103,12 +108,13 @@ impl Draft {
         self.outline = Outline::new();
     }
 
-    /// One more task was judged.
+    /// One more task was judged. The range that it changes may stand at the place.
     #[inline(always)]
-    pub(crate) fn push(&mut self, x: Acted)
+    pub(crate) fn push(&mut self, x: Acted, place: Place)
         requires { length self.old < 64 }
         ensures { self.new ≡ self.old ++ x ∷ [] }
     {
+        self.places[self.acts.as_slice().len()] = place;
         tally(
             &mut self.dids,
             &mut self.lens,
@@ -142,6 +148,11 @@ impl Draft {
         ensures few { length result.now ≤ 64 }
     {
         self.acts.as_slice()
+    }
+
+    /// Where the range may stand that each of them changes.
+    pub(crate) fn places(&self) -> &[Place; 64] {
+        &self.places
     }
 
     /// What they do.

@@ -15,10 +15,18 @@ use crate::judging::{judge_row, step_free};
 use crate::rows::pointer_aimed;
 use crate::views::View;
 use acc_base::{Aim, Did, Fault, Step, Task};
+use acc_present::Place;
 
 // Adds an entry whose step is judged. Its pointer is attached in what the step leaves.
 #[inline(always)]
-fn enter(view: &View<'_>, draft: &mut Draft, n: u64, task: Task, step: Step) -> Result<(), Fault>
+fn enter(
+    view: &View<'_>,
+    draft: &mut Draft,
+    n: u64,
+    task: Task,
+    step: Step,
+    place: Place,
+) -> Result<(), Fault>
     requires entry { enters task ≡ true }
     requires step { judge_step view.now.limits n task (records_after draft.old view.now.state.records) ≡ Ok step }
     requires planned { IsPlanned view.now.limits draft.old view.now.state.records }
@@ -31,7 +39,7 @@ fn enter(view: &View<'_>, draft: &mut Draft, n: u64, task: Task, step: Step) -> 
         step,
         aim: Aim::None,
     };
-    draft.push(Acted { task, did });
+    draft.push(Acted { task, did }, place);
     if let Some(pointer) = pointer_aimed(task, step) {
         let aim = attach(view, draft, n, pointer)?;
         draft.aim(aim);
@@ -50,13 +58,13 @@ pub(crate) fn judge(view: &View<'_>, draft: &mut Draft, n: u64, task: Task) -> R
     requires few { n < 64 }
     ensures { MatchResult result (λ _. IsJudgedNext view.now.limits n task view.now.state draft.old draft.new) (λ fault. judge_task view.now.limits n task (state_after draft.old view.now.state) ≡ Err fault) }
 {
-    let step = judge_row(view, draft, n, task)?;
+    let (step, place) = judge_row(view, draft, n, task)?;
     let aim = aim_before(view, draft, task, step);
     step_free(view, draft, task, step, aim)?;
     if let Task::Enter { .. } = task {
-        return enter(view, draft, n, task, step);
+        return enter(view, draft, n, task, step, place);
     }
     let did = Did { step, aim };
-    draft.push(Acted { task, did });
+    draft.push(Acted { task, did }, place);
     Ok(())
 }

@@ -1,6 +1,6 @@
 //! The clause tables: what a task does after those that were judged before it, or why it is refused.
 
-ghost use Rattle.std.specs.Prelude.{ℕ, ◌≡◌, ◌+◌, ◌++◌, ◌∷◌, [], ◌<◌, ◌≤◌, ◌^◌, ◌&&◌, not, Option, Ok, Some, IfSome, true};
+ghost use Rattle.std.specs.Prelude.{ℕ, ◌≡◌, ◌+◌, ◌++◌, ◌∷◌, [], ◌<◌, ◌≤◌, ◌^◌, ◌&&◌, not, Option, Ok, Err, Some, IfSome, MatchResult, true};
 ghost use Rattle.std.specs.List.{list_all};
 ghost use Rattle.acc_base.specs.declared.addresses.TheConstants.{MEMORY_MAX};
 ghost use Rattle.acc_base.specs.Limits.{IsFromOne};
@@ -19,9 +19,7 @@ ghost use Rattle.acc_clauses.specs.Overlays.{IsPlanned, AreUnmixed, tasks_in, re
 use crate::drafts::Draft;
 use crate::effects::{are_zero, recount};
 use crate::lending::not_lent;
-use crate::readings::{
-    Located, counters_after, found_after, locate_after, number_after, place_after, queue_len_after,
-};
+use crate::readings::{counters_after, locate_after, number_after, place_after, queue_len_after};
 use crate::rows::{moves, pointer_of, queue_of, section_of};
 use crate::sections::{POINTER_LEN, pointer_at};
 use crate::views::View;
@@ -30,6 +28,7 @@ use acc_base::{
     RegionClause, Section, Step, Task, UpdateClause,
 };
 use acc_placement::rounded;
+use acc_present::{Located, Place};
 
 /// A section that is not empty lies in host memory. Nothing of an empty one is checked.
 pub(crate) fn in_host(view: &View<'_>, n: u64, section: Section) -> Result<(), Fault>
@@ -161,7 +160,7 @@ fn enter(
     requires entering { list_all enters (tasks_in draft.now) ≡ true }
     requires births { view.now.state.records.births < 2 ^ 48 }
     requires located { located.found ≡ where_is (section_of (Task.Enter counter item queue)) (records_after draft.now view.now.state.records).ranges }
-    requires known { IfSome located.known (λ range. range_of range.block view.now.state.records.ranges ≡ Some range) }
+    requires known { IfSome located.range (λ range. range_of range.block view.now.state.records.ranges ≡ Some range) }
     ensures { result ≡ judge_row view.now.limits n (Task.Enter counter item queue) (records_after draft.now view.now.state.records) }
 {
     let task = Task::Enter {
@@ -172,7 +171,7 @@ fn enter(
     checked(view, n, task)?;
     match located.found {
         Found::Empty => Ok(Step::Nothing),
-        Found::Inside { block, .. } => counted(view, draft, n, counter, block, located.known),
+        Found::Inside { block, .. } => counted(view, draft, n, counter, block, located.range),
         Found::Absent => enter_absent(view, draft, n, item.clause, section_of(task)),
         Found::Partly => Err(Fault::PartlyPresent { item: n }),
     }
@@ -189,20 +188,23 @@ fn dropped(task: Task, block: u64, counters: Counters) -> Step
     Step::Dropped { block, ended }
 }
 
-// Undoes what an item of a region's entry counted, and nothing else.
+// Undoes what an item of a region's entry counted, and nothing else. With the step comes where its range may stand.
 #[tactic(auto, using(crate::proofs::Laws::plan_laws), unfolding(acc_base::specs::Steps::judge_row))]
 #[inline(always)]
-fn leave(view: &View<'_>, draft: &Draft, holding: Holding) -> Result<Step, Fault>
+fn leave(view: &View<'_>, draft: &Draft, holding: Holding) -> (Step, Place)
     requires { IsPlanned view.now.limits draft.now view.now.state.records }
-    ensures { (n : ℕ) → result ≡ judge_row view.now.limits n (Task.ExitRegion holding) (records_after draft.now view.now.state.records) }
+    ensures { (n : ℕ) → Ok result.0 ≡ judge_row view.now.limits n (Task.ExitRegion holding) (records_after draft.now view.now.state.records) }
 {
     match holding.block {
         Some(block) => {
-            let known = view.range_near(block, holding.item.section.start);
+            let (known, place) = view.range_near(block, holding.item.section.start);
             let counters = counters_after(view, draft, block, known);
-            Ok(dropped(Task::ExitRegion { holding }, block, counters))
+            (
+                dropped(Task::ExitRegion { holding }, block, counters),
+                place,
+            )
         }
-        None => Ok(Step::Nothing),
+        None => (Step::Nothing, Place::default()),
     }
 }
 
@@ -220,7 +222,7 @@ fn exit(
 ) -> Result<Step, Fault>
     requires planned { IsPlanned view.now.limits draft.now view.now.state.records }
     requires located { located.found ≡ where_is (section_of (Task.ExitData finalize item queue)) (records_after draft.now view.now.state.records).ranges }
-    requires known { IfSome located.known (λ range. range_of range.block view.now.state.records.ranges ≡ Some range) }
+    requires known { IfSome located.range (λ range. range_of range.block view.now.state.records.ranges ≡ Some range) }
     ensures { result ≡ judge_row view.now.limits n (Task.ExitData finalize item queue) (records_after draft.now view.now.state.records) }
 {
     let task = Task::ExitData {
@@ -232,7 +234,7 @@ fn exit(
     match located.found {
         Found::Empty => Ok(Step::Nothing),
         Found::Inside { block, .. } => {
-            let counters = counters_after(view, draft, block, located.known);
+            let counters = counters_after(view, draft, block, located.range);
             if counters.dynamic == 0 {
                 return Ok(Step::Nothing);
             }
@@ -269,15 +271,20 @@ fn copy(
     }
 }
 
-/// What the clause tables say of the task of the item at place `n` after those that were judged before it. The exit from
-/// a region knows its block, and so its section is not searched for.
+/// What the clause tables say of the task of the item at place `n` after those that were judged before it, and where the
+/// range may stand that it changes. The exit from a region knows its block, and so its section is not searched for.
 #[tactic(auto, using(crate::proofs::Laws::kind_laws))]
 #[inline(always)]
-pub(crate) fn judge_row(view: &View<'_>, draft: &Draft, n: u64, task: Task) -> Result<Step, Fault>
+pub(crate) fn judge_row(
+    view: &View<'_>,
+    draft: &Draft,
+    n: u64,
+    task: Task,
+) -> Result<(Step, Place), Fault>
     requires planned { IsPlanned view.now.limits draft.now view.now.state.records }
     requires unmixed { AreUnmixed (tasks_in draft.now ++ task ∷ []) }
     requires births { view.now.state.records.births < 2 ^ 48 }
-    ensures { result ≡ judge_row view.now.limits n task (records_after draft.now view.now.state.records) }
+    ensures { MatchResult result (λ told. judge_row view.now.limits n task (records_after draft.now view.now.state.records) ≡ Ok told.0) (λ fault. judge_row view.now.limits n task (records_after draft.now view.now.state.records) ≡ Err fault) }
 {
     match task {
         Task::Enter {
@@ -286,24 +293,27 @@ pub(crate) fn judge_row(view: &View<'_>, draft: &Draft, n: u64, task: Task) -> R
             queue,
         } => {
             let located = locate_after(view, draft, section_of(task));
-            enter(view, draft, n, counter, item, queue, located)
+            let step = enter(view, draft, n, counter, item, queue, located)?;
+            Ok((step, located.place))
         }
-        Task::ExitRegion { holding } => leave(view, draft, holding),
+        Task::ExitRegion { holding } => Ok(leave(view, draft, holding)),
         Task::ExitData {
             finalize,
             item,
             queue,
         } => {
             let located = locate_after(view, draft, section_of(task));
-            exit(view, draft, n, finalize, item, queue, located)
+            let step = exit(view, draft, n, finalize, item, queue, located)?;
+            Ok((step, located.place))
         }
         Task::Move {
             if_present,
             item,
             ..
         } => {
-            let found = found_after(view, draft, section_of(task));
-            copy(view, n, if_present, item, found)
+            let located = locate_after(view, draft, section_of(task));
+            let step = copy(view, n, if_present, item, located.found)?;
+            Ok((step, located.place))
         }
     }
 }

@@ -9,6 +9,7 @@ use crate::acted::Acted;
 use crate::drafts::Draft;
 use crate::slates::Slate;
 use acc_base::{Did, Holding};
+use acc_present::Place;
 use arrayvec::ArrayVec;
 use std::marker::Model;
 
@@ -55,6 +56,11 @@ impl Plan {
         ensures few { length result.now ≤ 64 }
     {
         self.draft.acts()
+    }
+
+    /// Where the range may stand that each of its tasks changes, by the order in which they act.
+    pub(crate) fn places(&self) -> &[Place; 64] {
+        self.draft.places()
     }
 
     /// What each item does, in the order in which the directive or the region names them. It allocates nothing.

@@ -15,15 +15,7 @@ use crate::drafts::Draft;
 use crate::effects::{counters_over, found_over, puts_in};
 use crate::views::View;
 use acc_base::{Counters, Found, Range, Section};
-
-/// Where a section lies after the tasks.
-#[derive(Clone, Copy)]
-pub(crate) struct Located {
-    /// Where it lies.
-    pub(crate) found: Found,
-    /// A range that is mapped before the tasks and says so, if one does.
-    pub(crate) known: Option<Range>,
-}
+use acc_present::Located;
 
 /// Where a section lies after the tasks.
 #[tactic(auto, using(crate::proofs::Laws::plan_laws))]
@@ -35,18 +27,18 @@ pub(crate) fn found_after(view: &View<'_>, draft: &Draft, section: Section) -> F
     locate_after(view, draft, section).found
 }
 
-/// Where a section lies after the tasks, and the range that was found on the way.
+/// Where a section lies after the tasks, and what was found on the way among the ranges before them.
 #[tactic(auto, using(crate::proofs::Laws::plan_laws))]
 #[inline(always)]
 pub(crate) fn locate_after(view: &View<'_>, draft: &Draft, section: Section) -> Located
     requires planned { IsPlanned view.now.limits draft.now view.now.state.records }
     requires unmixed { AreUnmixed (tasks_in draft.now) }
     ensures found { result.found ≡ where_is section (records_after draft.now view.now.state.records).ranges }
-    ensures known { IfSome result.known (λ range. range_of range.block view.now.state.records.ranges ≡ Some range) }
+    ensures known { IfSome result.range (λ range. range_of range.block view.now.state.records.ranges ≡ Some range) }
 {
-    let (found, known) = view.find_apart(section, draft.ended());
-    let found = found_past(draft, section, found);
-    Located { found, known }
+    let located = view.find_apart(section, draft.ended());
+    let found = found_past(draft, section, located.found);
+    Located { found, ..located }
 }
 
 /// Where a section lies after the tasks, of which none ends a mapping that it may touch.

@@ -11,10 +11,17 @@ ghost use Rattle.acc_clauses.specs.Acts.{AreKnown, HasRoomFor, HasPutRoom, lens_
 use crate::acted::Acted;
 use crate::devices::DeviceData;
 use acc_host::HostMem;
+use acc_present::Place;
 
 /// Does the steps of these tasks, one after the other. Each was judged in what those before it leave, and there is room
-/// for all. It allocates nothing and is never refused.
-pub(crate) fn act_all(device: &mut DeviceData, host: &mut HostMem, acts: &[Acted])
+/// for all. The range of each is not searched for where it stands at its place. It allocates nothing and is never
+/// refused.
+pub(crate) fn act_all(
+    device: &mut DeviceData,
+    host: &mut HostMem,
+    acts: &[Acted],
+    places: &[Place; 64],
+)
     requires host { length host.old ≡ device.old.limits.host }
     requires judged { AreJudged device.old.limits 0 (tasks_in acts.now) (dids_in acts.now) device.old.device.records }
     requires known { AreKnown (tasks_in acts.now) (dids_in acts.now) device.old.device.records }
@@ -30,6 +37,6 @@ pub(crate) fn act_all(device: &mut DeviceData, host: &mut HostMem, acts: &[Acted
     ensures room_holdings { device.old.room.holdings ≤ device.new.room.holdings }
 {
     for n in 0..acts.len() {
-        device.act(host, &acts[n]);
+        device.act(host, &acts[n], places[n]);
     }
 }

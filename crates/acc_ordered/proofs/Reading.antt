@@ -1,10 +1,11 @@
 -- What is read at a place of rows.
-use Rattle.std.proofs.Common.{ℕ, suc, ◌≡◌, ◌+◌, ◌-◌, ◌<◌, ◌≤◌, sym, ap, ◌∙◌, List, [], ◌∷◌, IsSome, length, get_or, Some, None, inl, inr, rules, arith}
-use Rattle.std.specs.Prelude.{slice_get}
+use Rattle.std.proofs.Common.{ℕ, suc, ◌≡◌, ◌+◌, ◌-◌, ◌<◌, ◌≤◌, refl, sym, ap, ◌∙◌, List, [], ◌∷◌, IsSome, length, get_or, Option, Some, None, inl, inr, rules, arith}
+use Rattle.std.specs.Prelude.{slice_get, IfSome}
 use Rattle.std.specs.List.{AllByRecursion}
 use Rattle.std.proofs.lemmas.Bool.{cases_lt}
 use Rattle.std.proofs.lemmas.List.{get_or_default}
-use Rattle.acc_ordered.specs.Listing.{KeyValue, KeysRise, at_key}
+use Rattle.acc_ordered.specs.declared.entries.KeyValueRef.{KeyValueRef}
+use Rattle.acc_ordered.specs.Listing.{KeyValue, KeysRise, at_key, entry_in, seen}
 use Rattle.acc_ordered.specs.declared.places.Place.{Place}
 use Rattle.acc_ordered.specs.Laid.{side_by_side, IsRow}
 use Rattle.acc_ordered.specs.Spots.{index_of, get_before, IsRowAt, IsTaken, IsInRow, IsOfKeyAt}
@@ -51,6 +52,11 @@ module _ {T : Type 0} where
   -- the entry of the key that stands at a place is the one that is looked for
   pub near_found : (key : ℕ) (rows : List (List (KeyValue T))) (near : Place) → KeysRise (side_by_side rows) → (h : IsOfKeyAt key rows near) → slice_get (side_by_side rows) (index_of rows near) ≡ at_key key (side_by_side rows)
   near_found key rows near r h = h.entry_is ∙ sym (at_got key (side_by_side rows) (index_of rows near) h.entry r h.entry_is h.key_is)
+
+  -- what stands at a place is the entry of its key
+  pub entry_found : {K : Type 0} → (number : K → ℕ) (rows : List (List (KeyValue T))) (place : Place) (o : Option (KeyValueRef K T)) → KeysRise (side_by_side rows) → IfSome o (λ _. IsTaken rows place) → IfSome o (λ _. slice_get (side_by_side rows) (index_of rows place) ≡ seen number o) → IfSome o (λ found. at_key (number found.key) (side_by_side rows) ≡ seen number o)
+  entry_found number rows place None r taken is = tt
+  entry_found number rows place (Some e) r taken is = sym (near_found (number e.key) rows place r (record { taken = taken; entry = entry_in number e; entry_is = is; key_is = refl })) ∙ is
 
   pub some_rows : (key : ℕ) (rows : List (List (KeyValue T))) → IsSome (at_key key (side_by_side rows)) → 0 < length rows
   some_rows key [] there = absurd (search (rules, there))

@@ -1,6 +1,6 @@
 //! Where an entry stands, or would stand.
 ghost use Rattle.std.specs.Bool.{OnTrue};
-ghost use Rattle.std.specs.Prelude.{ℕ, ◌≡◌, ◌+◌, ◌^◌, ◌<◌, ◌≤◌, length, map, IsSome, slice_get, Some};
+ghost use Rattle.std.specs.Prelude.{ℕ, ◌≡◌, ◌+◌, ◌^◌, ◌<◌, ◌≤◌, length, map, IsSome, slice_get, Some, IfSome};
 ghost use Rattle.std.specs.List.{AllByRecursion};
 ghost use Rattle.acc_ordered.specs.Listing.{KeyValue, KeysRise, at_key, seen};
 ghost use Rattle.acc_ordered.specs.Laid.{side_by_side, IsRow, AreInRows};
@@ -77,19 +77,33 @@ pub fn entry_from<'a, K: Key, T: Copy>(
     Some(rows[place.row + 1].at(0))
 }
 
+/// The entry that stands at a place, if one does.
+#[inline]
+pub fn entry_at<'a, K: Key, T: Copy>(
+    rows: &'a VecDeque<Row<K, T>>,
+    place: Place,
+) -> Option<KeyValueRef<'a, K, T>>
+    ensures taken { IfSome result (λ _. IsTaken rows.now.items place) }
+    ensures entry { IfSome result (λ _. slice_get (side_by_side rows.now.items) (index_of rows.now.items place) ≡ seen K.number result) }
+{
+    if place.row >= rows.len() {
+        return None;
+    }
+    let row = &rows[place.row];
+    if place.at >= row.len() {
+        return None;
+    }
+    Some(row.at(place.at))
+}
+
 /// Whether the entry of a key stands at a place.
 #[inline]
 pub fn stands_at<K: Key, T: Copy>(rows: &VecDeque<Row<K, T>>, key: K, place: Place) -> bool
     ensures { OnTrue result (IsOfKeyAt (K.number key) rows.now.items place) }
 {
-    if place.row >= rows.len() {
+    let Some(found) = entry_at(rows, place) else {
         return false;
-    }
-    let row = &rows[place.row];
-    if place.at >= row.len() {
-        return false;
-    }
-    let found = row.at(place.at);
+    };
     if found.key.is_below(key) || key.is_below(found.key) {
         return false;
     }
@@ -138,26 +152,9 @@ fn fits<K: Key, T: Copy>(rows: &VecDeque<Row<K, T>>, key: K, place: Place) -> bo
     is_behind_lower(rows, key, place) && is_before_others(rows, key, place)
 }
 
-/// Where an entry of a key would be put. It is looked for first at a place.
+/// Where an entry of a key would be put. It is looked for first right behind a place, and then at it.
 #[inline]
 pub fn find_near<K: Key, T: Copy>(
-    firsts: &VecDeque<K>,
-    rows: &VecDeque<Row<K, T>>,
-    key: K,
-    near: Place,
-) -> Place
-    requires in_rows { AreInRows (map K.number firsts.now.items) rows.now.items }
-    ensures { IsPlaceOf (K.number key) rows.now.items result }
-{
-    if fits(rows, key, near) {
-        return near;
-    }
-    place_of(firsts, rows, key, &mut Steps::new())
-}
-
-/// As [`find_near`], but it is looked for first right behind the place.
-#[inline]
-pub fn find_behind<K: Key, T: Copy>(
     firsts: &VecDeque<K>,
     rows: &VecDeque<Row<K, T>>,
     key: K,
@@ -173,7 +170,10 @@ pub fn find_behind<K: Key, T: Copy>(
     if fits(rows, key, behind) {
         return behind;
     }
-    find_near(firsts, rows, key, near)
+    if fits(rows, key, near) {
+        return near;
+    }
+    place_of(firsts, rows, key, &mut Steps::new())
 }
 
 /// The place itself, or the first of the next row where it is behind all entries of its row.

@@ -1,11 +1,11 @@
 //! An ordered list of entries in rows, each found by its key.
-ghost use Rattle.std.specs.Prelude.{ℕ, ◌≡◌, ◌↔◌, IsTrue, ◌+◌, ◌*◌, ◌^◌, ◌<◌, ◌≤◌, [], length, Some, None, IsSome, IfOk, IfErr, OnOk, OnErr};
+ghost use Rattle.std.specs.Prelude.{ℕ, ◌≡◌, ◌↔◌, IsTrue, ◌+◌, ◌*◌, ◌^◌, ◌<◌, ◌≤◌, [], length, Some, None, IsSome, IfOk, IfErr, OnOk, OnErr, IfSome};
 ghost use Rattle.acc_ordered.specs.Listing.{KeysRise, keyed, at_key, first_from, last_before, with_entry, without_key, with_value, told_in, seen};
 
 use crate::changes::{make_place, make_rows, put, start, take_out, write};
 use crate::copying::copy_rows;
 use crate::entries::{KeyValueRef, Neighbors, Telling};
-use crate::finding::{ahead, entry_before, entry_from, find_behind, find_near, locate, place_of};
+use crate::finding::{ahead, entry_at, entry_before, entry_from, find_near, locate, place_of};
 use crate::keys::Key;
 use crate::places::Place;
 use crate::rows::Row;
@@ -165,6 +165,14 @@ impl<K: Key, T: Copy> OrderedList<K, T> {
         }
     }
 
+    /// The entry that stands at a place, if one does.
+    #[inline]
+    pub fn at(&self, place: Place) -> Option<KeyValueRef<'_, K, T>>
+        ensures { IfSome result (λ found. at_key (K.number found.key) self.now.entries ≡ seen K.number result) }
+    {
+        entry_at(&self.rows, place)
+    }
+
     /// The entry of least key from `key` on.
     #[inline]
     pub fn next(&self, key: K) -> Option<KeyValueRef<'_, K, T>>
@@ -182,15 +190,15 @@ impl<K: Key, T: Copy> OrderedList<K, T> {
         if self.is_empty() {
             return (None, near);
         }
-        let place = find_behind(&self.firsts, &self.rows, key, near);
+        let place = find_near(&self.firsts, &self.rows, key, near);
         let Some(entry) = entry_from(&self.rows, place) else {
             return (None, place);
         };
         (Some(entry), ahead(&self.rows, place))
     }
 
-    /// Puts a value under a key that is not there yet, and returns where it stands. The place is looked for first near
-    /// another. It needs no memory.
+    /// Puts a value under a key that is not there yet, and returns where it stands. The place is looked for first right
+    /// behind another, and at that. It needs no memory.
     pub fn insert(&mut self, key: K, value: T, near: Place) -> Place
         requires room { 1 ≤ self.old.room }
         requires new { at_key (K.number key) self.old.entries ≡ None }

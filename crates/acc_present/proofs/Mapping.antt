@@ -21,7 +21,8 @@ use Rattle.acc_base.proofs.Options.{some_mapped, none_mapped, from_none}
 use Rattle.acc_base.proofs.Elements.{AllByRecursion-weaker, AllByRecursion-both, AllByRecursion-filter, AllByRecursion-map, EachPair-filter, EachPair-map, find-map, find-none, find_none, find_passes, found_has, list_all-from}
 use Rattle.acc_base.proofs.Keyed as keyed
 use Rattle.acc_index.specs.Indexed.{IsIndexRising, value_at}
-use Rattle.acc_ordered.specs.Listing.{KeyValue, at_key, first_from, last_before, with_entry, without_key, value_written, with_value, told_in}
+use Rattle.acc_ordered.specs.declared.entries.KeyValueRef.{KeyValueRef}
+use Rattle.acc_ordered.specs.Listing.{KeyValue, at_key, entry_in, seen, first_from, last_before, with_entry, without_key, value_written, with_value, told_in}
 use Rattle.acc_present.specs.Present.{AreMapped}
 use Rattle.acc_present.specs.Kept.{range_in, ranges_in, IsKeyed, start_at, IsIndexed}
 use Rattle.acc_present.proofs.Finding.{last_below, starts_rise}
@@ -128,6 +129,18 @@ pub record IsEntryBoth (block : ℕ) (es : List (KeyValue Range)) (e : KeyValue 
 -- an entry that a key finds is that of its block
 pub by_key : (block : ℕ) (es : List (KeyValue Range)) (e : KeyValue Range) → AreMapped (ranges_in es) → at_key e.key es ≡ Some e → e.value.block ≡ block → IsEntryBoth block es e
 by_key block es e m found is = record { key = found; by_block = subst (λ n. at mapped_block n es ≡ Some e) is (found_has (λ (x : KeyValue Range). at mapped_block x.value.block es ≡ Some x) (λ x. x.key == e.key) es e (own_mapped_block es m) found).0; is = is }
+
+-- and its value is the range of that block
+range_found : (key : ℕ) (es : List (KeyValue Range)) (e : KeyValue Range) → AllByRecursion IsKeyed es → AreMapped (ranges_in es) → at_key key es ≡ Some e → range_of e.value.block (ranges_in es) ≡ Some e.value
+range_found key es e keyed m found =
+    let own = subst (λ (o : Option (KeyValue Range)). IfSome o IsKeyed) found (keyed_found (λ e. e.key == key) es keyed) in
+    let by_block = (found_has (λ (x : KeyValue Range). at mapped_block x.value.block es ≡ Some x) (λ x. x.key == key) es e (own_mapped_block es m) found).0 in
+    block-ranges e.value.block es ∙ ap (option_map range_in) by_block ∙ ap (λ (r : Range). Some r) (sym (value_is e own))
+
+-- where there is one
+pub ranges_found : (es : List (KeyValue Range)) (o : Option (KeyValueRef ℕ Range)) → AllByRecursion IsKeyed es → AreMapped (ranges_in es) → IfSome o (λ found. at_key found.key es ≡ seen (λ (key : ℕ). key) o) → IfSome (option_map (λ (e : KeyValue Range). e.value) (seen (λ (key : ℕ). key) o)) (λ r. range_of r.block (ranges_in es) ≡ Some r)
+ranges_found es None keyed m found = tt
+ranges_found es (Some e) keyed m found = range_found e.key es (entry_in (λ (key : ℕ). key) e) keyed m found
 
 -- a range that is found by a block is mapped to it
 pub block_is : (block : ℕ) (rs : List Range) (r : Range) → range_of block rs ≡ Some r → r.block ≡ block

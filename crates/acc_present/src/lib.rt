@@ -7,5 +7,6 @@ mod presence;
 mod ranges;
 mod register;
 
-pub use presence::Present;
+pub use acc_ordered::Place;
+pub use presence::{Located, Present};
 pub use register::OpenRegion;

@@ -37,6 +37,18 @@ pub struct Present {
     register: Register,
 }
 
+/// What a search for a section found.
+#[derive(Clone, Copy)]
+pub struct Located {
+    /// Where the section lies.
+    pub found: Found,
+    /// A mapped range that says so, if one does.
+    pub range: Option<Range>,
+    /// Where the last range stands that begins at or before the section. A change of it, or of the range that is mapped
+    /// to the section next, needs no search from here.
+    pub place: Place,
+}
+
 impl Model for Present {
     ghost use Rattle.std.specs.Prelude.{◌^◌, ◌<◌, min};
     ghost use Rattle.std.specs.List.{AllByRecursion};
@@ -126,9 +138,9 @@ impl Present {
     {
         self.laws();
         match self.locate(section, &[], steps) {
-            Ok((found, _)) => found,
-            Err(None) => Found::Absent,
-            Err(Some(range)) => told_by(range, section, &[]).unwrap_or(Found::Absent),
+            Ok(located) => located.found,
+            Err((None, _)) => Found::Absent,
+            Err((Some(range), _)) => told_by(range, section, &[]).unwrap_or(Found::Absent),
         }
     }
 
@@ -137,62 +149,81 @@ impl Present {
     pub fn find_apart(&self, section: Section, blocks: &[u64]) -> Found
         ensures { result ≡ where_is_apart section blocks.now self.now.table.ranges }
     {
-        self.find_range_apart(section, blocks).0
+        self.find_range_apart(section, blocks).found
     }
 
     /// Where a section would lie, as [`Present::find_apart`] says, and a mapped range that says so, if one does. It is
     /// that of the block in which the section lies, whose counters need no search of their own then.
-    pub fn find_range_apart(&self, section: Section, blocks: &[u64]) -> (Found, Option<Range>)
-        ensures found { result.0 ≡ where_is_apart section blocks.now self.now.table.ranges }
-        ensures range { IfSome result.1 (λ range. range_of range.block self.now.table.ranges ≡ Some range) }
-        ensures block { IsToldBy result.0 result.1 }
+    pub fn find_range_apart(&self, section: Section, blocks: &[u64]) -> Located
+        ensures found { result.found ≡ where_is_apart section blocks.now self.now.table.ranges }
+        ensures range { IfSome result.range (λ range. range_of range.block self.now.table.ranges ≡ Some range) }
+        ensures block { IsToldBy result.found result.range }
     {
         self.laws();
-        let mut next = match self.locate(section, blocks, &mut Steps::new()) {
-            Ok(told) => return told,
-            Err(next) => next,
+        let (mut next, place) = match self.locate(section, blocks, &mut Steps::new()) {
+            Ok(located) => return located,
+            Err(behind) => behind,
         };
         while let Some(range) = next {
             if let Some(found) = told_by(range, section, blocks) {
-                return (found, Some(range));
+                let range = Some(range);
+                return Located {
+                    found,
+                    range,
+                    place,
+                };
             }
             next = self.behind(range);
         }
-        (Found::Absent, None)
+        Located {
+            found: Found::Absent,
+            range: None,
+            place,
+        }
     }
 
     /// Where a section lies among the ranges without those of the listed blocks, as far as the last range says that does
-    /// not begin behind the section's start, with that range. Else the first range that does.
+    /// not begin behind the section's start, with that range. Else the first range that does, and where that last range
+    /// stands.
     #[inline]
     fn locate(
         &self,
         section: Section,
         blocks: &[u64],
         steps: &mut Steps,
-    ) -> Result<(Found, Option<Range>), Option<Range>>
+    ) -> Result<Located, (Option<Range>, Place)>
         requires limit { steps.old ≤ 2 ^ 32 }
-        ensures found { IfOk result (λ told. told.0 ≡ where_is_apart section blocks.now self.now.table.ranges) }
-        ensures range { IfOk result (λ told. IfSome told.1 (λ range. range_of range.block self.now.table.ranges ≡ Some range)) }
-        ensures block { IfOk result (λ told. IsToldBy told.0 told.1) }
-        ensures next { IfErr result (λ next. IsNext section blocks.now self.now.table.ranges next) }
+        ensures found { IfOk result (λ located. located.found ≡ where_is_apart section blocks.now self.now.table.ranges) }
+        ensures range { IfOk result (λ located. IfSome located.range (λ range. range_of range.block self.now.table.ranges ≡ Some range)) }
+        ensures block { IfOk result (λ located. IsToldBy located.found located.range) }
+        ensures next { IfErr result (λ next. IsNext section blocks.now self.now.table.ranges next.0) }
         ensures some { OnErr result (0 < section.len) }
-        ensures behind { IfErr result (λ next. IfSome next (λ range. section.start ≤ range.section.start)) }
+        ensures behind { IfErr result (λ next. IfSome next.0 (λ range. section.start ≤ range.section.start)) }
         ensures not_fewer { steps.old ≤ steps.new }
         ensures least { 0 < section.len → 0 < length self.now.table.ranges → steps.old < steps.new }
         ensures steps { (d : ℕ) → length self.now.table.ranges < 2 ^ d → steps.new ≤ steps.old + 2 * d }
     {
         if section.len == 0 {
-            return Ok((Found::Empty, None));
+            return Ok(Located {
+                found: Found::Empty,
+                range: None,
+                place: Place::default(),
+            });
         }
         let around = self
             .ranges
             .around_counted(section.start.saturating_add(1), steps);
         if let Some(range) = range_if(around.before) {
             if let Some(found) = told_by(range, section, blocks) {
-                return Ok((found, Some(range)));
+                return Ok(Located {
+                    found,
+                    range: Some(range),
+                    place: around.place,
+                });
             }
         }
-        Err(range_if(around.from))
+        let next = range_if(around.from);
+        Err((next, around.place))
     }
 
     /// The mapped range behind another.
@@ -207,8 +238,28 @@ impl Present {
     pub fn range(&self, block: u64) -> Option<Range>
         ensures { result ≡ range_of block self.now.table.ranges }
     {
-        let start = self.starts.get(block)?;
-        range_if(self.ranges.look_up(*start).0)
+        self.find_block(block).0
+    }
+
+    /// The range that is mapped to a block, if one is, and where it stands.
+    fn find_block(&self, block: u64) -> (Option<Range>, Place)
+        ensures { result.0 ≡ range_of block self.now.table.ranges }
+    {
+        match self.starts.get(block) {
+            Some(start) => {
+                let (found, place) = self.ranges.look_up(*start);
+                (range_if(found), place)
+            }
+            None => (None, Place::default()),
+        }
+    }
+
+    /// The range that stands at a place, if one does.
+    #[inline]
+    fn range_at(&self, place: Place) -> Option<Range>
+        ensures { IfSome result (λ range. range_of range.block self.now.table.ranges ≡ Some range) }
+    {
+        range_if(self.ranges.at(place))
     }
 
     /// The host address at which the range begins that is mapped to a block, if one is. It is found mostly without a search.
@@ -218,14 +269,14 @@ impl Present {
         Some(*self.starts.get(block)?)
     }
 
-    /// The range that is mapped to a block, if one is, as [`Present::range`] returns it. It is found by one search where
-    /// it is the last one that begins at or before the address `at`, and else by three.
-    pub fn range_near(&self, block: u64, at: u64) -> Option<Range>
-        ensures { result ≡ range_of block self.now.table.ranges }
+    /// The range that is mapped to a block, if one is, as [`Present::range`] returns it, and where it may stand. It is
+    /// found by one search where it is the last one that begins at or before the address `at`, and else by three.
+    pub fn range_near(&self, block: u64, at: u64) -> (Option<Range>, Place)
+        ensures { result.0 ≡ range_of block self.now.table.ranges }
     {
-        match self.last_range(at).0 {
-            Some(range) if range.block == block => Some(range),
-            Some(_) | None => self.range(block),
+        match self.last_range(at) {
+            (Some(range), place) if range.block == block => (Some(range), place),
+            _ => self.find_block(block),
         }
     }
 
@@ -239,16 +290,15 @@ impl Present {
         (range_if(around.before), around.place)
     }
 
-    /// The range that is mapped to a block. One is.
-    fn mapped(&self, block: u64) -> Range
+    /// The range that is mapped to a block, and where it stands. One is.
+    fn mapped(&self, block: u64) -> (Range, Place)
         requires { HasRange self.now.table block }
-        ensures range { range_of block self.now.table.ranges ≡ Some result }
-        ensures block { result.block ≡ block }
+        ensures range { range_of block self.now.table.ranges ≡ Some result.0 }
+        ensures block { result.0.block ≡ block }
     {
-        let Some(range) = self.range(block) else {
-            unreachable!()
-        };
-        range
+        let (found, place) = self.find_block(block);
+        let Some(range) = found else { unreachable!() };
+        (range, place)
     }
 
     /// The mapped range of least start at or above an address.
@@ -291,16 +341,24 @@ impl Present {
         ensures room_regions { self.old.room.regions ≤ self.new.room.regions }
         ensures room_holdings { self.old.room.holdings ≤ self.new.room.holdings }
     {
-        self.put(Range {
+        let range = Range {
             section,
             block,
             structured: 0,
             dynamic: 0,
-        });
+        };
+        self.put(range, Place::default());
     }
 
-    /// As [`Present::add_reserved`], with one of the counters at 1. It needs no search for the new range.
-    pub fn add_counted_reserved(&mut self, section: Section, block: u64, counter: Counter)
+    /// As [`Present::add_reserved`], with one of the counters at 1. No search comes first where the place is that of the
+    /// last range before the new one.
+    pub fn add_counted_reserved(
+        &mut self,
+        section: Section,
+        block: u64,
+        counter: Counter,
+        near: Place,
+    )
         requires room { 1 ≤ self.old.room.ranges }
         requires absent { where_is section self.old.table.ranges ≡ Absent }
         requires new { range_of block self.old.table.ranges ≡ None }
@@ -310,11 +368,12 @@ impl Present {
         ensures room_regions { self.old.room.regions ≤ self.new.room.regions }
         ensures room_holdings { self.old.room.holdings ≤ self.new.room.holdings }
     {
-        self.put(counted_range(section, block, counter));
+        self.put(counted_range(section, block, counter), near);
     }
 
-    /// Puts a range to those that are mapped, where there is room for it.
-    fn put(&mut self, range: Range)
+    /// Puts a range to those that are mapped, where there is room for it. A place says where it is looked for first what
+    /// stands before it.
+    fn put(&mut self, range: Range, near: Place)
         requires room { 1 ≤ self.old.room.ranges }
         requires absent { where_is range.section self.old.table.ranges ≡ Absent }
         requires new { range_of range.block self.old.table.ranges ≡ None }
@@ -325,7 +384,7 @@ impl Present {
         ensures room_holdings { self.old.room.holdings ≤ self.new.room.holdings }
     {
         let start = range.section.start;
-        self.ranges.insert(start, range, Place::default());
+        self.ranges.insert(start, range, near);
         self.starts.insert(range.block, start);
     }
 
@@ -337,19 +396,19 @@ impl Present {
         ensures table { self.new.table ≡ with_ranges self.old.table (without_range block self.old.table.ranges) }
         ensures room { IsRoomKept self.old.room self.new.room }
     {
-        self.end_mapping(block);
+        self.end_mapping(block, Place::default());
     }
 
-    /// Ends the mapping to a block, whatever the counters of its range are. A range is mapped to it. No search finds that
-    /// range first.
-    pub fn end_mapping(&mut self, block: u64)
+    /// Ends the mapping to a block, whatever the counters of its range are. A range is mapped to it. It is not searched
+    /// for where it stands at the place.
+    pub fn end_mapping(&mut self, block: u64, near: Place)
         requires there { HasRange self.old.table block }
         ensures table { self.new.table ≡ with_ranges self.old.table (without_range block self.old.table.ranges) }
         ensures room { IsRoomKept self.old.room self.new.room }
     {
         // Nothing told its place. A look at the first one costs no search.
         let start = self.starts.take_out_near(block, 0);
-        self.ranges.remove(start, Place::default());
+        self.ranges.remove(start, near);
     }
 
     // ---- reference counters
@@ -360,7 +419,7 @@ impl Present {
         ensures structured { result.structured ≡ structured_of block self.now.table.ranges }
         ensures dynamic { result.dynamic ≡ dynamic_of block self.now.table.ranges }
     {
-        let range = self.mapped(block);
+        let (range, _) = self.mapped(block);
         Counters {
             structured: range.structured,
             dynamic: range.dynamic,
@@ -381,8 +440,8 @@ impl Present {
         ensures unchanged { OnErr result (self.new.table ≡ self.old.table) }
         ensures room { IsRoomKept self.old.room self.new.room }
     {
-        let range = self.mapped(block);
-        self.count(Counter::Structured, range)
+        let (range, place) = self.mapped(block);
+        self.count(Counter::Structured, range, place)
     }
 
     /// Raises the dynamic counter of the range that is mapped to a block. One is.
@@ -399,19 +458,18 @@ impl Present {
         ensures unchanged { OnErr result (self.new.table ≡ self.old.table) }
         ensures room { IsRoomKept self.old.room self.new.room }
     {
-        let range = self.mapped(block);
-        self.count(Counter::Dynamic, range)
+        let (range, place) = self.mapped(block);
+        self.count(Counter::Dynamic, range, place)
     }
 
     /// Raises a counter of the range that is mapped to a block, as [`Present::count_structured`] and
-    /// [`Present::count_dynamic`] do. One is. It is looked for near the address `at` first, as by
-    /// [`Present::range_near`].
+    /// [`Present::count_dynamic`] do. One is. It is not searched for where it stands at the place.
     ///
     /// # Errors
     ///
     /// [`Fault::CounterFull`] with item 0, exactly where the counter has its greatest value. The table is then as
     /// before.
-    pub fn count_near(&mut self, counter: Counter, block: u64, at: u64) -> Result<(), Fault>
+    pub fn count_near(&mut self, counter: Counter, block: u64, near: Place) -> Result<(), Fault>
         requires { HasRange self.old.table block }
         ensures ok { OnOk result (self.new.table ≡ with_ranges self.old.table (changed_at block (risen counter) self.old.table.ranges)) }
         ensures below { OnOk result (counter_of counter block self.old.table.ranges < self.old.table.counter_max) }
@@ -420,14 +478,15 @@ impl Present {
         ensures unchanged { OnErr result (self.new.table ≡ self.old.table) }
         ensures room { IsRoomKept self.old.room self.new.room }
     {
-        if self.change_near(CounterChange::Raise(counter), block, at) {
+        if self.change_near(CounterChange::Raise(counter), block, near) {
             return Ok(());
         }
-        self.count(counter, self.mapped(block))
+        let (range, place) = self.mapped(block);
+        self.count(counter, range, place)
     }
 
-    /// Raises a counter of a mapped range.
-    fn count(&mut self, counter: Counter, range: Range) -> Result<(), Fault>
+    /// Raises a counter of a mapped range, which is looked for near a place first.
+    fn count(&mut self, counter: Counter, range: Range, near: Place) -> Result<(), Fault>
         requires { range_of range.block self.old.table.ranges ≡ Some range }
         ensures ok { OnOk result (self.new.table ≡ with_ranges self.old.table (changed_at range.block (risen counter) self.old.table.ranges)) }
         ensures below { OnOk result (counter_of counter range.block self.old.table.ranges < self.old.table.counter_max) }
@@ -439,23 +498,22 @@ impl Present {
         if self.counter_max <= value_of(counter, range) {
             return Err(Fault::CounterFull { item: 0 });
         }
-        self.change(CounterChange::Raise(counter), range, Place::default());
+        self.change(CounterChange::Raise(counter), range, near);
         Ok(())
     }
 
-    /// Changes a counter of the range that is mapped to a block, if that is the last one that begins at or before the
-    /// address `at`. A counter that rises has to be below the limit. It answers whether it changed one, by one search.
+    /// Changes a counter of the range that is mapped to a block, if that stands at a place. A counter that rises has to be
+    /// below the limit. It answers whether it changed one, without a search.
     #[inline]
-    fn change_near(&mut self, change: CounterChange, block: u64, at: u64) -> bool
+    fn change_near(&mut self, change: CounterChange, block: u64, near: Place) -> bool
         ensures changed { OnTrue result (self.new.table ≡ with_ranges self.old.table (changed_at block (changed_by change) self.old.table.ranges)) }
         ensures below { OnTrue result ((range : Range) × (range_of block self.old.table.ranges ≡ Some range) × IsChangeable change self.old.table.counter_max range) }
         ensures unchanged { result ≡ false → self.new.table ≡ self.old.table }
         ensures room { IsRoomKept self.old.room self.new.room }
     {
-        let (last, place) = self.last_range(at);
-        match last {
+        match self.range_at(near) {
             Some(range) if range.block == block && is_allowed(change, self.counter_max, range) => {
-                self.change(change, range, place);
+                self.change(change, range, near);
                 true
             }
             Some(_) | None => false,
@@ -480,7 +538,8 @@ impl Present {
         ensures table { self.new.table ≡ with_ranges self.old.table (changed_at block (changed_by change) self.old.table.ranges) }
         ensures room { IsRoomKept self.old.room self.new.room }
     {
-        self.change(change, self.mapped(block), Place::default());
+        let (range, place) = self.mapped(block);
+        self.change(change, range, place);
     }
 
     /// Lowers the structured counter of the range that is mapped to a block. One is. Zero stays zero.
@@ -511,26 +570,25 @@ impl Present {
     }
 
     /// Lowers a counter of the range that is mapped to a block, as [`Present::drop_structured`] and
-    /// [`Present::drop_dynamic`] do. One is. It is looked for near the address `at` first, as by
-    /// [`Present::range_near`]. Zero stays zero.
-    pub fn drop_near(&mut self, counter: Counter, block: u64, at: u64)
+    /// [`Present::drop_dynamic`] do. One is. It is not searched for where it stands at the place. Zero stays zero.
+    pub fn drop_near(&mut self, counter: Counter, block: u64, near: Place)
         requires { HasRange self.old.table block }
         ensures table { self.new.table ≡ with_ranges self.old.table (changed_at block (fallen counter) self.old.table.ranges) }
         ensures room { IsRoomKept self.old.room self.new.room }
     {
-        if !self.change_near(CounterChange::Lower(counter), block, at) {
+        if !self.change_near(CounterChange::Lower(counter), block, near) {
             self.lower(CounterChange::Lower(counter), block);
         }
     }
 
     /// Sets the dynamic counter of the range that is mapped to a block to 0, as [`Present::clear_dynamic`] does. One is.
-    /// It is looked for near the address `at` first, as by [`Present::range_near`].
-    pub fn clear_near(&mut self, block: u64, at: u64)
+    /// It is not searched for where it stands at the place.
+    pub fn clear_near(&mut self, block: u64, near: Place)
         requires { HasRange self.old.table block }
         ensures table { self.new.table ≡ with_ranges self.old.table (changed_at block cleared self.old.table.ranges) }
         ensures room { IsRoomKept self.old.room self.new.room }
     {
-        if !self.change_near(CounterChange::Clear, block, at) {
+        if !self.change_near(CounterChange::Clear, block, near) {
             self.lower(CounterChange::Clear, block);
         }
     }

@@ -6,6 +6,7 @@ ghost use Rattle.acc_present.specs.Present.{IsToldBy};
 
 use crate::views::View;
 use acc_base::{Counters, Found, Range, Section};
+use acc_present::{Located, Place};
 
 impl View<'_> {
     /// Where a section lies among the mapped ranges.
@@ -17,10 +18,10 @@ impl View<'_> {
 
     /// Where a section lies once the mappings to these blocks have ended, and a mapped range that says so, if one does.
     #[inline(always)]
-    pub(crate) fn find_apart(&self, section: Section, blocks: &[u64]) -> (Found, Option<Range>)
-        ensures found { result.0 ≡ where_is_apart section blocks.now self.now.state.records.ranges }
-        ensures range { IfSome result.1 (λ range. range_of range.block self.now.state.records.ranges ≡ Some range) }
-        ensures block { IsToldBy result.0 result.1 }
+    pub(crate) fn find_apart(&self, section: Section, blocks: &[u64]) -> Located
+        ensures found { result.found ≡ where_is_apart section blocks.now self.now.state.records.ranges }
+        ensures range { IfSome result.range (λ range. range_of range.block self.now.state.records.ranges ≡ Some range) }
+        ensures block { IsToldBy result.found result.range }
     {
         self.environment.present.find_range_apart(section, blocks)
     }
@@ -32,9 +33,10 @@ impl View<'_> {
         self.environment.present.next_range(from)
     }
 
-    /// The range that is mapped to a block, if one is. An address says where it is looked for first.
-    pub(crate) fn range_near(&self, block: u64, at: u64) -> Option<Range>
-        ensures { result ≡ range_of block self.now.state.records.ranges }
+    /// The range that is mapped to a block, if one is, and where it may stand. An address says where it is looked for
+    /// first.
+    pub(crate) fn range_near(&self, block: u64, at: u64) -> (Option<Range>, Place)
+        ensures { result.0 ≡ range_of block self.now.state.records.ranges }
     {
         self.environment.present.range_near(block, at)
     }

@@ -25,7 +25,7 @@ own_block b rs None is = tt
 own_block b rs (Some r) is = subst (λ (k : ℕ). range_of k rs ≡ Some r) (sym (equal r.block b (found_block b rs r (sym is)))) (sym is)
 
 pub counters_after-counters-requires-clause-known : goal.counters_after-counters-requires-clause-known
-counters_after-counters-requires-clause-known c = own_block c.in-Some.block c.args.view.now.state.records.ranges c.range_near-known.result c.range_near-known.ensures
+counters_after-counters-requires-clause-known c = own_block c.in-Some.block c.args.view.now.state.records.ranges c.range_near-known.result.0 c.range_near-known.ensures
 
 pub returns-in-Some : goal.returns-in-Some
 returns-in-Some c = λ n. rw c.dropped.ensures (left c.args.view.now.limits n c.args.draft.now c.args.view.now.state.records c.args.holding c.in-Some.block c.counters_after-counters.result c.requires c.in-Some.is c.counters_after-counters.ensures.value)

@@ -1,11 +1,12 @@
-use Rattle.std.proofs.Common.{ℕ, ◌≡◌, ◌+◌, ◌≤◌, ◌<◌, Option, Some, sym, subst, ap, ◌∙◌, arith}
+use Rattle.std.proofs.Common.{ℕ, List, ◌≡◌, ◌+◌, ◌≤◌, ◌<◌, Option, Some, sym, subst, ap, ◌∙◌, arith}
 use Rattle.std.specs.Prelude.{option_map, IfSome}
+use Rattle.std.specs.List.{AllByRecursion}
 use Rattle.std.proofs.lemmas.Bool.Decides.{nat_tests}
 use Rattle.acc_base.specs.declared.mappings.Range.{Range}
 use Rattle.acc_base.specs.Ranges.{range_from, range_of, where_is_apart}
-use Rattle.acc_ordered.specs.Listing.{KeyValue, seen}
+use Rattle.acc_ordered.specs.Listing.{KeyValue, first_from, seen}
 use Rattle.acc_present.specs.Present.{PresentState}
-use Rattle.acc_present.specs.Kept.{ranges_in, IsNext}
+use Rattle.acc_present.specs.Kept.{ranges_in, IsKeyed, IsNext}
 use Rattle.acc_present.proofs.Finding.{last_filled, told_last, silent_last, no_last, from_behind, last_own}
 use Rattle.acc_present.proofs.Mapping.{first_value, last_found}
 use Rattle.acc_present.proofs.presence.Present.locate.Goals as goal
@@ -29,8 +30,8 @@ returns-in-Some-told_by-clause-found c =
     ∙ ap (λ (p : PresentState). where_is_apart c.args.section c.args.blocks.now p.table.ranges) c.self.view_is
 
 -- the first range from the address on that was searched for
-first : (c : goal.After-range_if-2) → c.range_if-2.result ≡ range_from c.saturating_add.result (ranges_in c.self.inside.ranges.entries)
-first c = c.range_if-2.ensures ∙ ap (option_map (λ (e : KeyValue Range). e.value)) c.around_counted-around.ensures.from ∙ first_value c.saturating_add.result c.self.inside.ranges.entries c.self.invariant.2.keyed
+first : (k : ℕ) (es : List (KeyValue Range)) (from : Option (KeyValue Range)) (next : Option Range) → AllByRecursion IsKeyed es → from ≡ first_from k es → next ≡ option_map (λ (e : KeyValue Range). e.value) from → next ≡ range_from k (ranges_in es)
+first k es from next keyed found is = is ∙ ap (option_map (λ (e : KeyValue Range). e.value)) found ∙ first_value k es keyed
 
 pub returns-clause-next : goal.returns-clause-next
 returns-clause-next c =
@@ -43,12 +44,12 @@ returns-clause-next c =
       | in-Some+in_default-told_by w ↦ silent_last k c.args.section c.args.blocks.now (ranges_in es) w.in-Some.range near some c.self.invariant.2.mapped (last ∙ w.in-Some.is) w.in_default-told_by.ensures.silent
       | in_default w ↦ no_last k c.args.section c.args.blocks.now (ranges_in es) some c.self.invariant.2.mapped (last ∙ w.in_default.is)
     ] in
-    subst (λ (p : PresentState). IsNext c.args.section c.args.blocks.now p.table.ranges c.range_if-2.result) c.self.view_is (subst (λ (o : Option Range). IsNext c.args.section c.args.blocks.now (ranges_in es) o) (sym (first c)) next)
+    subst (λ (p : PresentState). IsNext c.args.section c.args.blocks.now p.table.ranges c.range_if-next.result) c.self.view_is (subst (λ (o : Option Range). IsNext c.args.section c.args.blocks.now (ranges_in es) o) (sym (first c.saturating_add.result c.self.inside.ranges.entries (seen (λ (key : ℕ). key) c.around_counted-around.result.from) c.range_if-next.result c.self.invariant.2.keyed c.around_counted-around.ensures.from c.range_if-next.ensures)) next)
 
 pub returns-clause-behind : goal.returns-clause-behind
 returns-clause-behind c =
     let le : c.args.section.start ≤ c.saturating_add.result = omega (arith, c.saturating_add.ensures) in
-    subst (λ (o : Option Range). IfSome o (λ (r : Range). c.args.section.start ≤ r.section.start)) (sym (first c)) (from_behind c.args.section.start c.saturating_add.result (ranges_in c.self.inside.ranges.entries) le)
+    subst (λ (o : Option Range). IfSome o (λ (r : Range). c.args.section.start ≤ r.section.start)) (sym (first c.saturating_add.result c.self.inside.ranges.entries (seen (λ (key : ℕ). key) c.around_counted-around.result.from) c.range_if-next.result c.self.invariant.2.keyed c.around_counted-around.ensures.from c.range_if-next.ensures)) (from_behind c.args.section.start c.saturating_add.result (ranges_in c.self.inside.ranges.entries) le)
 
 pub returns-in-Some-told_by-clause-range : goal.returns-in-Some-told_by-clause-range
 returns-in-Some-told_by-clause-range c =

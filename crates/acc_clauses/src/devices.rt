@@ -20,16 +20,18 @@ ghost use Rattle.acc_base.specs.Judge.{leased};
 ghost use Rattle.acc_base.specs.Accounts.{AreRecordsSound, IsLoanSound};
 ghost use Rattle.acc_clauses.specs.Contents.{Numbers};
 ghost use Rattle.acc_clauses.specs.Devices.{state_beside};
-ghost use Rattle.acc_clauses.specs.Overlays.{puts_by};
+ghost use Rattle.acc_clauses.specs.Overlays.{puts_by, tasks_in, dids_in};
+ghost use Rattle.acc_clauses.specs.Planned.{holdings_by};
 ghost use Rattle.acc_clauses.specs.Lending.{lent_state, gathered_state};
 ghost use Rattle.acc_clauses.specs.Acts.{IsJudged, IsKnown, HasRoomFor, HasPutRoom, HasRegionRoom, LacksRoom, IsRoomLeft, birth_of, pointers_of};
 
 use crate::acted::Acted;
 use crate::acting::act_on;
 use crate::environments::Environment;
+use crate::notes::note_holdings;
 use crate::transfers::step;
 use crate::views::View;
-use acc_base::{Config, Fault, Holding, Loan};
+use acc_base::{Config, Fault, Loan};
 use acc_host::HostMem;
 use acc_lend::Lease;
 use acc_present::Place;
@@ -223,14 +225,17 @@ impl DeviceData {
         self.environment.queues.reserve(q, puts)
     }
 
-    /// Opens a region of a number with these holdings, where there is room for them. It allocates nothing.
-    pub(crate) fn enter(&mut self, number: u64, holdings: &[Holding])
+    /// Opens a region of a number with what these tasks hold, where there is room for it. It allocates nothing.
+    pub(crate) fn enter(&mut self, number: u64, acts: &[Acted])
         requires new { region_at number self.old.device.regions ≡ None }
-        requires room { HasRegionRoom 1 (length holdings.now) self.old.room }
+        requires room { HasRegionRoom 1 (length (holdings_by (tasks_in acts.now) (dids_in acts.now))) self.old.room }
         ensures limits { self.new.limits ≡ self.old.limits }
-        ensures device { self.new.device ≡ record self.old.device { regions = with_region (record { number = number; holdings = holdings.now }) self.old.device.regions } }
+        ensures device { self.new.device ≡ record self.old.device { regions = with_region (record { number = number; holdings = holdings_by (tasks_in acts.now) (dids_in acts.now) }) self.old.device.regions } }
     {
-        self.environment.present.enter_reserved(number, holdings);
+        let present = &mut self.environment.present;
+        let mut holdings = present.take_spare();
+        note_holdings(&mut holdings, acts);
+        present.enter_reserved(number, holdings);
     }
 
     /// Closes an open region.

@@ -27,7 +27,7 @@ pub(crate) fn finish(
 {
     match directive {
         Directive::Enter { .. } => {
-            device.enter(*next_region, plan.holdings());
+            device.enter(*next_region, plan.acts());
             *next_region += 1;
         }
         Directive::Exit { number } => device.leave(*number),

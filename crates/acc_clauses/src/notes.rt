@@ -1,12 +1,11 @@
-//! What a plan notes of its tasks, so that nothing has to be gathered when it is done.
+//! What tasks did in written order, and what the region holds that they enter.
 
-ghost use Rattle.std.specs.Prelude.{◌≡◌, ◌+◌, ◌++◌, ◌<◌, ◌≤◌, length};
+ghost use Rattle.std.specs.Prelude.{◌≡◌, ◌≤◌, [], length, vec_capacity, option_to_list};
 ghost use Rattle.acc_base.specs.Walk.{block_counted, pointer_attached};
 ghost use Rattle.acc_clauses.specs.Overlays.{tasks_in, dids_in};
 ghost use Rattle.acc_clauses.specs.Planned.{told_of, in_written_order, holding_by, holdings_by};
 
 use crate::acted::Acted;
-use crate::slates::Slate;
 use acc_base::{Aim, Counter, Did, Directive, Holding, Step, Task};
 use arrayvec::ArrayVec;
 
@@ -49,33 +48,48 @@ fn pointer_attached(aim: Aim) -> Option<(u64, u64)>
     }
 }
 
-// Notes what a task holds that enters an item of a region.
-fn note_holding(holdings: &mut Slate<Holding>, x: &Acted)
-    requires { length holdings.old < 64 }
-    ensures holdings { holdings.new ≡ holdings.old ++ holding_by x.now.task x.now.did }
-    ensures few { length holdings.new ≤ length holdings.old + 1 }
+// What a task holds that enters an item of a region.
+fn holding_by(x: &Acted) -> Option<Holding>
+    ensures { option_to_list result ≡ holding_by x.now.task x.now.did }
 {
-    if let Task::Enter {
-        counter: Counter::Structured,
-        item,
-        ..
-    } = x.task
-    {
-        holdings.push(Holding {
+    match x.task {
+        Task::Enter {
+            counter: Counter::Structured,
+            item,
+            ..
+        } => Some(Holding {
             item,
             block: block_counted(x.did.step),
             aim: pointer_attached(x.did.aim),
-        });
+        }),
+        _ => None,
     }
 }
 
-/// What a region holds that is entered by these tasks, in written order; nothing where none is entered.
-pub fn note_holdings(holdings: &mut Slate<Holding>, acts: &[Acted])
+/// How many holdings a region has that is entered by these tasks; 0 where none is entered.
+pub fn count_holdings(acts: &[Acted]) -> u64
     requires { length acts.now ≤ 64 }
-    ensures { holdings.new ≡ holdings_by (tasks_in acts.now) (dids_in acts.now) }
+    ensures { result ≡ length (holdings_by (tasks_in acts.now) (dids_in acts.now)) }
 {
-    holdings.clear();
+    let mut count = 0;
     for x in acts {
-        note_holding(holdings, x);
+        if holding_by(x).is_some() {
+            count += 1;
+        }
+    }
+    count
+}
+
+/// Notes what a region holds that is entered by these tasks, in written order; nothing where none is entered. There is
+/// room for it.
+pub fn note_holdings(holdings: &mut Vec<Holding>, acts: &[Acted])
+    requires none { holdings.old.items ≡ [] }
+    requires room { length (holdings_by (tasks_in acts.now) (dids_in acts.now)) ≤ vec_capacity holdings.old }
+    ensures { holdings.new.items ≡ holdings_by (tasks_in acts.now) (dids_in acts.now) }
+{
+    for x in acts {
+        if let Some(holding) = holding_by(x) {
+            holdings.push_reserved(holding);
+        }
     }
 }

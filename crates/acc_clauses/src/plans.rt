@@ -2,13 +2,11 @@
 
 ghost use Rattle.std.specs.Prelude.{◌≡◌, ◌≤◌, [], length};
 ghost use Rattle.acc_clauses.specs.Overlays.{tasks_in, dids_in};
-ghost use Rattle.acc_clauses.specs.Planned.{holdings_by};
 ghost use Rattle.acc_clauses.specs.Acts.{lens_born};
 
 use crate::acted::Acted;
 use crate::drafts::Draft;
-use crate::slates::Slate;
-use acc_base::{Did, Holding};
+use acc_base::Did;
 use acc_present::Place;
 use arrayvec::ArrayVec;
 use std::marker::Model;
@@ -19,8 +17,6 @@ use std::marker::Model;
 #[derive(Drop)]
 pub struct Plan {
     pub(crate) draft: Draft,
-    // The holdings of a region that its tasks enter.
-    pub(crate) holdings: Slate<Holding>,
     // What its tasks do in written order, where that is not the order in which they act.
     pub(crate) turned: ArrayVec<Did, 64>,
 }
@@ -28,13 +24,11 @@ pub struct Plan {
 impl Model for Plan {
     ghost use Rattle.acc_clauses.specs.Overlays.{tasks_in, dids_in};
     ghost use Rattle.std.specs.Prelude.{◌≡◌};
-    ghost use Rattle.acc_clauses.specs.Planned.{Planned, told_of, holdings_by};
+    ghost use Rattle.acc_clauses.specs.Planned.{Planned, told_of};
 
     ghost Value = { Planned };
 
     ghost view = { λ p. record { tasks = tasks_in p.draft; dids = dids_in p.draft; written = told_of p.turned.items (dids_in p.draft) } };
-
-    ghost invariant = { λ p. p.holdings ≡ holdings_by (tasks_in p.draft) (dids_in p.draft) };
 }
 
 impl Plan {
@@ -44,7 +38,6 @@ impl Plan {
     {
         Plan {
             draft: Draft::new(),
-            holdings: Slate::new(),
             turned: ArrayVec::new(),
         }
     }
@@ -82,12 +75,5 @@ impl Plan {
         ensures few { length result.now ≤ 64 }
     {
         self.draft.lens()
-    }
-
-    /// What the region that it enters holds, in written order; nothing where it enters none.
-    pub(crate) fn holdings(&self) -> &[Holding]
-        ensures { result.now ≡ holdings_by self.now.tasks self.now.dids }
-    {
-        self.holdings.as_slice()
     }
 }

@@ -21,6 +21,7 @@ use crate::effects::puts_in;
 use crate::finishing::finish;
 use crate::judging::in_host;
 use crate::lending::{check_lease, plan_loan};
+use crate::notes::count_holdings;
 use crate::planning::{self, queue_in, regions_entered};
 use crate::plans::Plan;
 use crate::pointers::pointers_in;
@@ -148,7 +149,7 @@ impl Store {
             None => {}
         }
         let regions = regions_entered(directive);
-        let holdings = plan.holdings().len() as u64;
+        let holdings = count_holdings(acts);
         self.device
             .reserve(plan.lens(), regions, holdings, pointers_in(acts))
     }

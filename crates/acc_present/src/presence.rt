@@ -1,6 +1,6 @@
 //! The present table as one value.
 
-ghost use Rattle.std.specs.Prelude.{◌≡◌, false, ℕ, ◌+◌, ◌*◌, ◌^◌, ◌<◌, ◌≤◌, ◌⊎◌, ◌↔◌, length, map, option_map, MatchResult, None, Some, Err, IfOk, IfErr, OnOk, OnErr, IfSome, MatchOption, vec_capacity};
+ghost use Rattle.std.specs.Prelude.{◌≡◌, false, [], ℕ, ◌+◌, ◌*◌, ◌^◌, ◌<◌, ◌≤◌, ◌⊎◌, ◌↔◌, length, map, option_map, MatchResult, None, Some, Err, IfOk, IfErr, OnOk, OnErr, IfSome, MatchOption, vec_capacity};
 ghost use Rattle.std.specs.Bool.{OnTrue};
 ghost use Rattle.acc_base.specs.declared.mappings.Range.{Range};
 ghost use Rattle.acc_base.specs.declared.mappings.Counter.TheVariants.{Structured, Dynamic};
@@ -615,17 +615,27 @@ impl Present {
         self.register.enter(number, holdings)
     }
 
-    /// As [`Present::enter`], where there is room for one more region and for its holdings: it allocates nothing and is
-    /// not refused. It takes at most one from the room of regions, and leaves no room for holdings of a further region.
-    pub fn enter_reserved(&mut self, number: u64, holdings: &[Holding])
+    /// As [`Present::enter`], where there is room for one more region: it allocates nothing and is not refused. It takes
+    /// at most one from the room of regions. The holdings may stand in what [`Present::take_spare`] returned.
+    pub fn enter_reserved(&mut self, number: u64, holdings: Vec<Holding>)
         requires room { 1 ≤ self.old.room.regions }
-        requires room_holdings { length holdings.now ≤ self.old.room.holdings }
         requires new { region_at number self.old.table.regions ≡ None }
-        ensures table { self.new.table ≡ with_regions self.old.table (with_region (record { number = number; holdings = holdings.now }) self.old.table.regions) }
-        ensures room_ranges { self.old.room.ranges ≤ self.new.room.ranges }
-        ensures room_regions { self.old.room.regions ≤ self.new.room.regions + 1 }
+        ensures table { self.new.table ≡ with_regions self.old.table (with_region (record { number = number; holdings = holdings.items }) self.old.table.regions) }
+        ensures taken { IsRegionRoomTaken self.old.room self.new.room }
     {
         self.register.enter_reserved(number, holdings);
+    }
+
+    /// An empty list, with the room that was made for the holdings of the next region. None is left. It allocates
+    /// nothing.
+    pub fn take_spare(&mut self) -> Vec<Holding>
+        ensures none { result.items ≡ [] }
+        ensures capacity { vec_capacity result ≡ self.old.room.holdings }
+        ensures table { self.new.table ≡ self.old.table }
+        ensures room_ranges { self.old.room.ranges ≤ self.new.room.ranges }
+        ensures room_regions { self.old.room.regions ≤ self.new.room.regions }
+    {
+        self.register.take_spare()
     }
 
     /// What an open region holds, in the written order of its items, or `None` where no region of that number is open.
@@ -693,7 +703,8 @@ impl Present {
     // ---- room
 
     /// Makes room for so many more ranges and so many more regions, the next of which has so many holdings. Then
-    /// [`Present::add_reserved`] and [`Present::enter_reserved`] allocate nothing.
+    /// [`Present::add_reserved`] allocates nothing, and nor does [`Present::enter_reserved`] with these holdings in what
+    /// [`Present::take_spare`] returns.
     ///
     /// # Errors
     ///

@@ -125,21 +125,29 @@ impl Register {
         ensures room_holdings { self.old.holdings ≤ self.new.holdings }
     {
         self.regions.reserve(1)?;
-        self.regions.insert(number, holdings);
+        self.enter_reserved(number, holdings);
         Ok(())
     }
 
-    /// Opens a region, where there is room for it.
-    pub fn enter_reserved(&mut self, number: u64, holdings: &[Holding])
+    /// Opens a region, where there is room for one.
+    pub fn enter_reserved(&mut self, number: u64, holdings: Vec<Holding>)
         requires room { 1 ≤ self.old.room }
-        requires room_holdings { length holdings.now ≤ self.old.holdings }
         requires new { region_at number self.old.regions ≡ None }
-        ensures regions { self.new.regions ≡ with_region (record { number = number; holdings = holdings.now }) self.old.regions }
+        ensures regions { self.new.regions ≡ with_region (record { number = number; holdings = holdings.items }) self.old.regions }
         ensures room { self.old.room ≤ self.new.room + 1 }
+        ensures room_holdings { self.old.holdings ≤ self.new.holdings }
     {
-        let mut own = mem::replace(&mut self.spare, Vec::new(self.alloc));
-        let _ = own.extend_from_slice(holdings);
-        self.regions.insert(number, own);
+        self.regions.insert(number, holdings);
+    }
+
+    /// An empty list, with the room that was made for the holdings of the next region. None is left.
+    pub fn take_spare(&mut self) -> Vec<Holding>
+        ensures none { result.items ≡ [] }
+        ensures capacity { vec_capacity result ≡ self.old.holdings }
+        ensures regions { self.new.regions ≡ self.old.regions }
+        ensures room { self.old.room ≤ self.new.room }
+    {
+        mem::replace(&mut self.spare, Vec::new(self.alloc))
     }
 
     /// The region is no longer open.

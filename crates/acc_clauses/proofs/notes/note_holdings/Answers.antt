@@ -7,4 +7,4 @@ pub loop-x-preserved : goal.loop-x-preserved
 loop-x-preserved c = grind (arith, drop_more, append_assoc)
 
 pub returns : goal.returns
-returns c = holdings_done c.args.acts.now c.loop-x.x-index c.loop-x.holdings _ (omega arith) c.loop-x.invariant.so_far
+returns c = holdings_done c.args.acts.now c.loop-x.x-index c.loop-x.holdings.items _ (omega arith) c.loop-x.invariant.so_far

@@ -1,4 +1,4 @@
-use Rattle.std.proofs.Common.{◌≡◌, ◌∙◌, ◌≤◌, OnOk, sym, ap, subst, arith}
+use Rattle.std.proofs.Common.{◌≡◌, ◌∙◌, ◌≤◌, length, OnOk, sym, ap, subst, arith}
 use Rattle.std.specs.List.{All}
 use Rattle.acc_base.specs.declared.addresses.TheConstants.{MEMORY_MAX}
 use Rattle.acc_base.specs.Limits.{IsFromOne}
@@ -6,7 +6,7 @@ use Rattle.acc_queues.specs.Queued.{spare_at}
 use Rattle.acc_clauses.specs.Overlays.{dids_in, puts_in}
 use Rattle.acc_clauses.specs.Contents.{Contents}
 use Rattle.acc_clauses.specs.Devices.{contents_beside}
-use Rattle.acc_clauses.specs.Planned.{IsPlanOf}
+use Rattle.acc_clauses.specs.Planned.{IsPlanOf, holdings_by}
 use Rattle.acc_clauses.specs.Acts.{HasRoomFor, HasPutRoom, pointers_in}
 use Rattle.acc_clauses.proofs.Events.{planned_judged}
 use Rattle.acc_clauses.proofs.Remaining.{lens_fit}
@@ -43,7 +43,8 @@ returns-clause-room c =
           (subst (λ ps. puts_in q p.tasks p.dids ≤ spare_at q ps) (sym kept) (subst (λ n. n ≤ spare_at q w.reserve_puts.new.self.room.puts) count w.in_ok-reserve_puts-in-Some.ensures.room))
       | in-None w ↦ none_room d k p room c.self.invariant planned (sym c.queue_in.ensures ∙ w.in-None.is)
     ] in
+    let count : c.count_holdings-holdings.result ≡ length (holdings_by p.tasks p.dids) = c.count_holdings-holdings.ensures ∙ ap (λ ts. length (holdings_by ts (dids_in acts))) c.acts-acts.ensures.tasks ∙ ap (λ ds. length (holdings_by p.tasks ds)) c.acts-acts.ensures.dids in
     room_made c.reserve.result d p room
     (subst (λ ls. OnOk c.reserve.result (HasRoomFor ls room)) c.lens.ensures.lens c.reserve.ensures.room)
-    (rw (← c.regions_entered-regions.ensures, ← c.holdings.ensures) c.reserve.ensures.room_region)
+    (rw (← c.regions_entered-regions.ensures, ← count) c.reserve.ensures.room_region)
     (subst (λ n. OnOk c.reserve.result (n ≤ room.attachments)) (c.pointers_in.ensures ∙ ap pointers_in c.acts-acts.ensures.dids) c.reserve.ensures.room_pointers) puts

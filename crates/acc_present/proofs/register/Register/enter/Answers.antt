@@ -1,15 +1,13 @@
 use Rattle.std.proofs.Common.{ap, ◌∙◌}
 use Rattle.acc_base.specs.Register.{region_at, with_region}
-use Rattle.acc_index.specs.Indexed.{with_value}
 use Rattle.acc_present.specs.Kept.{RegisterState, regions_in}
-use Rattle.acc_present.proofs.Registering.{new_number, region_more}
 use Rattle.acc_present.proofs.register.Register.enter.Goals as goal
 
-pub insert-requires-clause-new : goal.insert-requires-clause-new
-insert-requires-clause-new c = rw c.in_ok-reserve.ensures.entries (new_number c.args.number c.self.inside.regions.entries (ap (λ (s : RegisterState). region_at c.args.number s.regions) c.self.view_is ∙ c.requires))
+pub enter_reserved-requires-clause-new : goal.enter_reserved-requires-clause-new
+enter_reserved-requires-clause-new c = ap (λ es. region_at c.args.number (regions_in es)) c.in_ok-reserve.ensures.entries ∙ ap (λ (s : RegisterState). region_at c.args.number s.regions) c.self.view_is ∙ c.requires
 
 pub returns-clause-ok : goal.returns-clause-ok
 returns-clause-ok c =
-    ap regions_in (c.insert.ensures.entries ∙ ap (with_value c.args.number c.args.holdings) c.in_ok-reserve.ensures.entries)
-    ∙ region_more c.args.number c.args.holdings c.self.inside.regions.entries
+    c.enter_reserved.ensures.regions
+    ∙ ap (λ es. with_region (record { number = c.args.number; holdings = c.args.holdings.items }) (regions_in es)) c.in_ok-reserve.ensures.entries
     ∙ ap (λ (s : RegisterState). with_region (record { number = c.args.number; holdings = c.args.holdings.items }) s.regions) c.self.view_is

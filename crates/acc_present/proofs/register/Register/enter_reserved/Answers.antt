@@ -1,4 +1,4 @@
-use Rattle.std.proofs.Common.{◌≡◌, rules, ap, ◌∙◌}
+use Rattle.std.proofs.Common.{ap, ◌∙◌}
 use Rattle.acc_base.specs.Register.{region_at, with_region}
 use Rattle.acc_present.specs.Kept.{RegisterState, regions_in}
 use Rattle.acc_present.proofs.Registering.{new_number, region_more}
@@ -9,8 +9,6 @@ insert-requires-clause-new c = new_number c.args.number c.self.inside.regions.en
 
 pub returns-clause-regions : goal.returns-clause-regions
 returns-clause-regions c =
-    let own : c.extend_from_slice.new.self.items ≡ c.args.holdings.now = search rules in
     ap regions_in c.insert.ensures.entries
-    ∙ region_more c.args.number c.extend_from_slice.new.self c.self.inside.regions.entries
-    ∙ ap (λ hs. with_region (record { number = c.args.number; holdings = hs }) (regions_in c.self.inside.regions.entries)) own
-    ∙ ap (λ (s : RegisterState). with_region (record { number = c.args.number; holdings = c.args.holdings.now }) s.regions) c.self.view_is
+    ∙ region_more c.args.number c.args.holdings c.self.inside.regions.entries
+    ∙ ap (λ (s : RegisterState). with_region (record { number = c.args.number; holdings = c.args.holdings.items }) s.regions) c.self.view_is

@@ -206,9 +206,11 @@ pub fn is_pragma(line: &[u8]) -> bool {
 }
 
 /// Puts a warning for such a line, by its number; behind its place in the script's file, if it has one.
-pub fn warn_of_pragma(page: &mut Page, file: Option<&str>, number: u64) {
+pub fn warn_of_pragma(page: &mut Page, file: Option<&str>, number: u64, line: &[u8]) {
+    let blanks = line.len().saturating_sub(line.trim_ascii_start().len());
+    let column = blanks.saturating_add(1);
     let _ = match file {
-        Some(name) => write!(page, "{name}:{number}:1: warning: this"),
+        Some(name) => write!(page, "{name}:{number}:{column}: warning: this"),
         None => write!(page, "accrun: line {number}"),
     };
     page.text(" is a comment, since it begins with #: a directive stands without #pragma acc\n");

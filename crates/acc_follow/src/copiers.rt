@@ -47,7 +47,8 @@ impl<'a, O, X> Copier<'a, O, X> {
     ///
     /// # Errors
     ///
-    /// Why nothing more was copied; else that of the run. What it prints into fails for lack of memory alone.
+    /// Why nothing more was copied. Else that of the run, with [`Fault::Memory`] for [`Fault::Write`]: the memory that it
+    /// prints into fails for nothing else.
     pub fn ended<T: Drop>(&self, ending: Result<T, Fault>) -> Result<T, Fault> {
         match (self.failed, ending) {
             (Some(fault), _) => Err(fault),

@@ -24,8 +24,8 @@ impl<'a> RanLine<'a> {
         statement_text(self.line)
     }
 
-    /// Explains the line, of the script of a file if that has one, where it was refused, or is a comment and looks like
-    /// a directive of C. A refused line is read once more: it changed nothing.
+    /// Explains the line where it was refused, or is a comment and looks like a directive of C. `file` is that of the
+    /// script; `None` for standard input. A refused line is read once more: it changed nothing.
     pub fn explain(
         self,
         page: &mut Page,
@@ -35,7 +35,7 @@ impl<'a> RanLine<'a> {
         effect: Effect,
     ) {
         if is_pragma(self.line) {
-            warn_of_pragma(page, file, self.number);
+            warn_of_pragma(page, file, self.number, self.line);
         }
         let Effect::Refused(fault) = effect else {
             return;

@@ -47,6 +47,7 @@ impl Timeline {
     ) -> Result<(), Fault> {
         let printed = ran.printed(self.alloc, effect)?;
         let mut reason = Page::new(self.alloc);
+        // A page is of one script, so it names no file.
         ran.explain(&mut reason, self.alloc, names, None, effect);
         self.open_line(ran.line, printed.as_slice(), reason.whole()?);
         self.add_state(names, ran, effect)?;

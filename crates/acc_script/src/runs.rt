@@ -115,7 +115,7 @@ fn play_lines<R: Threads + Wait + Sync + AllocGlobal, W: Sink, X: Watcher<W>>(
 }
 
 /// Runs the line of a number on a session as [`run`] does, and returns whether it was refused. The watcher sees the
-/// line, and no end. With any watcher, the line reads, writes and returns the same.
+/// line, and no end. With any watcher it writes and returns the same.
 ///
 /// # Errors
 ///

@@ -2,8 +2,8 @@
 
 /// Where an entry may stand.
 ///
-/// Any value may be handed in, and no contract speaks of it. A call that is handed one looks there first, and searches
-/// where the entry of its key is not there.
+/// Any value may be handed in, and no contract speaks of it. A call that is handed one and a key looks there first, and
+/// searches where the entry of that key is not there.
 #[derive(Clone, Copy, Debug, Default, PartialEq, Eq)]
 pub struct Place {
     pub(crate) row: usize,

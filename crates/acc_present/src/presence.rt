@@ -44,8 +44,8 @@ pub struct Located {
     pub found: Found,
     /// A mapped range that says so, if one does.
     pub range: Option<Range>,
-    /// Where the last range stands that begins at or before the section. A change of it, or of the range that is mapped
-    /// to the section next, needs no search from here.
+    /// Where the last range may stand that begins at or before the section. A call that changes that range, or maps the
+    /// section next, looks there first.
     pub place: Place,
 }
 
@@ -153,7 +153,8 @@ impl Present {
     }
 
     /// Where a section would lie, as [`Present::find_apart`] says, and a mapped range that says so, if one does. It is
-    /// that of the block in which the section lies, whose counters need no search of their own then.
+    /// that of the block in which the section lies, whose counters need no search of their own then. With it comes where
+    /// the last range may stand that begins at or before the section.
     pub fn find_range_apart(&self, section: Section, blocks: &[u64]) -> Located
         ensures found { result.found ≡ where_is_apart section blocks.now self.now.table.ranges }
         ensures range { IfSome result.range (λ range. range_of range.block self.now.table.ranges ≡ Some range) }
@@ -238,11 +239,11 @@ impl Present {
     pub fn range(&self, block: u64) -> Option<Range>
         ensures { result ≡ range_of block self.now.table.ranges }
     {
-        self.find_block(block).0
+        self.find_range_of(block).0
     }
 
     /// The range that is mapped to a block, if one is, and where it stands.
-    fn find_block(&self, block: u64) -> (Option<Range>, Place)
+    fn find_range_of(&self, block: u64) -> (Option<Range>, Place)
         ensures { result.0 ≡ range_of block self.now.table.ranges }
     {
         match self.starts.get(block) {
@@ -276,7 +277,7 @@ impl Present {
     {
         match self.last_range(at) {
             (Some(range), place) if range.block == block => (Some(range), place),
-            _ => self.find_block(block),
+            _ => self.find_range_of(block),
         }
     }
 
@@ -296,7 +297,7 @@ impl Present {
         ensures range { range_of block self.now.table.ranges ≡ Some result.0 }
         ensures block { result.0.block ≡ block }
     {
-        let (found, place) = self.find_block(block);
+        let (found, place) = self.find_range_of(block);
         let Some(range) = found else { unreachable!() };
         (range, place)
     }
@@ -371,8 +372,8 @@ impl Present {
         self.put(counted_range(section, block, counter), near);
     }
 
-    /// Puts a range to those that are mapped, where there is room for it. A place says where it is looked for first what
-    /// stands before it.
+    /// Puts a range to those that are mapped, where there is room for it. What stands before it is looked for first at a
+    /// place.
     fn put(&mut self, range: Range, near: Place)
         requires room { 1 ≤ self.old.room.ranges }
         requires absent { where_is range.section self.old.table.ranges ≡ Absent }
@@ -406,7 +407,7 @@ impl Present {
         ensures table { self.new.table ≡ with_ranges self.old.table (without_range block self.old.table.ranges) }
         ensures room { IsRoomKept self.old.room self.new.room }
     {
-        // Nothing told its place. A look at the first one costs no search.
+        // Nothing told where the block stands in the index. A look at its first place costs no search.
         let start = self.starts.take_out_near(block, 0);
         self.ranges.remove(start, near);
     }
@@ -616,7 +617,7 @@ impl Present {
     }
 
     /// As [`Present::enter`], where there is room for one more region: it allocates nothing and is not refused. It takes
-    /// at most one from the room of regions. The holdings may stand in what [`Present::take_spare`] returned.
+    /// at most one from the room of regions. The holdings may stand in what [`Present::spare_holdings`] returned.
     pub fn enter_reserved(&mut self, number: u64, holdings: Vec<Holding>)
         requires room { 1 ≤ self.old.room.regions }
         requires new { region_at number self.old.table.regions ≡ None }
@@ -628,14 +629,14 @@ impl Present {
 
     /// An empty list, with the room that was made for the holdings of the next region. None is left. It allocates
     /// nothing.
-    pub fn take_spare(&mut self) -> Vec<Holding>
+    pub fn spare_holdings(&mut self) -> Vec<Holding>
         ensures none { result.items ≡ [] }
         ensures capacity { vec_capacity result ≡ self.old.room.holdings }
         ensures table { self.new.table ≡ self.old.table }
         ensures room_ranges { self.old.room.ranges ≤ self.new.room.ranges }
         ensures room_regions { self.old.room.regions ≤ self.new.room.regions }
     {
-        self.register.take_spare()
+        self.register.spare_holdings()
     }
 
     /// What an open region holds, in the written order of its items, or `None` where no region of that number is open.
@@ -704,7 +705,7 @@ impl Present {
 
     /// Makes room for so many more ranges and so many more regions, the next of which has so many holdings. Then
     /// [`Present::add_reserved`] allocates nothing, and nor does [`Present::enter_reserved`] with these holdings in what
-    /// [`Present::take_spare`] returns.
+    /// [`Present::spare_holdings`] returns.
     ///
     /// # Errors
     ///

@@ -1,11 +1,11 @@
 -- What a directive asks, and the verdict on it.
-use Rattle.std.proofs.Common.{ℕ, zero, suc, ◌≡◌, ◌<◌, ◌≤◌, refl, ap, subst, ◌∙◌, true, false, List, [], ◌∷◌, length, get_or, arith, Option, None, Result, Ok, Err, inl, inr}
+use Rattle.std.proofs.Common.{ℕ, zero, suc, ◌≡◌, ◌<◌, ◌≤◌, refl, ap, subst, ◌∙◌, true, false, List, [], ◌∷◌, ◌++◌, length, length-append, get_or, arith, Option, None, Result, Ok, Err, inl, inr}
 use Rattle.std.specs.Prelude.{nat_lt, map, reverse, ⊤, MatchResult}
 use Rattle.std.proofs.lemmas.Bool.Decides.{nat_tests}
 use Rattle.std.proofs.lemmas.List.{length-map, length-reverse}
 use Rattle.std.specs.List.{list_all, list_any, AllByRecursion}
 use Rattle.acc_clauses.specs.Words.{Directive, Holding, Task, Did, Fault}
-use Rattle.acc_base.specs.declared.directives.Directive.TheVariants.{Enter, Exit, EnterData, ExitData, Update}
+use Rattle.acc_base.specs.declared.directives.Directive.TheVariants.{Enter, Exit, EnterData, ExitData, Update, Wait, Step}
 use Rattle.acc_base.specs.declared.tasks.Task.TheVariants.{ExitRegion}
 use Rattle.acc_base.specs.Results.{◌>>◌}
 use Rattle.acc_base.specs.Limits.{Limits}
@@ -19,8 +19,9 @@ use Rattle.acc_base.specs.Loans.{none_lent}
 use Rattle.acc_base.specs.Judge.{Verdict, item_limit, item_count, few_items, device_named, own_device, tasks_with, holdings_left, queue_in, transfers_in, verdict_of, directive_verdict, plan_of}
 use Rattle.acc_base.proofs.Results.{refused_not}
 use Rattle.acc_base.proofs.Elements.{found_has}
-use Rattle.acc_clauses.specs.Overlays.{AreUnmixed, AreQueuesNamed, enters}
-use Rattle.acc_clauses.specs.Planned.{HasFewHoldings, asked_of}
+use Rattle.acc_clauses.specs.declared.acted.Acted.{Acted}
+use Rattle.acc_clauses.specs.Overlays.{AreUnmixed, AreQueuesNamed, enters, tasks_in, dids_in}
+use Rattle.acc_clauses.specs.Planned.{HasFewHoldings, asked_of, holding_by, holdings_by}
 
 -- ---- tasks of one kind
 
@@ -144,3 +145,43 @@ pub asked_left : (d : Directive) (g : Register) (holdings : List Holding) → fe
 asked_left d g holdings few left = rw (few, left) refl
 
 pub ruleset event_laws = (plan_many, plan_closed, asked_left)
+
+-- ---- what a region holds
+
+-- where each task holds one item, as many are held
+held_each : {X : Type 0} (f : X → Task) → ((x : X) (did : Did) → length (holding_by (f x) did) ≡ 1) → (items : List X) (xs : List Acted) → map f items ≡ tasks_in xs → length (holdings_by (tasks_in xs) (dids_in xs)) ≡ length xs
+held_each f one [] [] e = refl
+held_each f one [] (x ∷ xs) e = cc
+held_each f one (i ∷ items) [] e = cc
+held_each f one (i ∷ items) (x ∷ xs) e =
+    let head : f i ≡ x.task = cc in
+    let rest : map f items ≡ tasks_in xs = cc in
+    let here : length (holding_by x.task x.did) ≡ 1 = subst (λ (t : Task). length (holding_by t x.did) ≡ 1) head (one i x.did) in
+    omega (arith, here, held_each f one items xs rest, length-append (holding_by x.task x.did) (holdings_by (tasks_in xs) (dids_in xs)))
+
+-- where none does, nothing is held
+held_none : {X : Type 0} (f : X → Task) → ((x : X) (did : Did) → holding_by (f x) did ≡ []) → (items : List X) (xs : List Acted) → map f items ≡ tasks_in xs → holdings_by (tasks_in xs) (dids_in xs) ≡ []
+held_none f none [] [] e = refl
+held_none f none [] (x ∷ xs) e = cc
+held_none f none (i ∷ items) [] e = cc
+held_none f none (i ∷ items) (x ∷ xs) e =
+    let head : f i ≡ x.task = cc in
+    let rest : map f items ≡ tasks_in xs = cc in
+    let here : holding_by x.task x.did ≡ [] = subst (λ (t : Task). holding_by t x.did ≡ []) head (none i x.did) in
+    ap (λ hs. hs ++ holdings_by (tasks_in xs) (dids_in xs)) here ∙ held_none f none items xs rest
+
+-- what is held by the tasks of a directive: each item of a region's entry, and nothing else
+abbrev pub held_of : Directive → ℕ → ℕ
+held_of (Enter device items) count = count
+held_of _ count = 0
+
+pub held_by : (d : Directive) (left : List Holding) (xs : List Acted) → tasks_with d left ≡ tasks_in xs → length (holdings_by (tasks_in xs) (dids_in xs)) ≡ held_of d (length xs)
+held_by (Enter device items) left xs e = held_each enter_task (λ x did. refl) items xs e
+held_by (Exit number) left xs e = ap (λ (hs : List Holding). length hs) (held_none ExitRegion (λ x did. refl) (reverse left) xs e)
+held_by (EnterData device items queue) left xs e = ap (λ (hs : List Holding). length hs) (held_none (enter_data_task queue) (λ x did. refl) items xs e)
+held_by (ExitData device items finalize queue) left xs e = ap (λ (hs : List Holding). length hs) (held_none (exit_task finalize queue) (λ x did. refl) items xs e)
+held_by (Update device items if_present queue) left xs e = ap (λ (hs : List Holding). length hs) (held_none (move_task if_present queue) (λ x did. refl) items xs e)
+held_by (Wait device queue) left [] e = refl
+held_by (Wait device queue) left (x ∷ xs) e = cc
+held_by (Step device queue) left [] e = refl
+held_by (Step device queue) left (x ∷ xs) e = cc

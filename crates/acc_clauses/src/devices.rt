@@ -233,7 +233,7 @@ impl DeviceData {
         ensures device { self.new.device ≡ record self.old.device { regions = with_region (record { number = number; holdings = holdings_by (tasks_in acts.now) (dids_in acts.now) }) self.old.device.regions } }
     {
         let present = &mut self.environment.present;
-        let mut holdings = present.take_spare();
+        let mut holdings = present.spare_holdings();
         note_holdings(&mut holdings, acts);
         present.enter_reserved(number, holdings);
     }

@@ -8,6 +8,7 @@ ghost use Rattle.acc_clauses.specs.declared.acted.Acted.{Acted};
 
 use crate::acted::Acted;
 use crate::outlines::Outline;
+use crate::recent::Recent;
 use crate::rows::section_of;
 use crate::slates::Slate;
 use crate::spans::add_birth;
@@ -22,6 +23,8 @@ pub(crate) struct Draft {
     // Where the range stood that each of them changes, when it was judged. No contract speaks of it: it is looked at, and
     // not trusted.
     places: [Place; 64],
+    // Where the ranges stood that the tasks of earlier directives changed too.
+    recent: Recent,
     // What they do.
     dids: Slate<Did>,
     // The lengths of the blocks that they give birth to.
@@ -80,6 +83,15 @@ fn tally(
     }
 }
 
+/// Where the range may stand after a step, by where it or the one before it stood.
+#[inline(always)]
+fn place_left(step: Step, place: Place) -> Place {
+    match step {
+        Step::Born { .. } => place.behind(),
+        _ => place,
+    }
+}
+
 impl Draft {
     /// Nothing was judged.
     pub(crate) fn new() -> Self
@@ -88,6 +100,7 @@ impl Draft {
         Draft {
             acts: Slate::new(),
             places: [Place::default(); 64],
+            recent: Recent::new(),
             dids: Slate::new(),
             lens: Slate::new(),
             spans: Slate::new(),
@@ -108,13 +121,16 @@ impl Draft {
         self.outline = Outline::new();
     }
 
-    /// One more task was judged. The range that it changes may stand at the place.
+    /// One more task was judged. The range that it changes may stand at the place. Where it maps one, that comes right
+    /// behind it.
     #[inline(always)]
     pub(crate) fn push(&mut self, x: Acted, place: Place)
         requires { length self.old < 64 }
         ensures { self.new ≡ self.old ++ x ∷ [] }
     {
         self.places[self.acts.as_slice().len()] = place;
+        self.recent
+            .note(section_of(x.task).start, place_left(x.did.step, place));
         tally(
             &mut self.dids,
             &mut self.lens,
@@ -153,6 +169,12 @@ impl Draft {
     /// Where the range may stand that each of them changes.
     pub(crate) fn places(&self) -> &[Place; 64] {
         &self.places
+    }
+
+    /// Where the range may stand in which a section lies that begins at an address.
+    #[inline(always)]
+    pub(crate) fn near(&self, start: u64) -> Place {
+        self.recent.near(start)
     }
 
     /// What they do.

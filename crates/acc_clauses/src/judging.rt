@@ -197,7 +197,8 @@ fn leave(view: &View<'_>, draft: &Draft, holding: Holding) -> (Step, Place)
 {
     match holding.block {
         Some(block) => {
-            let (known, place) = view.range_near(block, holding.item.section.start);
+            let near = draft.near(holding.item.section.start);
+            let (known, place) = view.range_near(block, near);
             let counters = counters_after(view, draft, block, known);
             (
                 dropped(Task::ExitRegion { holding }, block, counters),

@@ -26,6 +26,7 @@ mod planning;
 mod plans;
 mod pointers;
 mod readings;
+mod recent;
 mod rows;
 mod running;
 mod sections;

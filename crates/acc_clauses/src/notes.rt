@@ -1,6 +1,7 @@
 //! What tasks did in written order, and what the region holds that they enter.
 
-ghost use Rattle.std.specs.Prelude.{◌≡◌, ◌≤◌, [], length, vec_capacity, option_to_list};
+ghost use Rattle.std.specs.Prelude.{List, ◌≡◌, ◌≤◌, [], length, vec_capacity, option_to_list};
+ghost use Rattle.acc_base.specs.Judge.{tasks_with};
 ghost use Rattle.acc_base.specs.Walk.{block_counted, pointer_attached};
 ghost use Rattle.acc_clauses.specs.Overlays.{tasks_in, dids_in};
 ghost use Rattle.acc_clauses.specs.Planned.{told_of, in_written_order, holding_by, holdings_by};
@@ -66,18 +67,15 @@ fn holding_by(x: &Acted) -> Option<Holding>
     }
 }
 
-/// How many holdings a region has that is entered by these tasks; 0 where none is entered.
-pub fn count_holdings(acts: &[Acted]) -> u64
-    requires { length acts.now ≤ 64 }
+/// How many holdings a region has that is entered by the tasks of a directive, one for each; 0 where none is entered.
+pub fn count_holdings(directive: &Directive, acts: &[Acted]) -> u64
+    requires asked { (left : List Holding) × (tasks_with directive.now left ≡ tasks_in acts.now) }
     ensures { result ≡ length (holdings_by (tasks_in acts.now) (dids_in acts.now)) }
 {
-    let mut count = 0;
-    for x in acts {
-        if holding_by(x).is_some() {
-            count += 1;
-        }
+    match directive {
+        Directive::Enter { .. } => acts.len() as u64,
+        _ => 0,
     }
-    count
 }
 
 /// Notes what a region holds that is entered by these tasks, in written order; nothing where none is entered. There is

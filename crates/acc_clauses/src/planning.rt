@@ -35,27 +35,20 @@ fn enter_data_task(item: Item<EnterClause>, queue: Option<u64>) -> Task
     }
 }
 
-/// How many tasks a directive has, where the region that it leaves holds these.
-fn task_count(directive: &Directive, holdings: &[Holding]) -> usize
-    ensures { result ≡ length (tasks_with directive.now holdings.now) }
-{
-    match directive {
-        Directive::Exit { .. } => holdings.len(),
-        _ => directive.item_count(),
-    }
-}
-
-/// Judges each task of a directive as if those before it had acted, where the region that it leaves holds these. The
-/// task at a place, counted from 0, is told by a closure of the kind of the directive: so its code is that of this kind.
+/// Judges each of so many tasks of a directive as if those before it had acted, where the region that it leaves holds
+/// these. The task at a place, counted from 0, is told by a closure of the kind of the directive: so its code is that of
+/// this kind.
 #[inline(always)]
 fn judge_each<F: Fn(usize) -> Task>(
     view: &View<'_>,
     directive: &Directive,
     holdings: &[Holding],
+    count: usize,
     task: F,
     draft: &mut Draft,
 ) -> Result<(), Fault>
     requires asked { (n : ℕ) → n < length (tasks_with directive.now holdings.now) → F.pre task n × ((t d : Task) → F.post task n t → t ≡ get_or (tasks_with directive.now holdings.now) n d) }
+    requires count { count ≡ length (tasks_with directive.now holdings.now) }
     requires few { length (tasks_with directive.now holdings.now) ≤ 64 }
     requires unmixed { AreUnmixed (tasks_with directive.now holdings.now) }
     requires queues { AreQueuesNamed (tasks_with directive.now holdings.now) }
@@ -66,7 +59,7 @@ fn judge_each<F: Fn(usize) -> Task>(
 {
     view.laws();
     draft.clear();
-    for n in 0..task_count(directive, holdings) {
+    for n in 0..count {
         judge(view, draft, n as u64, task(n))?;
     }
     Ok(())
@@ -95,18 +88,18 @@ fn judge_all(
                 item: items[n],
                 queue,
             };
-            judge_each(view, directive, holdings, task, draft)
+            judge_each(view, directive, holdings, items.len(), task, draft)
         }
         Directive::Exit { .. } => {
             let task = |n: usize| Task::ExitRegion {
                 holding: holdings[holdings.len() - 1 - n],
             };
-            judge_each(view, directive, holdings, task, draft)
+            judge_each(view, directive, holdings, holdings.len(), task, draft)
         }
         Directive::EnterData { items, queue, .. } => {
             let (items, queue) = (items.as_slice(), *queue);
             let task = |n: usize| enter_data_task(items[n], queue);
-            judge_each(view, directive, holdings, task, draft)
+            judge_each(view, directive, holdings, items.len(), task, draft)
         }
         Directive::ExitData {
             items,
@@ -120,7 +113,7 @@ fn judge_all(
                 item: items[n],
                 queue,
             };
-            judge_each(view, directive, holdings, task, draft)
+            judge_each(view, directive, holdings, items.len(), task, draft)
         }
         Directive::Update {
             items,
@@ -134,7 +127,7 @@ fn judge_all(
                 item: items[n],
                 queue,
             };
-            judge_each(view, directive, holdings, task, draft)
+            judge_each(view, directive, holdings, items.len(), task, draft)
         }
         Directive::Wait { .. } | Directive::Step { .. } => {
             view.laws();
@@ -165,6 +158,7 @@ pub fn check_items(directive: &Directive) -> Result<(), Fault>
 
 /// The number of the device that a directive names. The exit from a data region names none: it is for the device on
 /// which the region was entered (OpenACC 3.3, section 2.6.5).
+#[inline(always)]
 pub fn device_named(directive: &Directive) -> Option<u64>
     ensures { result ≡ device_named directive.now }
 {
@@ -261,8 +255,7 @@ pub(crate) fn plan(view: &View<'_>, directive: &Directive, plan: &mut Plan) -> R
     check_device(view, directive)?;
     let holdings = holdings_left(view, directive)?;
     check_queue(queue_in(directive))?;
-    let judged = judge_all(view, directive, holdings, &mut plan.draft);
+    judge_all(view, directive, holdings, &mut plan.draft)?;
     note_turned(&mut plan.turned, directive, plan.draft.dids());
-    judged?;
     transfers_free(view, directive)
 }

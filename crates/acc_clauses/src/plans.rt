@@ -13,7 +13,7 @@ use std::marker::Model;
 
 /// A directive that was judged whole: what each of its items will do.
 ///
-/// All of it lies in the value, some 20 KiB for 64 items. So a plan that is used again costs nothing to make.
+/// All of it lies in the value, some 19 KiB for 64 items. So a plan that is used again costs nothing to make.
 #[derive(Drop)]
 pub struct Plan {
     pub(crate) draft: Draft,
@@ -23,7 +23,6 @@ pub struct Plan {
 
 impl Model for Plan {
     ghost use Rattle.acc_clauses.specs.Overlays.{tasks_in, dids_in};
-    ghost use Rattle.std.specs.Prelude.{◌≡◌};
     ghost use Rattle.acc_clauses.specs.Planned.{Planned, told_of};
 
     ghost Value = { Planned };

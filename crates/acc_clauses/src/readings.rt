@@ -36,7 +36,8 @@ pub(crate) fn locate_after(view: &View<'_>, draft: &Draft, section: Section) -> 
     ensures found { result.found ≡ where_is section (records_after draft.now view.now.state.records).ranges }
     ensures known { IfSome result.range (λ range. range_of range.block view.now.state.records.ranges ≡ Some range) }
 {
-    let located = view.find_apart(section, draft.ended());
+    let near = draft.near(section.start);
+    let located = view.find_apart(section, draft.ended(), near);
     let found = found_past(draft, section, located.found);
     Located { found, ..located }
 }

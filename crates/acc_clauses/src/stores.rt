@@ -149,7 +149,7 @@ impl Store {
             None => {}
         }
         let regions = regions_entered(directive);
-        let holdings = count_holdings(acts);
+        let holdings = count_holdings(directive, acts);
         self.device
             .reserve(plan.lens(), regions, holdings, pointers_in(acts))
     }

@@ -31,6 +31,10 @@ module _ {T : Type 0} where
       let next : index_of rows place ≡ suc (index_of rows (record { row = place.row; at = place.at - 1 })) = grind (arith, some) in
       ap (get_before (side_by_side rows)) next ∙ entry_in_row rows (record { row = place.row; at = place.at - 1 }) row e at lt is
 
+  -- before the first of all stands none
+  pub before_none : (rows : List (List (KeyValue T))) (place : Place) → place.at ≡ 0 → place.row ≡ 0 → None ≡ get_before (side_by_side rows) (index_of rows place)
+  before_none rows place at row = let none : index_of rows place ≡ 0 = rw (at, row) refl in ap (get_before (side_by_side rows)) (sym none)
+
   -- nothing is behind the last row
   pub read_past : (rows : List (List (KeyValue T))) (place : Place) (row : List (KeyValue T)) → IsRowAt rows place.row row → place.at ≡ length row → place.row + 1 ≡ length rows → slice_get (side_by_side rows) (index_of rows place) ≡ None
   read_past rows place row at end last = get_none (side_by_side rows) (index_of rows place) (omega (arith, number_next rows place row at end, number_last rows (place.row + 1) (omega arith)))

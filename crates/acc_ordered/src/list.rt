@@ -5,7 +5,7 @@ ghost use Rattle.acc_ordered.specs.Listing.{KeysRise, keyed, at_key, first_from,
 use crate::changes::{make_place, make_rows, put, start, take_out, write};
 use crate::copying::copy_rows;
 use crate::entries::{KeyValueRef, Neighbors, Telling};
-use crate::finding::{ahead, entry_at, entry_before, entry_from, find_near, locate, place_of};
+use crate::finding::{ahead, entry_at, entry_from, find_near, locate, neighbors, place_of};
 use crate::keys::Key;
 use crate::places::Place;
 use crate::rows::Row;
@@ -124,21 +124,13 @@ impl<K: Key, T: Copy> OrderedList<K, T> {
         self.rows.is_empty()
     }
 
-    /// The entries on both sides of a key.
-    #[inline]
-    pub fn around(&self, key: K) -> Neighbors<'_, K, T>
-        ensures before { seen K.number result.before ≡ last_before (K.number key) self.now.entries }
-        ensures from { seen K.number result.from ≡ first_from (K.number key) self.now.entries }
-    {
-        self.around_counted(key, &mut Steps::new())
-    }
-
-    /// The entries on both sides of a key, by at most two steps for each binary digit of the number of entries. There is
-    /// one at least where there are entries. A step is a halving of the list of rows, or the look into one row. Not
+    /// The entries on both sides of a key, which are looked for first right behind a place, and then at it. That is by at
+    /// most two steps for each binary digit of the number of entries, and one at least where there are entries. A step is a halving of the list of rows, or the look into one row. Not
     /// counted are the keys compared in that row, and among the up to 64 rows that are left: at most fifteen each. Nor is
-    /// the one that tells which end of the list is searched. At most 2^32 were counted before.
+    /// the one that tells which end of the list is searched, nor the four beside the place that is looked at first. At
+    /// most 2^32 were counted before.
     #[inline]
-    pub fn around_counted(&self, key: K, steps: &mut Steps) -> Neighbors<'_, K, T>
+    pub fn around_counted(&self, key: K, near: Place, steps: &mut Steps) -> Neighbors<'_, K, T>
         requires limit { steps.old ≤ 2 ^ 32 }
         ensures before { seen K.number result.before ≡ last_before (K.number key) self.now.entries }
         ensures from { seen K.number result.from ≡ first_from (K.number key) self.now.entries }
@@ -153,16 +145,9 @@ impl<K: Key, T: Copy> OrderedList<K, T> {
                 place: Place::default(),
             };
         }
-        let place = place_of(&self.firsts, &self.rows, key, steps);
+        let place = find_near(&self.firsts, &self.rows, key, near, steps);
         steps.tick();
-        Neighbors {
-            before: entry_before(&self.rows, place),
-            from: entry_from(&self.rows, place),
-            place: Place {
-                row: place.row,
-                at: place.at.saturating_sub(1),
-            },
-        }
+        neighbors(&self.rows, place)
     }
 
     /// The entry that stands at a place, if one does.
@@ -190,7 +175,7 @@ impl<K: Key, T: Copy> OrderedList<K, T> {
         if self.is_empty() {
             return (None, near);
         }
-        let place = find_near(&self.firsts, &self.rows, key, near);
+        let place = find_near(&self.firsts, &self.rows, key, near, &mut Steps::new());
         let Some(entry) = entry_from(&self.rows, place) else {
             return (None, place);
         };
@@ -216,7 +201,7 @@ impl<K: Key, T: Copy> OrderedList<K, T> {
             );
             return Place { row: 0, at: 0 };
         }
-        let found = find_near(&self.firsts, &self.rows, key, near);
+        let found = find_near(&self.firsts, &self.rows, key, near, &mut Steps::new());
         let place = make_place(&mut self.firsts, &mut self.rows, &mut self.spare, found);
         put(&mut self.firsts, &mut self.rows, place, key, value);
         place
@@ -234,6 +219,7 @@ impl<K: Key, T: Copy> OrderedList<K, T> {
     }
 
     /// Writes the value of a key that is there. It is looked for first near a place.
+    #[inline]
     pub fn set(&mut self, key: K, value: T, near: Place)
         requires there { IsSome (at_key (K.number key) self.old.entries) }
         ensures entries { self.new.entries ≡ with_value (K.number key) value self.old.entries }

@@ -44,8 +44,8 @@ pub struct Located {
     pub found: Found,
     /// A mapped range that says so, if one does.
     pub range: Option<Range>,
-    /// Where the last range stands that begins at or before the section. A change of it, or of the range that is mapped
-    /// to the section next, needs no search from here.
+    /// Where the last range may stand that begins at or before the section. A call that changes that range, or maps the
+    /// section next, looks there first.
     pub place: Place,
 }
 
@@ -137,7 +137,7 @@ impl Present {
         ensures steps { (d : ℕ) → length self.now.table.ranges < 2 ^ d → steps.new ≤ steps.old + 2 * d }
     {
         self.laws();
-        match self.locate(section, &[], steps) {
+        match self.locate(section, &[], Place::default(), steps) {
             Ok(located) => located.found,
             Err((None, _)) => Found::Absent,
             Err((Some(range), _)) => told_by(range, section, &[]).unwrap_or(Found::Absent),
@@ -149,21 +149,43 @@ impl Present {
     pub fn find_apart(&self, section: Section, blocks: &[u64]) -> Found
         ensures { result ≡ where_is_apart section blocks.now self.now.table.ranges }
     {
-        self.find_range_apart(section, blocks).found
+        self.find_range_apart(section, blocks, Place::default())
+            .found
     }
 
     /// Where a section would lie, as [`Present::find_apart`] says, and a mapped range that says so, if one does. It is
-    /// that of the block in which the section lies, whose counters need no search of their own then.
-    pub fn find_range_apart(&self, section: Section, blocks: &[u64]) -> Located
+    /// that of the block in which the section lies, whose counters need no search of their own then. With it comes where
+    /// the last range may stand that begins at or before the section. That range is looked for first at a place.
+    #[inline(always)]
+    pub fn find_range_apart(&self, section: Section, blocks: &[u64], near: Place) -> Located
         ensures found { result.found ≡ where_is_apart section blocks.now self.now.table.ranges }
         ensures range { IfSome result.range (λ range. range_of range.block self.now.table.ranges ≡ Some range) }
         ensures block { IsToldBy result.found result.range }
     {
         self.laws();
-        let (mut next, place) = match self.locate(section, blocks, &mut Steps::new()) {
-            Ok(located) => return located,
-            Err(behind) => behind,
-        };
+        match self.locate(section, blocks, near, &mut Steps::new()) {
+            Ok(located) => located,
+            Err((next, place)) => self.find_from(section, blocks, next, place),
+        }
+    }
+
+    /// Where a section lies among the ranges from one of them on, which say what all say. The search goes on from range
+    /// to range as long as their blocks are listed.
+    #[inline(never)]
+    fn find_from(
+        &self,
+        section: Section,
+        blocks: &[u64],
+        mut next: Option<Range>,
+        place: Place,
+    ) -> Located
+        requires some { 0 < section.len }
+        requires next { IsNext section blocks.now self.now.table.ranges next }
+        ensures found { result.found ≡ where_is_apart section blocks.now self.now.table.ranges }
+        ensures range { IfSome result.range (λ range. range_of range.block self.now.table.ranges ≡ Some range) }
+        ensures block { IsToldBy result.found result.range }
+    {
+        self.laws();
         while let Some(range) = next {
             if let Some(found) = told_by(range, section, blocks) {
                 let range = Some(range);
@@ -184,12 +206,13 @@ impl Present {
 
     /// Where a section lies among the ranges without those of the listed blocks, as far as the last range says that does
     /// not begin behind the section's start, with that range. Else the first range that does, and where that last range
-    /// stands.
-    #[inline]
+    /// stands, which is looked for first at a place.
+    #[inline(always)]
     fn locate(
         &self,
         section: Section,
         blocks: &[u64],
+        near: Place,
         steps: &mut Steps,
     ) -> Result<Located, (Option<Range>, Place)>
         requires limit { steps.old ≤ 2 ^ 32 }
@@ -212,7 +235,7 @@ impl Present {
         }
         let around = self
             .ranges
-            .around_counted(section.start.saturating_add(1), steps);
+            .around_counted(section.start.saturating_add(1), near, steps);
         if let Some(range) = range_if(around.before) {
             if let Some(found) = told_by(range, section, blocks) {
                 return Ok(Located {
@@ -238,11 +261,11 @@ impl Present {
     pub fn range(&self, block: u64) -> Option<Range>
         ensures { result ≡ range_of block self.now.table.ranges }
     {
-        self.find_block(block).0
+        self.find_range_of(block).0
     }
 
     /// The range that is mapped to a block, if one is, and where it stands.
-    fn find_block(&self, block: u64) -> (Option<Range>, Place)
+    fn find_range_of(&self, block: u64) -> (Option<Range>, Place)
         ensures { result.0 ≡ range_of block self.now.table.ranges }
     {
         match self.starts.get(block) {
@@ -255,7 +278,7 @@ impl Present {
     }
 
     /// The range that stands at a place, if one does.
-    #[inline]
+    #[inline(always)]
     fn range_at(&self, place: Place) -> Option<Range>
         ensures { IfSome result (λ range. range_of range.block self.now.table.ranges ≡ Some range) }
     {
@@ -269,25 +292,16 @@ impl Present {
         Some(*self.starts.get(block)?)
     }
 
-    /// The range that is mapped to a block, if one is, as [`Present::range`] returns it, and where it may stand. It is
-    /// found by one search where it is the last one that begins at or before the address `at`, and else by three.
-    pub fn range_near(&self, block: u64, at: u64) -> (Option<Range>, Place)
+    /// The range that is mapped to a block, if one is, as [`Present::range`] returns it, and where it stands. It is not
+    /// searched for where it stands at the place.
+    #[inline(always)]
+    pub fn range_near(&self, block: u64, near: Place) -> (Option<Range>, Place)
         ensures { result.0 ≡ range_of block self.now.table.ranges }
     {
-        match self.last_range(at) {
-            (Some(range), place) if range.block == block => (Some(range), place),
-            _ => self.find_block(block),
+        match self.range_at(near) {
+            Some(range) if range.block == block => (Some(range), near),
+            Some(_) | None => self.find_range_of(block),
         }
-    }
-
-    /// The last mapped range that begins at or before an address, or below it where that is the greatest `u64`, and where
-    /// it stands. It is found by one search.
-    #[inline]
-    fn last_range(&self, at: u64) -> (Option<Range>, Place)
-        ensures { IfSome result.0 (λ range. range_of range.block self.now.table.ranges ≡ Some range) }
-    {
-        let around = self.ranges.around(at.saturating_add(1));
-        (range_if(around.before), around.place)
     }
 
     /// The range that is mapped to a block, and where it stands. One is.
@@ -296,7 +310,7 @@ impl Present {
         ensures range { range_of block self.now.table.ranges ≡ Some result.0 }
         ensures block { result.0.block ≡ block }
     {
-        let (found, place) = self.find_block(block);
+        let (found, place) = self.find_range_of(block);
         let Some(range) = found else { unreachable!() };
         (range, place)
     }
@@ -371,8 +385,8 @@ impl Present {
         self.put(counted_range(section, block, counter), near);
     }
 
-    /// Puts a range to those that are mapped, where there is room for it. A place says where it is looked for first what
-    /// stands before it.
+    /// Puts a range to those that are mapped, where there is room for it. What stands before it is looked for first at a
+    /// place.
     fn put(&mut self, range: Range, near: Place)
         requires room { 1 ≤ self.old.room.ranges }
         requires absent { where_is range.section self.old.table.ranges ≡ Absent }
@@ -406,7 +420,7 @@ impl Present {
         ensures table { self.new.table ≡ with_ranges self.old.table (without_range block self.old.table.ranges) }
         ensures room { IsRoomKept self.old.room self.new.room }
     {
-        // Nothing told its place. A look at the first one costs no search.
+        // Nothing told where the block stands in the index. A look at its first place costs no search.
         let start = self.starts.take_out_near(block, 0);
         self.ranges.remove(start, near);
     }
@@ -440,8 +454,7 @@ impl Present {
         ensures unchanged { OnErr result (self.new.table ≡ self.old.table) }
         ensures room { IsRoomKept self.old.room self.new.room }
     {
-        let (range, place) = self.mapped(block);
-        self.count(Counter::Structured, range, place)
+        self.raise(Counter::Structured, block)
     }
 
     /// Raises the dynamic counter of the range that is mapped to a block. One is.
@@ -458,8 +471,7 @@ impl Present {
         ensures unchanged { OnErr result (self.new.table ≡ self.old.table) }
         ensures room { IsRoomKept self.old.room self.new.room }
     {
-        let (range, place) = self.mapped(block);
-        self.count(Counter::Dynamic, range, place)
+        self.raise(Counter::Dynamic, block)
     }
 
     /// Raises a counter of the range that is mapped to a block, as [`Present::count_structured`] and
@@ -469,6 +481,7 @@ impl Present {
     ///
     /// [`Fault::CounterFull`] with item 0, exactly where the counter has its greatest value. The table is then as
     /// before.
+    #[inline(always)]
     pub fn count_near(&mut self, counter: Counter, block: u64, near: Place) -> Result<(), Fault>
         requires { HasRange self.old.table block }
         ensures ok { OnOk result (self.new.table ≡ with_ranges self.old.table (changed_at block (risen counter) self.old.table.ranges)) }
@@ -481,6 +494,20 @@ impl Present {
         if self.change_near(CounterChange::Raise(counter), block, near) {
             return Ok(());
         }
+        self.raise(counter, block)
+    }
+
+    /// Raises a counter of the range that is mapped to a block, as [`Present::count_near`] does, by a search.
+    #[inline(never)]
+    fn raise(&mut self, counter: Counter, block: u64) -> Result<(), Fault>
+        requires { HasRange self.old.table block }
+        ensures ok { OnOk result (self.new.table ≡ with_ranges self.old.table (changed_at block (risen counter) self.old.table.ranges)) }
+        ensures below { OnOk result (counter_of counter block self.old.table.ranges < self.old.table.counter_max) }
+        ensures full { OnErr result (counter_of counter block self.old.table.ranges ≡ self.old.table.counter_max) }
+        ensures only { IfErr result (λ fault. fault ≡ Fault.CounterFull 0) }
+        ensures unchanged { OnErr result (self.new.table ≡ self.old.table) }
+        ensures room { IsRoomKept self.old.room self.new.room }
+    {
         let (range, place) = self.mapped(block);
         self.count(counter, range, place)
     }
@@ -504,7 +531,7 @@ impl Present {
 
     /// Changes a counter of the range that is mapped to a block, if that stands at a place. A counter that rises has to be
     /// below the limit. It answers whether it changed one, without a search.
-    #[inline]
+    #[inline(always)]
     fn change_near(&mut self, change: CounterChange, block: u64, near: Place) -> bool
         ensures changed { OnTrue result (self.new.table ≡ with_ranges self.old.table (changed_at block (changed_by change) self.old.table.ranges)) }
         ensures below { OnTrue result ((range : Range) × (range_of block self.old.table.ranges ≡ Some range) × IsChangeable change self.old.table.counter_max range) }
@@ -521,6 +548,7 @@ impl Present {
     }
 
     /// Changes a counter of a mapped range, which is looked for near a place first. One that rises is below the limit.
+    #[inline]
     fn change(&mut self, change: CounterChange, range: Range, near: Place)
         requires there { range_of range.block self.old.table.ranges ≡ Some range }
         requires below { IsChangeable change self.old.table.counter_max range }
@@ -532,6 +560,7 @@ impl Present {
     }
 
     /// Changes a counter of the range that is mapped to a block. One is, and the counter does not rise.
+    #[inline(never)]
     fn lower(&mut self, change: CounterChange, block: u64)
         requires there { HasRange self.old.table block }
         requires free { (most : ℕ) → (range : Range) → IsChangeable change most range }
@@ -571,6 +600,7 @@ impl Present {
 
     /// Lowers a counter of the range that is mapped to a block, as [`Present::drop_structured`] and
     /// [`Present::drop_dynamic`] do. One is. It is not searched for where it stands at the place. Zero stays zero.
+    #[inline(always)]
     pub fn drop_near(&mut self, counter: Counter, block: u64, near: Place)
         requires { HasRange self.old.table block }
         ensures table { self.new.table ≡ with_ranges self.old.table (changed_at block (fallen counter) self.old.table.ranges) }
@@ -583,6 +613,7 @@ impl Present {
 
     /// Sets the dynamic counter of the range that is mapped to a block to 0, as [`Present::clear_dynamic`] does. One is.
     /// It is not searched for where it stands at the place.
+    #[inline(always)]
     pub fn clear_near(&mut self, block: u64, near: Place)
         requires { HasRange self.old.table block }
         ensures table { self.new.table ≡ with_ranges self.old.table (changed_at block cleared self.old.table.ranges) }
@@ -616,7 +647,7 @@ impl Present {
     }
 
     /// As [`Present::enter`], where there is room for one more region: it allocates nothing and is not refused. It takes
-    /// at most one from the room of regions. The holdings may stand in what [`Present::take_spare`] returned.
+    /// at most one from the room of regions. The holdings may stand in what [`Present::spare_holdings`] returned.
     pub fn enter_reserved(&mut self, number: u64, holdings: Vec<Holding>)
         requires room { 1 ≤ self.old.room.regions }
         requires new { region_at number self.old.table.regions ≡ None }
@@ -628,14 +659,14 @@ impl Present {
 
     /// An empty list, with the room that was made for the holdings of the next region. None is left. It allocates
     /// nothing.
-    pub fn take_spare(&mut self) -> Vec<Holding>
+    pub fn spare_holdings(&mut self) -> Vec<Holding>
         ensures none { result.items ≡ [] }
         ensures capacity { vec_capacity result ≡ self.old.room.holdings }
         ensures table { self.new.table ≡ self.old.table }
         ensures room_ranges { self.old.room.ranges ≤ self.new.room.ranges }
         ensures room_regions { self.old.room.regions ≤ self.new.room.regions }
     {
-        self.register.take_spare()
+        self.register.spare_holdings()
     }
 
     /// What an open region holds, in the written order of its items, or `None` where no region of that number is open.
@@ -704,7 +735,7 @@ impl Present {
 
     /// Makes room for so many more ranges and so many more regions, the next of which has so many holdings. Then
     /// [`Present::add_reserved`] allocates nothing, and nor does [`Present::enter_reserved`] with these holdings in what
-    /// [`Present::take_spare`] returns.
+    /// [`Present::spare_holdings`] returns.
     ///
     /// # Errors
     ///

@@ -141,7 +141,7 @@ impl Register {
     }
 
     /// An empty list, with the room that was made for the holdings of the next region. None is left.
-    pub fn take_spare(&mut self) -> Vec<Holding>
+    pub fn spare_holdings(&mut self) -> Vec<Holding>
         ensures none { result.items ≡ [] }
         ensures capacity { vec_capacity result ≡ self.old.holdings }
         ensures regions { self.new.regions ≡ self.old.regions }

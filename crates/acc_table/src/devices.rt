@@ -57,6 +57,7 @@ impl Devices {
     }
 
     /// Puts a device in use, which is there. Nothing that any device has changes.
+    #[inline(always)]
     pub(crate) fn select(&mut self, device: u64)
         requires there { device < length self.old.spares.items }
         requires set { (l : Limits) × AreSet l self.old }
@@ -64,9 +65,21 @@ impl Devices {
         ensures same { whole_of self.new ≡ whole_of self.old }
         ensures current { self.new.current ≡ device }
     {
-        if device == self.current {
-            return;
+        if device != self.current {
+            self.change(device);
         }
+    }
+
+    /// Puts another device in use than the one that is, which stands apart then.
+    #[inline(never)]
+    fn change(&mut self, device: u64)
+        requires there { device < length self.old.spares.items }
+        requires set { (l : Limits) × AreSet l self.old }
+        requires other { device ≡ self.old.current → ⊥ }
+        ensures set { (l : Limits) → AreSet l self.old → AreSet l self.new }
+        ensures same { whole_of self.new ≡ whole_of self.old }
+        ensures current { self.new.current ≡ device }
+    {
         let Some(spare) = self.spares[device as usize].take() else {
             unreachable!()
         };

@@ -228,6 +228,7 @@ impl Table {
     }
 
     /// The device on which the region of a number is open; 0 where no such region is open.
+    #[inline(never)]
     pub fn device_of_region(&self, number: u64) -> u64
         ensures value { result ≡ device_of_region number self.now.state }
         ensures there { result < self.now.limits.devices }
@@ -237,6 +238,7 @@ impl Table {
 
     /// The device for which a directive is: the one that it names, or that of the region that it exits. It is 0 where
     /// no such region is open. It need not be there.
+    #[inline(always)]
     pub fn device_for(&self, directive: &Directive) -> u64
         ensures { result ≡ device_for directive.now self.now.state }
     {

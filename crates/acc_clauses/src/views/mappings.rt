@@ -17,13 +17,16 @@ impl View<'_> {
     }
 
     /// Where a section lies once the mappings to these blocks have ended, and a mapped range that says so, if one does.
+    /// The last one that begins at or before the section is looked for first at a place.
     #[inline(always)]
-    pub(crate) fn find_apart(&self, section: Section, blocks: &[u64]) -> Located
+    pub(crate) fn find_apart(&self, section: Section, blocks: &[u64], near: Place) -> Located
         ensures found { result.found ≡ where_is_apart section blocks.now self.now.state.records.ranges }
         ensures range { IfSome result.range (λ range. range_of range.block self.now.state.records.ranges ≡ Some range) }
         ensures block { IsToldBy result.found result.range }
     {
-        self.environment.present.find_range_apart(section, blocks)
+        self.environment
+            .present
+            .find_range_apart(section, blocks, near)
     }
 
     /// The mapped range of least start at or above a host address, if there is one.
@@ -33,12 +36,13 @@ impl View<'_> {
         self.environment.present.next_range(from)
     }
 
-    /// The range that is mapped to a block, if one is, and where it may stand. An address says where it is looked for
-    /// first.
-    pub(crate) fn range_near(&self, block: u64, at: u64) -> (Option<Range>, Place)
+    /// The range that is mapped to a block, if one is, and where it stands. It is not searched for where it stands at the
+    /// place.
+    #[inline(always)]
+    pub(crate) fn range_near(&self, block: u64, near: Place) -> (Option<Range>, Place)
         ensures { result.0 ≡ range_of block self.now.state.records.ranges }
     {
-        self.environment.present.range_near(block, at)
+        self.environment.present.range_near(block, near)
     }
 
     /// The range that is mapped to a block, if one is. It is not searched for where it is the one that is known.

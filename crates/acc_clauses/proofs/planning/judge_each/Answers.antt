@@ -12,22 +12,22 @@ loop-n-init g c = grind (arith, turns_begun)
 
 pub task-requires : goal.task-requires
 task-requires g c =
-    let within : c.loop-n.n < length (tasks_with c.args.directive.now c.args.holdings.now) = omega (arith, c.loop-n-test.true, c.task_count-n-end.ensures) in
+    let within : c.loop-n.n < length (tasks_with c.args.directive.now c.args.holdings.now) = omega (arith, c.loop-n-test.true, c.requires.count) in
     (c.requires.asked c.loop-n.n within).0
 
 pub judge-requires-clause-unmixed : goal.judge-requires-clause-unmixed
 judge-requires-clause-unmixed g c =
-    let within : c.loop-n.n < length (tasks_with c.args.directive.now c.args.holdings.now) = omega (arith, c.loop-n-test.true, c.task_count-n-end.ensures) in
+    let within : c.loop-n.n < length (tasks_with c.args.directive.now c.args.holdings.now) = omega (arith, c.loop-n-test.true, c.requires.count) in
     unmixed_turn c.loop-n.n _ c.task.result (tasks_with c.args.directive.now c.args.holdings.now) c.task.result within ((c.requires.asked c.loop-n.n within).1 c.task.result c.task.result c.task.ensures) c.loop-n.invariant.asked c.requires.unmixed
 
 pub judge-requires-clause-queue : goal.judge-requires-clause-queue
 judge-requires-clause-queue g c =
-    let within : c.loop-n.n < length (tasks_with c.args.directive.now c.args.holdings.now) = omega (arith, c.loop-n-test.true, c.task_count-n-end.ensures) in
+    let within : c.loop-n.n < length (tasks_with c.args.directive.now c.args.holdings.now) = omega (arith, c.loop-n-test.true, c.requires.count) in
     ap (λ (t : Task). queue_named (queue_of t)) ((c.requires.asked c.loop-n.n within).1 c.task.result c.task.result c.task.ensures) ∙ queue_at_turn (tasks_with c.args.directive.now c.args.holdings.now) c.loop-n.n c.task.result within c.requires.queues
 
 pub returns-in_err-judge-clause-judged : goal.returns-in_err-judge-clause-judged
 returns-in_err-judge-clause-judged g c =
-    let within : c.loop-n.n < length (tasks_with c.args.directive.now c.args.holdings.now) = omega (arith, c.loop-n-test.true, c.task_count-n-end.ensures) in
+    let within : c.loop-n.n < length (tasks_with c.args.directive.now c.args.holdings.now) = omega (arith, c.loop-n-test.true, c.requires.count) in
     let refused = turn_refused c.args.view.now.limits c.loop-n.n c.loop-n.n c.loop-n.draft c.task.result (tasks_with c.args.directive.now c.args.holdings.now) c.task.result c.args.view.now.state _ _ within ((c.requires.asked c.loop-n.n within).1 c.task.result c.task.result c.task.ensures) c.in_err-judge.ensures c.loop-n.invariant.judged in
     search rules
 
@@ -35,7 +35,7 @@ pub loop-n-preserved : goal.loop-n-preserved
 loop-n-preserved g c =
     let r = c.loop-n.invariant in
     let tasks = tasks_with c.args.directive.now c.args.holdings.now in
-    let within : c.loop-n.n < length tasks = omega (arith, c.loop-n-test.true, c.task_count-n-end.ensures) in
+    let within : c.loop-n.n < length tasks = omega (arith, c.loop-n-test.true, c.requires.count) in
     let next = c.in_ok-judge.ensures in
     let is = (c.requires.asked c.loop-n.n within).1 c.task.result c.task.result c.task.ensures in
     record {

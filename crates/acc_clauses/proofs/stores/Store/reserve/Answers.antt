@@ -8,6 +8,7 @@ use Rattle.acc_clauses.specs.Contents.{Contents}
 use Rattle.acc_clauses.specs.Devices.{contents_beside}
 use Rattle.acc_clauses.specs.Planned.{IsPlanOf, holdings_by}
 use Rattle.acc_clauses.specs.Acts.{HasRoomFor, HasPutRoom, pointers_in}
+use Rattle.acc_clauses.proofs.Asking.{asked_with}
 use Rattle.acc_clauses.proofs.Events.{planned_judged}
 use Rattle.acc_clauses.proofs.Remaining.{lens_fit}
 use Rattle.acc_clauses.proofs.Reserved.{none_room, one_room, room_made}
@@ -21,6 +22,14 @@ reserve-requires-clause-lens c =
     let k : Contents = contents_beside x.device x.host (record { region = x.next_region; serial = x.next_serial }) in
     let planned : IsPlanOf k.limits c.args.directive.now k.state p = subst (λ (y : Contents). IsPlanOf y.limits c.args.directive.now y.state p) (sym c.self.view_is) c.requires.planned in
     subst (λ ls. All (IsFromOne MEMORY_MAX) ls) (sym c.lens.ensures.lens) (lens_fit k.limits 0 p.tasks p.dids k.state.records c.laws.ensures.limits (planned_judged k.limits c.args.directive.now k.state p planned))
+
+pub count_holdings-holdings-requires : goal.count_holdings-holdings-requires
+count_holdings-holdings-requires c =
+    let x = c.self.inside in
+    let k : Contents = contents_beside x.device x.host (record { region = x.next_region; serial = x.next_serial }) in
+    let planned : IsPlanOf k.limits c.args.directive.now k.state c.args.plan.now = subst (λ (y : Contents). IsPlanOf y.limits c.args.directive.now y.state c.args.plan.now) (sym c.self.view_is) c.requires.planned in
+    let asked = asked_with c.args.directive.now k.state.register c.args.plan.now.tasks planned.asked in
+    record { asked = (asked.holdings, asked.are ∙ sym c.acts-acts.ensures.tasks) }
 
 pub reserve_puts-requires-clause-known : goal.reserve_puts-requires-clause-known
 reserve_puts-requires-clause-known c = grind (arith)

@@ -10,14 +10,14 @@ use Rattle.acc_ordered.proofs.list.OrderedList.insert.Goals as goal
 pub put-requires-clause-rising : goal.put-requires-clause-rising
 put-requires-clause-rising g c =
     let is : side_by_side c.self.inside.rows.items ≡ c.args.self.now.entries = ap (λ (l : Listing g.row.T.Denot). l.entries) c.self.view_is in
-    let place = c.find_near-found.ensures in
+    let place = c.find_near-found.ensures.place in
     let none = ap (at_key (g.K.Key.number c.args.key)) is ∙ c.requires.new in
     rw (c.make_place-place.ensures.entries, c.make_place-place.ensures.number) (rise_split (keyed (g.K.Key.number c.args.key) c.args.value) (side_by_side c.self.inside.rows.items) (index_of c.self.inside.rows.items c.find_near-found.result) c.self.invariant.rows.in_rows.rising place.split none)
 
 pub returns-clause-entries : goal.returns-clause-entries
 returns-clause-entries g c =
     let is : side_by_side c.self.inside.rows.items ≡ c.args.self.now.entries = ap (λ (l : Listing g.row.T.Denot). l.entries) c.self.view_is in
-    let place = c.find_near-found.ensures in
+    let place = c.find_near-found.ensures.place in
     let none = ap (at_key (g.K.Key.number c.args.key)) is ∙ c.requires.new in
     (rw (c.make_place-place.ensures.entries, c.make_place-place.ensures.number) at c.put.ensures.entries) ∙ sym (with_split (keyed (g.K.Key.number c.args.key) c.args.value) (side_by_side c.self.inside.rows.items) (index_of c.self.inside.rows.items c.find_near-found.result) place.split none) ∙ ap (with_entry (keyed (g.K.Key.number c.args.key) c.args.value)) is
 

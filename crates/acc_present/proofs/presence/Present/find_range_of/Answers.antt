@@ -6,7 +6,7 @@ use Rattle.acc_ordered.specs.Listing.{KeyValue}
 use Rattle.acc_present.specs.Present.{PresentState}
 use Rattle.acc_present.specs.Kept.{start_in}
 use Rattle.acc_present.proofs.Mapping.{range_at}
-use Rattle.acc_present.proofs.presence.Present.find_block.Goals as goal
+use Rattle.acc_present.proofs.presence.Present.find_range_of.Goals as goal
 
 pub returns-in-Some : goal.returns-in-Some
 returns-in-Some c =

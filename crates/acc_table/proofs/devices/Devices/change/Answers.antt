@@ -3,20 +3,20 @@ use Rattle.std.specs.Prelude.{slice_set}
 use Rattle.acc_clauses.specs.Devices.{Parked}
 use Rattle.acc_table.proofs.DeviceLists.{used_there}
 use Rattle.acc_table.proofs.Selecting.{StandsApart, at_place, apart_host, is_apart, set_moved, whole_moved}
-use Rattle.acc_table.proofs.devices.Devices.select.Goals.{In-Some}
-use Rattle.acc_table.proofs.devices.Devices.select.Goals as goal
+use Rattle.acc_table.proofs.devices.Devices.change.Goals.{In-Some}
+use Rattle.acc_table.proofs.devices.Devices.change.Goals as goal
 
 apart : (c : In-Some) → StandsApart c.requires.set.0 c.args.self.now c.args.device c.in-Some.spare
 apart c = record {
   set = c.requires.set.1;
   there = c.requires.there;
-  other = c.if-device-self.false;
+  other = c.requires.other;
   is = at_place c.args.device c.args.self.now.spares.items c.index_mut.result.now c.requires.there c.index_mut.ensures.value ∙ (sym c.take.ensures.value ∙ c.in-Some.is);
 }
 
 pub unreachable-requires : goal.unreachable-requires
 unreachable-requires c =
-    is_apart c.requires.set.0 c.args.self.now c.args.device c.requires.set.1 c.requires.there c.if-device-self.false
+    is_apart c.requires.set.0 c.args.self.now c.args.device c.requires.set.1 c.requires.there c.requires.other
     (at_place c.args.device c.args.self.now.spares.items c.index_mut.result.now c.requires.there c.index_mut.ensures.value ∙ (sym c.take.ensures.value ∙ c.in_default.is))
 
 pub exchange-parked-requires-clause-host : goal.exchange-parked-requires-clause-host

@@ -1,6 +1,6 @@
 use Rattle.acc_present.specs.Kept.{IsNext}
 use Rattle.acc_present.proofs.Finding.{ranges_left}
-use Rattle.acc_present.proofs.presence.Present.find_range_apart.Given as goal
+use Rattle.acc_present.proofs.presence.Present.find_from.Given as goal
 
 -- the ranges that are left say what all say
 abbrev pub invariant-loop-next : goal.invariant-loop-next

@@ -1,6 +1,6 @@
 -- Where a section lies, one range after the other.
 use Rattle.std.proofs.Common.{ℕ, ◌≡◌, ◌+◌, ◌<◌, ◌≤◌, refl, sym, ap, ◌∙◌, subst, Bool, true, false, cond, List, [], ◌∷◌, ◌++◌, length, Option, Some, None, arith}
-use Rattle.std.specs.Prelude.{◌==◌, not, nat_lt, nat_le, IfSome, Contains}
+use Rattle.std.specs.Prelude.{◌==◌, ◌-◌, not, nat_lt, nat_le, IfSome, Contains}
 use Rattle.std.specs.Option.{option_or}
 use Rattle.std.specs.List.{AllByRecursion, list_all, list_any}
 use Rattle.std.proofs.lemmas.Bool.Decides.{nat_tests}
@@ -8,7 +8,7 @@ use Rattle.std.proofs.lemmas.Option.{same_Some}
 use Rattle.acc_base.specs.declared.items.Section.{Section}
 use Rattle.acc_base.specs.declared.mappings.Range.{Range}
 use Rattle.acc_base.specs.declared.mappings.Found.{Found}
-use Rattle.acc_base.specs.declared.mappings.Found.TheVariants.{Partly, Absent}
+use Rattle.acc_base.specs.declared.mappings.Found.TheVariants.{Inside, Partly, Absent}
 use Rattle.acc_base.specs.Section.{is_empty, is_within, is_apart, end_of}
 use Rattle.acc_base.specs.Ranges.{where_is, where_is_apart, without_ranges, range_around, range_from, range_of, found_in}
 use Rattle.acc_base.specs.Accounts.{EachPair, IsBelow}
@@ -186,6 +186,38 @@ from_last k s blocks rs r near some m e =
     let starts = l.starts in
     let lens = subst (λ (ts : List Range). AllByRecursion (λ (t : Range). 0 < t.section.len) ts) l.parts m.some in
     ap (where_is_apart s blocks) l.parts ∙ skip_all s blocks l.front (r ∷ ranges_from k rs) some lens (AllByRecursion-weaker (λ (t : Range). IsBelow t.section r.section) (λ (t : Range). end_of t.section ≤ s.start) l.front (λ t below. omega arith) l.before)
+
+-- a range stands among others
+record IsAmong (rs : List Range) (r : Range) : Type 0 where
+  front : List Range
+  back : List Range
+  parts : rs ≡ front ++ r ∷ back
+
+among : (b : ℕ) (rs : List Range) (r : Range) → range_of b rs ≡ Some r → IsAmong rs r
+among b [] r e = cc
+among b (x ∷ rs) r e = go (among b rs r) (x.block == b) refl e
+  where
+    go : (range_of b rs ≡ Some r → IsAmong rs r) → (t : Bool) → (x.block == b) ≡ t → cond t (Some x) (range_of b rs) ≡ Some r → IsAmong (x ∷ rs) r
+    go rest true t h = record { front = []; back = rs; parts = ap (λ y. y ∷ rs) (same_Some x r h) }
+    go rest false t h = let a = rest h in record { front = x ∷ a.front; back = a.back; parts = ap (λ ts. x ∷ ts) a.parts }
+
+-- those before it end before it begins
+before_ends : (front back : List Range) (r : Range) → EachPair (λ (t : Range) (u : Range). IsBelow t.section u.section) (front ++ r ∷ back) → AllByRecursion (λ (t : Range). IsBelow t.section r.section) front
+before_ends [] back r rise = tt
+before_ends (x ∷ front) back r rise = ((all_behind (λ (t : Range). IsBelow x.section t.section) front (r ∷ back) rise.0).0, before_ends front back r rise.1)
+
+-- so one that is not listed and has all of the addresses says what all say
+pub told_within : (s : Section) (blocks : List ℕ) (rs : List Range) (r : Range) → 0 < s.len → AreMapped rs → range_of r.block rs ≡ Some r → is_listed blocks r.block ≡ false → is_within s r.section ≡ true → Inside r.block (s.start - r.section.start) ≡ where_is_apart s blocks rs
+told_within s blocks rs r some m e free inside =
+    let a = among r.block rs r e in
+    let lens = subst (λ (ts : List Range). AllByRecursion (λ (t : Range). 0 < t.section.len) ts) a.parts m.some in
+    let rise = subst (λ (ts : List Range). EachPair (λ (t : Range) (u : Range). IsBelow t.section u.section) ts) a.parts m.rising in
+    let starts : r.section.start ≤ s.start = grind (arith, nat_tests) in
+    let filled : is_empty s ≡ false = grind (arith, nat_tests) in
+    let first : where_is_apart s blocks (r ∷ a.back) ≡ Inside r.block (s.start - r.section.start) = rw free (rw (filled, inside) refl) in
+    sym (ap (where_is_apart s blocks) a.parts
+    ∙ skip_all s blocks a.front (r ∷ a.back) some lens (AllByRecursion-weaker (λ (t : Range). IsBelow t.section r.section) (λ (t : Range). end_of t.section ≤ s.start) a.front (λ t below. omega arith) (before_ends a.front a.back r rise))
+    ∙ first)
 
 -- what that one says holds of all
 pub told_last : (k : ℕ) (s : Section) (blocks : List ℕ) (rs : List Range) (r : Range) (found : Found) → k ≤ s.start + 1 → 0 < s.len → AreMapped rs → last_below k rs ≡ Some r

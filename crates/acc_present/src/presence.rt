@@ -11,7 +11,9 @@ ghost use Rattle.acc_ordered.specs.Listing.{seen};
 ghost use Rattle.acc_present.specs.Present.{IsWithinLimit, new_table, with_ranges, with_regions, HasRange, HasRegion, IsToldBy, IsRoomKept, IsRangeRoomTaken, IsRegionRoomTaken, IsRoomMissing, IsMemoryNeeded, IsLawful, region_of};
 ghost use Rattle.acc_present.specs.Kept.{IsNext, IsChangeable, changed_by};
 
-use crate::ranges::{CounterChange, RangeAlone, changed, is_allowed, told_by, value_of};
+use crate::ranges::{
+    CounterChange, RangeAlone, changed, is_allowed, is_listed, told_by, value_of, within,
+};
 use crate::register::{OpenRegion, Register};
 use acc_base::{Counter, Counters, Fault, Found, Holding, Range, Section, Steps};
 use acc_index::Index;
@@ -162,10 +164,52 @@ impl Present {
         ensures range { IfSome result.range (λ range. range_of range.block self.now.table.ranges ≡ Some range) }
         ensures block { IsToldBy result.found result.range }
     {
+        match self.find_within(section, blocks, near) {
+            Some(located) => located,
+            None => self.search_apart(section, blocks, near),
+        }
+    }
+
+    /// Where a section lies, as [`Present::find_range_apart`] says, if it lies within the range that stands at a place.
+    #[inline(always)]
+    fn find_within(&self, section: Section, blocks: &[u64], near: Place) -> Option<Located>
+        ensures found { IfSome result (λ located. located.found ≡ where_is_apart section blocks.now self.now.table.ranges) }
+        ensures range { IfSome result (λ located. IfSome located.range (λ range. range_of range.block self.now.table.ranges ≡ Some range)) }
+        ensures block { IfSome result (λ located. IsToldBy located.found located.range) }
+    {
+        self.laws();
+        let range = self.range_at(near)?;
+        if section.len == 0 || !within(section, range.section) || is_listed(blocks, range.block) {
+            return None;
+        }
+        Some(Located {
+            found: Found::Inside {
+                block: range.block,
+                offset: section.start - range.section.start,
+            },
+            range: Some(range),
+            place: near,
+        })
+    }
+
+    /// Where a section lies, as [`Present::find_range_apart`] says, by a search.
+    #[inline(always)]
+    fn search_apart(&self, section: Section, blocks: &[u64], near: Place) -> Located
+        ensures found { result.found ≡ where_is_apart section blocks.now self.now.table.ranges }
+        ensures range { IfSome result.range (λ range. range_of range.block self.now.table.ranges ≡ Some range) }
+        ensures block { IsToldBy result.found result.range }
+    {
         self.laws();
         match self.locate(section, blocks, near, &mut Steps::new()) {
             Ok(located) => located,
-            Err((next, place)) => self.find_from(section, blocks, next, place),
+            Err((next, place)) => {
+                let (found, range) = self.find_from(section, blocks, next);
+                Located {
+                    found,
+                    range,
+                    place,
+                }
+            }
         }
     }
 
@@ -177,31 +221,21 @@ impl Present {
         section: Section,
         blocks: &[u64],
         mut next: Option<Range>,
-        place: Place,
-    ) -> Located
+    ) -> (Found, Option<Range>)
         requires some { 0 < section.len }
         requires next { IsNext section blocks.now self.now.table.ranges next }
-        ensures found { result.found ≡ where_is_apart section blocks.now self.now.table.ranges }
-        ensures range { IfSome result.range (λ range. range_of range.block self.now.table.ranges ≡ Some range) }
-        ensures block { IsToldBy result.found result.range }
+        ensures found { result.0 ≡ where_is_apart section blocks.now self.now.table.ranges }
+        ensures range { IfSome result.1 (λ range. range_of range.block self.now.table.ranges ≡ Some range) }
+        ensures block { IsToldBy result.0 result.1 }
     {
         self.laws();
         while let Some(range) = next {
             if let Some(found) = told_by(range, section, blocks) {
-                let range = Some(range);
-                return Located {
-                    found,
-                    range,
-                    place,
-                };
+                return (found, Some(range));
             }
             next = self.behind(range);
         }
-        Located {
-            found: Found::Absent,
-            range: None,
-            place,
-        }
+        (Found::Absent, None)
     }
 
     /// Where a section lies among the ranges without those of the listed blocks, as far as the last range says that does

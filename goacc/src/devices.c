@@ -11,12 +11,36 @@ static _Thread_local struct {
     bool begins;
 } chosen;
 
+acc_device_t lwa_named_type(void)
+{
+    static const struct {
+        const char *word;
+        acc_device_t type;
+    } types[] = {{"", acc_device_not_host}, {"not_host", acc_device_not_host}, {"host", acc_device_host},
+                 {"nvidia", acc_device_nvidia}, {"radeon", acc_device_radeon}};
+    const char *word = getenv("ACC_DEVICE_TYPE");
+
+    for (size_t i = 0; i < sizeof types / sizeof *types; i++) {
+        if (strcasecmp(word != NULL ? word : "", types[i].word) == 0) {
+            return types[i].type;
+        }
+    }
+    return acc_device_none;
+}
+
+acc_device_t lwa_type_of_tables(void)
+{
+    const acc_device_t type = lwa_named_type();
+
+    return type == acc_device_nvidia || type == acc_device_radeon ? type : acc_device_not_host;
+}
+
 static void choose_by_environment(void)
 {
     if (chosen.kind == BY_ENVIRONMENT) {
-        const char *type = getenv("ACC_DEVICE_TYPE"), *number = getenv("ACC_DEVICE_NUM");
+        const char *number = getenv("ACC_DEVICE_NUM");
 
-        chosen.kind = type != NULL && strcasecmp(type, "host") == 0 ? HOST : TABLE;
+        chosen.kind = lwa_named_type() == acc_device_host ? HOST : TABLE;
         chosen.device = number != NULL ? (unsigned)strtoul(number, NULL, 10) : 0;
     }
 }
@@ -45,7 +69,7 @@ unsigned lwa_chosen_device(void)
 static bool is_table_type(acc_device_t type)
 {
     return (lwa_shadow && type != acc_device_host) || type == acc_device_default || type == acc_device_not_host
-        || (type == acc_device_current && lwa_is_for_table());
+        || type == lwa_type_of_tables() || (type == acc_device_current && lwa_is_for_table());
 }
 
 static bool is_host_type(acc_device_t type)
@@ -123,7 +147,7 @@ LWA_EXPORT void acc_set_device_type(acc_device_t type)
 LWA_EXPORT acc_device_t acc_get_device_type(void)
 {
     LWA_PASS(lwa_shadow, acc_get_device_type)
-    return chosen.begins ? acc_device_none : lwa_is_for_table() ? acc_device_not_host : acc_device_host;
+    return chosen.begins ? acc_device_none : lwa_is_for_table() ? lwa_type_of_tables() : acc_device_host;
 }
 
 /* A type of 0 stands for all. */
@@ -173,11 +197,12 @@ LWA_EXPORT const char *acc_get_property_string(int number, acc_device_t type, ac
     }
 }
 
-/* Where gcc has not answered it itself: code of the host asks, since a kernel runs there. */
+/* Where gcc has not answered it itself, for code of the host. A kernel is on the device. */
 LWA_EXPORT int acc_on_device(acc_device_t type)
 {
     LWA_PASS(lwa_shadow, acc_on_device, type)
-    return type == acc_device_host || type == acc_device_none;
+    return lwa_in_kernel ? type == acc_device_not_host || type == lwa_type_of_tables()
+                         : type == acc_device_host || type == acc_device_none;
 }
 
 /* ---- Queues ---- */

@@ -137,7 +137,10 @@ void lwa_go_to(unsigned device);
 /* Does something for each device that has a table. */
 void lwa_each_device(void (*act)(void));
 
-/* Runs a compiled function of this thread with the lock free; on the device it may call no routine. */
+/* Whether this thread runs a kernel on the device. */
+extern _Thread_local bool lwa_in_kernel;
+
+/* Runs a compiled function of this thread with the lock free; on the device it may call acc_on_device alone. */
 void lwa_run_free(void (*run)(void *), void *addresses, bool on_device);
 
 /* Whether a call was refused since a block is lent; then the lock is given away until some block is brought back, and
@@ -184,6 +187,11 @@ void *lwa_grown(void *list, size_t count, size_t *room, size_t size);
 
 /* Whether the directives of this thread are for a table; else they are for the host, which shares its memory. */
 bool lwa_is_for_table(void);
+
+/* The type of device that ACC_DEVICE_TYPE names, acc_device_none where it names none; and the type that the devices of
+   tables have, which is that one, for programs that ask for it by its name. */
+acc_device_t lwa_named_type(void);
+acc_device_t lwa_type_of_tables(void);
 
 /* The device of a table that this thread has chosen. */
 unsigned lwa_chosen_device(void);

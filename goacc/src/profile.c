@@ -132,7 +132,7 @@ void lwa_find_tools(void)
 static void call_tools(acc_event_info *event)
 {
     const acc_event_t type = event->event_type;
-    const acc_device_t device = lwa_is_for_table() ? acc_device_not_host : acc_device_host;
+    const acc_device_t device = lwa_is_for_table() ? lwa_type_of_tables() : acc_device_host;
     acc_prof_info info = {type, _ACC_PROF_INFO_VALID_BYTES, _ACC_PROF_INFO_VERSION, device, (int)lwa_chosen_device(),
                           -1, acc_async_sync, acc_async_sync, NULL, NULL, -1, -1, -1, -1};
     acc_api_info api = {acc_device_api_other, _ACC_API_INFO_VALID_BYTES, device, -1, NULL, NULL, NULL};

@@ -40,7 +40,7 @@ static _Thread_local struct {
     void *from;
     int event, construct, cancel_state;
 } caller;
-static _Thread_local bool in_kernel;
+_Thread_local bool lwa_in_kernel;
 
 /* A size in bytes from the environment, of digits alone. */
 static uint64_t size_of(const char *word, uint64_t otherwise)
@@ -151,7 +151,7 @@ void lwa_take_for(const char *name, void *from, int event, int construct)
     if (ending && !pthread_equal(ender, pthread_self())) {
         sleep_for_good();
     }
-    if (in_kernel) {
+    if (lwa_in_kernel) {
         lwa_unserved("it is called in a kernel");
     }
     lwa_go_to(lwa_chosen_device());
@@ -177,10 +177,10 @@ void lwa_run_free(void (*run)(void *), void *addresses, bool on_device)
     free_lock();
     lwa_tell_notes(outer.construct);
     lwa_tell(event, outer.construct);
-    in_kernel = on_device;
+    lwa_in_kernel = on_device;
     lwa_in_runtime = on_device && lwa_shadow;
     run(addresses);
-    in_kernel = lwa_in_runtime = false;
+    lwa_in_kernel = lwa_in_runtime = false;
     lwa_tell(on_device ? event + 1 : event, outer.construct);
     caller = outer;
     take_lock();
@@ -292,7 +292,7 @@ void lwa_say(const char *text)
 _Noreturn void lwa_end_program(const char *text)
 {
     lwa_say(text);
-    if (ending || in_kernel) {
+    if (ending || lwa_in_kernel) {
         lwa_each_device(lwa_end_table);
         fflush(NULL);
         _exit(1);

@@ -64,10 +64,19 @@ static size_t kernels;
 
 /* ---- The runtime ---- */
 
+/* A program that takes all it calls from this library need not be linked with the runtime. */
+#define RUNTIME "libgomp.so.1"
+
 void *lwa_next(const char *name)
 {
     void *found = dlsym(RTLD_NEXT, name);
+    void *runtime = found == NULL ? dlopen(RUNTIME, RTLD_LAZY) : NULL;
 
+    if (runtime != NULL) {
+        found = dlsym(runtime, name);
+    } else if (found == NULL) {
+        lwa_unserved("the runtime cannot be loaded: %s", dlerror());
+    }
     if (found == NULL) {
         lwa_unserved("the runtime has no %s", name);
     }

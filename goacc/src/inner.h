@@ -183,6 +183,20 @@ void rattle_dealloc(void *at);
 /* Makes room for one more element of a list; room is how many it has room for. */
 void *lwa_grown(void *list, size_t count, size_t *room, size_t size);
 
+/* ---- environment.c: the variables of the environment ---- */
+
+/* Ends the program where one has a word that it may not have, and tells of each that there is not. */
+void lwa_check_environment(void);
+
+/* Whether one has another word than 0; and its number, of which a text that is none is told as no `what`. */
+bool lwa_is_on(const char *variable);
+uint64_t lwa_number_of(const char *variable, const char *what, uint64_t otherwise);
+
+/* ---- left.c: what a program leaves behind ---- */
+
+/* Tells, for the device, of each mapping and of each copy that waits. */
+void lwa_tell_left(void);
+
 /* ---- devices.c ---- */
 
 /* Whether the directives of this thread are for a table; else they are for the host, which shares its memory. */
@@ -262,6 +276,9 @@ bool lwa_step(uint64_t queue);
 /* Makes what waits in a queue, or in all. */
 void lwa_wait(uint64_t queue);
 
+/* Does something for each copy that waits. */
+void lwa_each_waiting(void (*act)(uint64_t queue, const lwa_block *block, uintptr_t at, size_t len, bool out));
+
 void lwa_forget_waiting(void);
 
 /* ---- pointers.c: pointers that were attached ---- */
@@ -319,6 +336,7 @@ void lwa_gather_all(void);
 void lwa_start_script(void);
 
 /* A child of the program writes neither. */
+extern bool lwa_is_child;
 void lwa_forget_script(void);
 
 /* The lines of a script: items that are done at once, or are the program's last; and the other statements. */
@@ -326,6 +344,10 @@ void lwa_script_items(const lwa_directive *directive, size_t first, size_t end, 
 void lwa_script_write(uint64_t told, const uint8_t bytes[LWA_POINTER]);
 void lwa_script_kernel(const lwa_block *block);
 void lwa_script_copies(const char *statement, uint64_t queue);
+
+/* With LAMWIEST_REPORT: lets a signal ask for the reports; and writes them where one has asked. */
+void lwa_start_report(void);
+void lwa_report_if_asked(void);
 
 /* Writes the report, and ends the script. */
 void lwa_finish_script(void);
@@ -406,6 +428,9 @@ uintptr_t lwa_answer(uintptr_t own, uintptr_t came);
 /* Whether a refusal is one that the runtime has to tell, too, and may be passed over here. */
 bool lwa_may_refuse(const lw_fault *fault);
 bool lwa_has_refused(void);
+
+/* The words of LAMWIEST_STRICT, with NULL at their end. */
+extern const char *const lwa_open_names[];
 
 /* Whether the runtime has another device than the host, as was asked just now. */
 bool lwa_has_device(bool has);

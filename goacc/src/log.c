@@ -30,9 +30,7 @@ static struct {
 
 void lwa_start_log(void)
 {
-    const char *word = getenv("LAMWIEST_LOG");
-
-    lwa_logged = word != NULL && strcmp(word, "") != 0 && strcmp(word, "0") != 0;
+    lwa_logged = lwa_is_on("LAMWIEST_LOG");
     free(OWN.waiting);
     memset(&OWN, 0, sizeof OWN);
 }

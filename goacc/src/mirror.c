@@ -196,6 +196,17 @@ void lwa_wait(uint64_t queue)
     }
 }
 
+void lwa_each_waiting(void (*act)(uint64_t queue, const lwa_block *block, uintptr_t at, size_t len, bool out))
+{
+    for (uint64_t queue = 0; queue < LWA_QUEUES; queue++) {
+        for (size_t i = OWN[queue].first; i < OWN[queue].end; i++) {
+            const waiting *w = &OWN[queue].list[i];
+
+            act(queue, w->block, w->at, w->len, w->out);
+        }
+    }
+}
+
 void lwa_forget_waiting(void)
 {
     for (uint64_t queue = 0; queue < LWA_QUEUES; queue++) {

@@ -1,10 +1,12 @@
 /*
- * What a run leaves to look at: a script for accrun (LAMWIEST_SCRIPT=FILE), and the table's report at the end
- * (LAMWIEST_REPORT=FILE). The files of the second table of a process are FILE.2, and so on.
+ * What a run leaves to look at: a script for accrun (LAMWIEST_SCRIPT=FILE), and the table's report at the end or on a
+ * signal (LAMWIEST_REPORT=FILE). The files of the second table of a process are FILE.2, and so on.
  *
  * The script has one array, m, which is all of host memory: so each table address is a place in it.
  */
+#define _GNU_SOURCE
 #include <inttypes.h>
+#include <signal.h>
 #include <stdio.h>
 #include <stdlib.h>
 #include <string.h>
@@ -25,7 +27,7 @@ static struct {
 static unsigned tables;
 
 /* In a child of the program neither is written, since they are the program's. */
-static bool is_child;
+bool lwa_is_child;
 
 const char *lwa_name_of(lwa_way way)
 {
@@ -56,7 +58,7 @@ static FILE *open_file(const char *word)
     FILE *file = NULL;
     char *path;
 
-    if (name == NULL || is_child) {
+    if (name == NULL || lwa_is_child) {
         return NULL;
     }
     path = lwa_memory(NULL, strlen(name) + 16);
@@ -83,7 +85,7 @@ void lwa_start_script(void)
 
 void lwa_forget_script(void)
 {
-    is_child = true;
+    lwa_is_child = true;
     OWN.script = NULL;
 }
 
@@ -204,7 +206,7 @@ static void write_report(FILE *to)
     free(text);
 }
 
-void lwa_finish_script(void)
+static void write_report_file(void)
 {
     FILE *report = open_file("LAMWIEST_REPORT");
 
@@ -212,6 +214,38 @@ void lwa_finish_script(void)
         write_report(report);
         fclose(report);
     }
+}
+
+/* A signal asks for the reports, and the program's next call writes them: a handler could not take the lock. */
+static _Atomic bool is_asked;
+
+static void ask(int signal)
+{
+    (void)signal;
+    is_asked = true;
+}
+
+void lwa_start_report(void)
+{
+    const struct sigaction asks = {.sa_handler = ask, .sa_flags = SA_RESTART};
+    struct sigaction old;
+
+    if (getenv("LAMWIEST_REPORT") != NULL && sigaction(SIGUSR1, NULL, &old) == 0 && old.sa_handler == SIG_DFL) {
+        sigaction(SIGUSR1, &asks, NULL);
+    }
+}
+
+void lwa_report_if_asked(void)
+{
+    if (is_asked) {
+        is_asked = false;
+        lwa_each_device(write_report_file);
+    }
+}
+
+void lwa_finish_script(void)
+{
+    write_report_file();
     if (OWN.script != NULL) {
         fputs("report\n", OWN.script);
         for (; OWN.open_count != 0; OWN.open_count--) {

@@ -42,7 +42,7 @@ static bool goes_on;
 static bool strict[LWA_OPEN];
 static uint64_t passed_over[LWA_OPEN], compared, differences;
 static _Atomic bool has_device, has_none;
-static const char *const open_names[LWA_OPEN] = {"fill", "places", "queues", "pointers"};
+const char *const lwa_open_names[LWA_OPEN + 1] = {"fill", "places", "queues", "pointers"};
 
 /* Whether more than one thread has called: then another may write host bytes that no clause names. */
 static bool has_threads;
@@ -87,10 +87,10 @@ void lwa_start_shadow(void)
 {
     const char *word = getenv("LAMWIEST_SHADOW"), *named = getenv("LAMWIEST_STRICT");
 
-    lwa_shadow = word != NULL && strcmp(word, "") != 0 && strcmp(word, "0") != 0;
+    lwa_shadow = lwa_is_on("LAMWIEST_SHADOW");
     goes_on = lwa_shadow && strcmp(word, "all") == 0;
     for (int what = 0; what < LWA_OPEN; what++) {
-        strict[what] = named != NULL && strstr(named, open_names[what]) != NULL;
+        strict[what] = named != NULL && strstr(named, lwa_open_names[what]) != NULL;
     }
 }
 
@@ -479,7 +479,7 @@ void lwa_finish_shadow(void)
     if (lwa_shadow && lwa_logged) {
         fprintf(stderr, "lamwiest: shadow: compared %" PRIu64 " differences %" PRIu64, compared, differences);
         for (int what = 0; what < LWA_OPEN; what++) {
-            fprintf(stderr, " %s %" PRIu64, open_names[what], passed_over[what]);
+            fprintf(stderr, " %s %" PRIu64, lwa_open_names[what], passed_over[what]);
         }
         fputc('\n', stderr);
     } else if (has_none && !has_device) {

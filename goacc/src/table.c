@@ -1,7 +1,6 @@
 /* The lock, the tables under it, and the end of a program that is refused. */
 #define _GNU_SOURCE
 #include <dlfcn.h>
-#include <errno.h>
 #include <inttypes.h>
 #include <pthread.h>
 #include <stdio.h>
@@ -42,23 +41,6 @@ static _Thread_local struct {
 } caller;
 _Thread_local bool lwa_in_kernel;
 
-/* A size in bytes from the environment, of digits alone. */
-static uint64_t size_of(const char *word, uint64_t otherwise)
-{
-    const char *text = getenv(word);
-    uint64_t size;
-
-    if (text == NULL) {
-        return otherwise;
-    }
-    errno = 0;
-    size = strtoull(text, NULL, 10);
-    if (errno != 0 || text[0] == '\0' || text[strspn(text, "0123456789")] != '\0') {
-        lwa_unserved("%s is '%s', which is no number of bytes", word, text);
-    }
-    return size;
-}
-
 lw_table *lwa_table(void)
 {
     return &tables[lwa_on];
@@ -66,15 +48,20 @@ lw_table *lwa_table(void)
 
 static void start_table(void)
 {
+    char text[LWA_REFUSAL];
     lw_fault fault;
 
     lw_limits_default(&lwa_limits);
-    lwa_limits.host = size_of("LAMWIEST_HOST", 16777216);
-    lwa_limits.device = size_of("LAMWIEST_DEVICE", 16777216);
+    lwa_limits.host = lwa_number_of("LAMWIEST_HOST", "number of bytes", 16777216);
+    lwa_limits.device = lwa_number_of("LAMWIEST_DEVICE", "number of bytes", 16777216);
     lwa_limits.regions = 65536;
     lwa_limits.tickets = UINT64_C(1) << 40;
     lwa_limits.trace_cap = TRACE;
-    lwa_must(lw_table_new(lwa_table(), &lwa_limits, &fault), &fault);
+    if (lw_table_new(lwa_table(), &lwa_limits, &fault) != LW_DONE) {
+        lwa_refusal_text(&fault, text);
+        lwa_unserved("%s, LAMWIEST_HOST is %" PRIu64 ", LAMWIEST_DEVICE is %" PRIu64, text, lwa_limits.host,
+                     lwa_limits.device);
+    }
     stored[lwa_on] = 0;
     lwa_start_script();
     lwa_start_log();
@@ -136,6 +123,8 @@ static void sleep_for_good(void)
 
 void lwa_take_for(const char *name, void *from, int event, int construct)
 {
+    static bool is_checked;
+
     lwa_find_tools();
     lwa_tell(event, construct);
     caller.name = name;
@@ -154,7 +143,12 @@ void lwa_take_for(const char *name, void *from, int event, int construct)
     if (lwa_in_kernel) {
         lwa_unserved("it is called in a kernel");
     }
+    if (!is_checked) {
+        is_checked = true;
+        lwa_check_environment();
+    }
     lwa_go_to(lwa_chosen_device());
+    lwa_report_if_asked();
 }
 
 void lwa_leave(void)
@@ -240,6 +234,7 @@ static void in_child(void)
 __attribute__((constructor)) static void at_start(void)
 {
     lwa_start_shadow();
+    lwa_start_report();
     pthread_key_create(&regions_key, end_thread);
     pthread_atfork(take_lock, free_lock, in_child);
 }
@@ -369,6 +364,9 @@ __attribute__((destructor)) static void at_end(void)
     }
     if (!has_lock) {
         take_lock();
+    }
+    if (!ending && !lwa_in_runtime) {
+        lwa_each_device(lwa_tell_left);
     }
     ending = true;
     ender = pthread_self();

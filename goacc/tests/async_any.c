@@ -38,5 +38,6 @@ int main(void)
     }
 #pragma acc wait
     printf("%d\n", b[31][5]);
+#pragma acc exit data delete(a)
     return 0;
 }

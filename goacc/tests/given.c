@@ -52,6 +52,9 @@ static void in_a_list(void)
         }
     }
     printf("%g\n", sum);
+    acc_delete(rows, sizeof rows);
+    acc_delete(x, sizeof x);
+    acc_delete(y, sizeof y);
 }
 
 int main(void)

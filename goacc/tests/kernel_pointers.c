@@ -34,5 +34,6 @@ int main(void)
     s.p[0] += s.n;
 #pragma acc exit data copyout(y) copyout(s)
     printf("%g, pointer %d\n", y[0], s.p == x);
+#pragma acc exit data delete(s, x[2:4]) finalize
     return 0;
 }

@@ -31,5 +31,6 @@ int main(void)
         changed += b[i] != 100;
     }
     printf("kernel read %d, wrote %d, changed in the other array: %d\n", got, a[131], changed);
+#pragma acc exit data delete(edge[90:20])
     return 0;
 }

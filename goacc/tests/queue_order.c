@@ -38,6 +38,7 @@ static void counted_down(void)
 #pragma acc exit data copyout(p[0:3]) copyout(q[0:3]) async(2)
 #pragma acc wait(2)
     printf("%d %d %d\n", b[0], b[4], b[7]);
+#pragma acc exit data delete(p[0:6])
 }
 
 int main(void)

@@ -25,5 +25,6 @@ int main(void)
         unlink(made);
     }
     printf("%d\n", entered);
+#pragma acc exit data delete(a)
     return 0;
 }

@@ -12,6 +12,9 @@ int main(void)
         acc_create(a + 64 * i, 1);
     }
     printf("%d\n", acc_is_present(a + 64 * 2999, 1));
+    for (int i = 0; i < 3000; i++) {
+        acc_delete(a + 64 * i, 1);
+    }
     free(a);
     return 0;
 }

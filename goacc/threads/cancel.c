@@ -24,5 +24,6 @@ int main(void)
     pthread_join(thread, &end);
     alarm(20);
     printf("cancelled %d, present %d\n", end == PTHREAD_CANCELED, acc_is_present(a, sizeof a));
+#pragma acc exit data delete(a, b)
     return 0;
 }

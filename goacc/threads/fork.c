@@ -52,5 +52,6 @@ int main(void)
     step = 2;
     pthread_join(thread, NULL);
     printf("status %d, %d, present %d\n", status, b[0], acc_is_present(a, sizeof a));
+#pragma acc exit data delete(a, b)
     return 0;
 }

@@ -75,5 +75,6 @@ int main(void)
     }
     pthread_join(kernel, NULL);
     printf("%d %d %d %d\n", (int)seen[0], (int)seen[1], (int)seen[2], (int)seen[3]);
+#pragma acc exit data delete(a)
     return 0;
 }

@@ -55,5 +55,6 @@ int main(void)
     }
     pthread_join(thread, NULL);
     printf("the other met: %d, went on: %d\n%d %d %d\n", met, went_on, a[0], b[0], acc_is_present(c, sizeof c));
+#pragma acc exit data delete(c)
     return 0;
 }

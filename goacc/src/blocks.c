@@ -297,6 +297,7 @@ lwa_block *lwa_born(const lwa_item *item, uintptr_t device)
     block->bytes = lwa_shadow ? lwa_memory(NULL, block->len) : (uint8_t *)block->device;
     block->owns = lwa_shadow;
     block->root = block;
+    block->from = lwa_from();
     insert(block);
     return block;
 }
@@ -307,7 +308,7 @@ void lwa_map_part(lwa_block *root, uintptr_t at, size_t len, uintptr_t device)
 
     *part = (lwa_block){.at = at, .len = len, .told = root->told + (device - root->device), .device = device,
                         .bytes = root->bytes + (device - root->device), .mapped = true, .part = true, .root = root,
-                        .next = root->parts};
+                        .next = root->parts, .from = lwa_from()};
     root->parts = part;
     insert(part);
 }

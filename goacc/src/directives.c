@@ -1,6 +1,8 @@
 /*
  * Directives: for the items the call of the table that decides, and what follows from what it tells that each did.
  */
+#include <inttypes.h>
+#include <stdio.h>
 #include <stdlib.h>
 #include <string.h>
 
@@ -218,6 +220,30 @@ static void finish(lwa_directive *d, size_t i)
     }
 }
 
+/* Whether a refusal names an item. */
+static bool names_item(uint32_t status)
+{
+    return status == LW_OUT_OF_HOST || status == LW_MISALIGNED || status == LW_PARTLY_PRESENT
+        || status == LW_NOT_PRESENT || status == LW_COUNTER_FULL || status == LW_DEVICE_FULL;
+}
+
+_Noreturn static void refuse(const lwa_directive *d, const lw_fault *fault)
+{
+    const lwa_item *item = &d->items.at[fault->item];
+    char text[LWA_ITEM], name[LWA_NAME];
+    size_t used;
+
+    if (!names_item(fault->status)) {
+        lwa_refuse(fault, "");
+    }
+    lwa_item_text(item, text);
+    used = strlen(text);
+    if (!lwa_is_pointer(item) && lwa_variable_at(item->at, item->len, name)) {
+        snprintf(text + used, sizeof text - used, ", %zu bytes at %#" PRIxPTR, item->len, item->at);
+    }
+    lwa_refuse(fault, text);
+}
+
 /* Some items of a directive from one on; those of a region's end are told already. Answers the end of them, or 0 where
    there was no room on the device, or in shadow mode where they were refused. */
 static size_t act(lwa_directive *d, size_t first, size_t end)
@@ -248,7 +274,9 @@ static size_t act(lwa_directive *d, size_t first, size_t end)
     if (status != LW_DONE && lwa_may_refuse(&fault)) {
         return 0;
     }
-    lwa_must(status, &fault);
+    if (status != LW_DONE) {
+        refuse(d, &fault);
+    }
     lwa_must(lw_dids(lwa_table(), dids, end - first), &fault);
     for (size_t i = first; i < end; i++) {
         const size_t at = d->way == LWA_END_DATA ? first + end - 1 - i : i;

@@ -4,6 +4,7 @@
  * flags: -1, or -2 where an if clause is false, and then nothing is done on the device. async: a queue from 0 on, -1
  * for async without a number, -2 for none. The arguments behind the number of waits are their queues, -1 for all.
  */
+#include <stdio.h>
 #include <stdlib.h>
 
 #include "inner.h"
@@ -68,6 +69,15 @@ static lwa_region *outside_region(void)
     return region;
 }
 
+_Noreturn static void refuse_use(uintptr_t at, const lw_fault *absent)
+{
+    char name[LWA_NAME], text[LWA_ITEM];
+
+    lwa_section_text(at, 1, name);
+    snprintf(text, sizeof text, "use_device(%s)", name);
+    lwa_refuse(absent, text);
+}
+
 /* host_data: the program gets device addresses in place of its own. Answers whether the maps are those of host_data. */
 static bool use_device(const lwa_maps *maps)
 {
@@ -86,7 +96,7 @@ static bool use_device(const lwa_maps *maps)
             const lw_fault absent = {LW_NOT_PRESENT, i, 0};
 
             if (!lwa_may_refuse(&absent)) {
-                lwa_refuse(&absent);
+                refuse_use((uintptr_t)maps->at[i], &absent);
             }
         }
         if (block != NULL && lwa_shadow) {

@@ -27,6 +27,9 @@
 /* The bytes of a pointer, for the table as for the program. */
 #define LWA_POINTER 8
 
+/* The bytes of a name or of a place of the program at most. */
+#define LWA_NAME 256
+
 /* ---- What gcc passes, and what the table is told ---- */
 
 /* The maps of a directive. */
@@ -69,6 +72,7 @@ typedef struct lwa_block {
     bool open;      /* of a root in shadow mode: the table does not know its bytes */
     bool given;     /* and the program has its device address by host_data, and may write there */
     bool apart;     /* the runtime differed in whether it is there */
+    void *from;     /* the call that has mapped it */
 } lwa_block;
 
 /* One item of a directive, in the program's addresses and as the table is told. */
@@ -157,14 +161,19 @@ void lwa_end_table(void);
 /* Makes room for one more event. It stands before each call that may be one. */
 void lwa_room(void);
 
-/* The end of the program with status 1: for a refusal of the table, and for what this library does not serve. */
-_Noreturn void lwa_refuse(const lw_fault *fault);
+/* The end of the program with status 1: for a refusal of the table, of what is told behind it or of "", and for what
+   this library does not serve. */
+_Noreturn void lwa_refuse(const lw_fault *fault, const char *of);
 _Noreturn void lwa_unserved(const char *format, ...) __attribute__((format(printf, 1, 2)));
 
 /* Writes what a refusal says, as "11 NotPresent item 0", with a zero at its end; a status that is none of a table's
    refusals as its number. */
 #define LWA_REFUSAL 96
 void lwa_refusal_text(const lw_fault *told, char text[LWA_REFUSAL]);
+
+/* Where the call of the program returns to; and a place of the program as a text: its line, or where in its file. */
+void *lwa_from(void);
+void lwa_place_text(const void *from, char text[LWA_NAME]);
 
 /* A line on standard error about the call of the program; and the end of the program with status 1 behind it. */
 void lwa_say(const char *text);
@@ -182,6 +191,14 @@ void rattle_dealloc(void *at);
 
 /* Makes room for one more element of a list; room is how many it has room for. */
 void *lwa_grown(void *list, size_t count, size_t *room, size_t size);
+
+/* ---- names.c: the program's own words ---- */
+
+/* The line of the program that a call returns to, as "main.c:12"; and the variable that has some bytes, with the
+   section in elements where its type is known, as "a[2:4]". No, and an empty text: the program does not have them, or
+   libdw was not there when this library was built. */
+bool lwa_line_of(const void *from, char text[LWA_NAME]);
+bool lwa_variable_at(uintptr_t at, size_t len, char text[LWA_NAME]);
 
 /* ---- environment.c: the variables of the environment ---- */
 
@@ -276,8 +293,8 @@ bool lwa_step(uint64_t queue);
 /* Makes what waits in a queue, or in all. */
 void lwa_wait(uint64_t queue);
 
-/* Does something for each copy that waits. */
-void lwa_each_waiting(void (*act)(uint64_t queue, const lwa_block *block, uintptr_t at, size_t len, bool out));
+/* Does something for each copy that waits. from: the call that has put it. */
+void lwa_each_waiting(void (*act)(uint64_t queue, const void *from, uintptr_t at, size_t len, bool out));
 
 void lwa_forget_waiting(void);
 
@@ -319,6 +336,11 @@ void lwa_read_maps(const lwa_maps *maps, lwa_way way, lwa_directive *directive);
 
 /* Whether maps that say no more than that are of enter data, and not of exit data. */
 bool lwa_is_entry(const lwa_maps *maps);
+
+/* A section, and an item, in the program's words, or with its addresses: "a[2:4]", "copyin(a[2:4])". */
+#define LWA_ITEM (2 * LWA_NAME + 32)
+void lwa_section_text(uintptr_t at, size_t len, char text[LWA_NAME]);
+void lwa_item_text(const lwa_item *item, char text[LWA_ITEM]);
 
 /* ---- kernels.c ---- */
 

@@ -1,4 +1,6 @@
 /* What gcc passes to an entry point, as items of clauses: for each map an address, a size, and a kind. */
+#include <inttypes.h>
+#include <stdio.h>
 #include <string.h>
 
 #include "inner.h"
@@ -158,4 +160,36 @@ void lwa_read_maps(const lwa_maps *maps, lwa_way way, lwa_directive *directive)
         directive->option |= says_option(kind_of(maps, i), way);
         add_map(&directive->items, maps, i, way);
     }
+}
+
+/* ---- Items as texts ---- */
+
+void lwa_section_text(uintptr_t at, size_t len, char text[LWA_NAME])
+{
+    if (!lwa_variable_at(at, len, text)) {
+        snprintf(text, LWA_NAME, "%#" PRIxPTR ":%zu", at, len);
+    }
+}
+
+static void pointer_text(uintptr_t at, char text[LWA_NAME])
+{
+    if (!lwa_variable_at(at, LWA_POINTER, text)) {
+        snprintf(text, LWA_NAME, "%#" PRIxPTR, at);
+    }
+}
+
+void lwa_item_text(const lwa_item *item, char text[LWA_ITEM])
+{
+    char section[LWA_NAME], pointer[LWA_NAME] = "";
+
+    if (lwa_is_pointer(item)) {
+        pointer_text(item->at, section);
+    } else {
+        lwa_section_text(item->at, item->len, section);
+    }
+    if (item->pointer != 0) {
+        pointer_text(item->pointer, pointer);
+    }
+    snprintf(text, LWA_ITEM, "%s(%s%s%s)", lwa_clause_name(item->clause), section, item->pointer != 0 ? " via " : "",
+             pointer);
 }

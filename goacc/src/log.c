@@ -35,15 +35,39 @@ void lwa_start_log(void)
     memset(&OWN, 0, sizeof OWN);
 }
 
+/* The line of the program's call, where it is known, as "main.c:12: ". */
+static const char *place(void)
+{
+    static char text[LWA_NAME + 2];
+
+    if (lwa_line_of(lwa_from(), text)) {
+        strcat(text, ": ");
+    }
+    return text;
+}
+
 __attribute__((format(printf, 1, 2))) static void say(const char *format, ...)
 {
-    char text[512];
+    char text[512 + LWA_NAME];
     va_list words;
 
     va_start(words, format);
     vsnprintf(text, sizeof text, format, words);
     va_end(words);
-    fprintf(stderr, "lamwiest: %s\n", text);
+    fprintf(stderr, "lamwiest: %s%s\n", place(), text);
+}
+
+/* The variable that has some bytes, where it is known, as " name a[2:4]". */
+static const char *name(uintptr_t at, size_t len)
+{
+    static char text[LWA_NAME + 6];
+    char found[LWA_NAME];
+
+    text[0] = '\0';
+    if (lwa_variable_at(at, len, found)) {
+        snprintf(text, sizeof text, " name %s", found);
+    }
+    return text;
 }
 
 /* ---- Copies ---- */
@@ -61,13 +85,14 @@ static void say_copy(size_t item, const copy *c)
 
     if (c->queue == LW_NO_QUEUE_GIVEN) {
         count_copy(c);
-        say("  item %zu: copied %s %#" PRIxPTR " %zu at %#" PRIx64, item, way, c->at, c->len, c->place);
+        say("  item %zu: copied %s %#" PRIxPTR " %zu at %#" PRIx64 "%s", item, way, c->at, c->len, c->place,
+            name(c->at, c->len));
         return;
     }
     OWN.waiting = lwa_grown(OWN.waiting, OWN.count, &OWN.room, sizeof *OWN.waiting);
     OWN.waiting[OWN.count++] = *c;
-    say("  item %zu: put %s %#" PRIxPTR " %zu at %#" PRIx64 " queue %" PRIu64, item, way, c->at, c->len, c->place,
-        c->queue);
+    say("  item %zu: put %s %#" PRIxPTR " %zu at %#" PRIx64 " queue %" PRIu64 "%s", item, way, c->at, c->len, c->place,
+        c->queue, name(c->at, c->len));
 }
 
 void lwa_log_copies(const char *statement, uint64_t queue)
@@ -91,8 +116,8 @@ void lwa_log_made(uint64_t queue)
     if (i < OWN.count) {
         c = OWN.waiting[i];
         count_copy(&c);
-        say("  copied %s %#" PRIxPTR " %zu at %#" PRIx64 " queue %" PRIu64, c.out ? "out" : "in", c.at, c.len, c.place,
-            queue);
+        say("  copied %s %#" PRIxPTR " %zu at %#" PRIx64 " queue %" PRIu64 "%s", c.out ? "out" : "in", c.at, c.len,
+            c.place, queue, name(c.at, c.len));
         OWN.count--;
         memmove(&OWN.waiting[i], &OWN.waiting[i + 1], (OWN.count - i) * sizeof c);
     }
@@ -107,18 +132,12 @@ void lwa_log_directive(const lwa_directive *d)
     if (!lwa_logged) {
         return;
     }
-    fprintf(stderr, "lamwiest: %s", lwa_name_of(d->way));
+    fprintf(stderr, "lamwiest: %s%s", place(), lwa_name_of(d->way));
     for (size_t i = 0; !leaves && i < d->items.count; i++) {
-        const lwa_item *item = &d->items.at[i];
+        char text[LWA_ITEM];
 
-        fprintf(stderr, " %s(%#" PRIxPTR, lwa_clause_name(item->clause), item->at);
-        if (!lwa_is_pointer(item)) {
-            fprintf(stderr, ":%zu", item->len);
-        }
-        if (item->pointer != 0) {
-            fprintf(stderr, " via %#" PRIxPTR, item->pointer);
-        }
-        fputc(')', stderr);
+        lwa_item_text(&d->items.at[i], text);
+        fprintf(stderr, " %s", text);
     }
     if (d->option && !leaves) {
         fputs(d->way == LWA_UPDATE ? " if_present" : " finalize", stderr);
@@ -143,8 +162,8 @@ static void say_range(size_t i, const char *what, const lwa_block *block)
     lw_mapped_range range = {0};
 
     lw_range_at(lwa_table(), block->told, &range);
-    say("  item %zu: %s %#" PRIxPTR " %zu at %#" PRIx64 " structured %" PRIu64 " dynamic %" PRIu64, i, what, block->at,
-        block->len, range.place, range.structured, range.dynamic);
+    say("  item %zu: %s %#" PRIxPTR " %zu at %#" PRIx64 " structured %" PRIu64 " dynamic %" PRIu64 "%s", i, what,
+        block->at, block->len, range.place, range.structured, range.dynamic, name(block->at, block->len));
 }
 
 /* The copy of an item. */
@@ -162,12 +181,13 @@ static void say_pointer(const lwa_item *item, size_t i)
     const lw_item_did *did = &item->did;
 
     if (did->aim == LW_AIMED) {
-        say("  item %zu: attached %#" PRIxPTR " to %#" PRIx64 " count %" PRIu64, i, at, did->target, did->times);
+        say("  item %zu: attached %#" PRIxPTR " to %#" PRIx64 " count %" PRIu64 "%s", i, at, did->target, did->times,
+            name(at, LWA_POINTER));
     } else if (did->aim != 0) {
-        say("  item %zu: %s %#" PRIxPTR " count %" PRIu64, i, did->aim == LW_AIMED_AGAIN ? "attached" : "detached", at,
-            did->times);
+        say("  item %zu: %s %#" PRIxPTR " count %" PRIu64 "%s", i, did->aim == LW_AIMED_AGAIN ? "attached" : "detached",
+            at, did->times, name(at, LWA_POINTER));
     } else if (lwa_is_pointer(item)) {
-        say("  item %zu: unattached %#" PRIxPTR, i, at);
+        say("  item %zu: unattached %#" PRIxPTR "%s", i, at, name(at, LWA_POINTER));
     }
 }
 
@@ -180,7 +200,7 @@ static void say_nothing(const lwa_item *item, size_t i)
     } else if (item->block != NULL) {
         say_range(i, "kept", item->block);
     } else {
-        say("  item %zu: absent %#" PRIxPTR " %zu", i, item->at, item->len);
+        say("  item %zu: absent %#" PRIxPTR " %zu%s", i, item->at, item->len, name(item->at, item->len));
     }
 }
 
@@ -202,14 +222,16 @@ void lwa_log_item(const lwa_directive *d, size_t i)
         say_range(i, item->did.step == LW_BORN ? "mapped" : "counted", item->block);
         say_item_copy(d, item, i);
         if (item->did.way == 0 && lwa_copies_in(item->clause)) {
-            say("  item %zu: skipped in %#" PRIxPTR " %zu present", i, item->at, item->len);
+            say("  item %zu: skipped in %#" PRIxPTR " %zu present%s", i, item->at, item->len,
+                name(item->at, item->len));
         }
         say_pointer(item, i);
         break;
     case LW_DROPPED:
         say_pointer(item, i);
         if (item->back || item->clause == LW_COPYOUT) {
-            say("  item %zu: skipped out %#" PRIxPTR " %zu held", i, item->at, item->len);
+            say("  item %zu: skipped out %#" PRIxPTR " %zu held%s", i, item->at, item->len,
+                name(item->at, item->len));
         }
         say_range(i, "dropped", item->block);
         break;
@@ -217,8 +239,8 @@ void lwa_log_item(const lwa_directive *d, size_t i)
         OWN.ended++;
         say_pointer(item, i);
         say_item_copy(d, item, i);
-        say("  item %zu: ended %#" PRIxPTR " %zu at %#" PRIx64, i, item->block->at, item->block->len,
-            lwa_place_of(item->block, item->block->told));
+        say("  item %zu: ended %#" PRIxPTR " %zu at %#" PRIx64 "%s", i, item->block->at, item->block->len,
+            lwa_place_of(item->block, item->block->told), name(item->block->at, item->block->len));
         break;
     default:
         if (d->way != LWA_END_DATA || item->did.aim != 0) {
@@ -232,8 +254,8 @@ void lwa_log_item(const lwa_directive *d, size_t i)
 void lwa_log_loan(const char *what, const lwa_block *block)
 {
     if (lwa_logged) {
-        say("  %s %#" PRIxPTR " %zu at %#" PRIx64 " serial %" PRIu64, what, block->at, block->len,
-            lwa_place_of(block, block->told), block->lease);
+        say("  %s %#" PRIxPTR " %zu at %#" PRIx64 " serial %" PRIu64 "%s", what, block->at, block->len,
+            lwa_place_of(block, block->told), block->lease, name(block->at, block->len));
     }
 }
 
@@ -251,8 +273,8 @@ void lwa_log_refused(const lw_fault *fault)
 void lwa_finish_log(void)
 {
     if (lwa_logged) {
-        say("total mapped %" PRIu64 " ended %" PRIu64 " copied in %" PRIu64 " bytes %" PRIu64 " copied out %" PRIu64
-            " bytes %" PRIu64 " waiting %zu refused %" PRIu64, OWN.mapped, OWN.ended, OWN.copies[0], OWN.bytes[0],
-            OWN.copies[1], OWN.bytes[1], OWN.count, OWN.refused);
+        fprintf(stderr, "lamwiest: total mapped %" PRIu64 " ended %" PRIu64 " copied in %" PRIu64 " bytes %" PRIu64
+                " copied out %" PRIu64 " bytes %" PRIu64 " waiting %zu refused %" PRIu64 "\n", OWN.mapped, OWN.ended,
+                OWN.copies[0], OWN.bytes[0], OWN.copies[1], OWN.bytes[1], OWN.count, OWN.refused);
     }
 }

@@ -15,6 +15,7 @@ typedef struct waiting {
     size_t len;
     bool out;
     uint8_t *put; /* of a copy in, in shadow mode: the bytes when it was put */
+    void *from;   /* the call that has put it */
 } waiting;
 
 /* The copies of each device's queues that wait, in the order in which they were put. */
@@ -126,7 +127,7 @@ static void compare_put(const waiting *w)
 void lwa_put_waiting(uint64_t queue, lwa_block *block, uintptr_t at, size_t len, bool out)
 {
     OWN[queue].list = lwa_grown(OWN[queue].list, OWN[queue].end, &OWN[queue].room, sizeof(waiting));
-    OWN[queue].list[OWN[queue].end++] = (waiting){block, at, len, out, put_bytes(at, len, out)};
+    OWN[queue].list[OWN[queue].end++] = (waiting){block, at, len, out, put_bytes(at, len, out), lwa_from()};
     block->meets |= block->waiting++ != 0 && block->queue != queue && lwa_is_open(LWA_OPEN_QUEUES);
     block->queue = queue;
 }
@@ -196,13 +197,13 @@ void lwa_wait(uint64_t queue)
     }
 }
 
-void lwa_each_waiting(void (*act)(uint64_t queue, const lwa_block *block, uintptr_t at, size_t len, bool out))
+void lwa_each_waiting(void (*act)(uint64_t queue, const void *from, uintptr_t at, size_t len, bool out))
 {
     for (uint64_t queue = 0; queue < LWA_QUEUES; queue++) {
         for (size_t i = OWN[queue].first; i < OWN[queue].end; i++) {
             const waiting *w = &OWN[queue].list[i];
 
-            act(queue, w->block, w->at, w->len, w->out);
+            act(queue, w->from, w->at, w->len, w->out);
         }
     }
 }

@@ -41,6 +41,9 @@ static _Thread_local struct {
 } caller;
 _Thread_local bool lwa_in_kernel;
 
+/* A signal handler of the program has called, and may have interrupted what reads the program's lines. */
+static _Thread_local bool in_handler;
+
 lw_table *lwa_table(void)
 {
     return &tables[lwa_on];
@@ -133,6 +136,7 @@ void lwa_take_for(const char *name, void *from, int event, int construct)
     caller.construct = construct;
     pthread_setcancelstate(PTHREAD_CANCEL_DISABLE, &caller.cancel_state);
     if (has_lock) {
+        in_handler = true;
         lwa_unserved("this thread is in a directive already");
     }
     take_lock();
@@ -262,25 +266,37 @@ void lwa_room(void)
     stored[lwa_on]++;
 }
 
-/* Where the call stands in the program, as far as the dynamic linker knows. */
-static void print_source(void)
+void *lwa_from(void)
+{
+    return caller.from;
+}
+
+/* Without lines it is what the dynamic linker knows. */
+void lwa_place_text(const void *from, char text[LWA_NAME])
 {
     Dl_info info;
 
-    if (caller.from == NULL || dladdr(caller.from, &info) == 0 || info.dli_fname == NULL) {
-        fprintf(stderr, "\n");
-    } else if (info.dli_sname != NULL) {
-        fprintf(stderr, ", called from %s in %s\n", info.dli_sname, info.dli_fname);
+    if (!in_handler && lwa_line_of(from, text)) {
+        return;
+    }
+    text[0] = '\0';
+    if (from == NULL || dladdr(from, &info) == 0 || info.dli_fname == NULL) {
+        return;
+    }
+    if (info.dli_sname != NULL) {
+        snprintf(text, LWA_NAME, "%s in %s", info.dli_sname, info.dli_fname);
     } else {
-        fprintf(stderr, ", called from %s(+0x%tx)\n", info.dli_fname, (char *)caller.from - (char *)info.dli_fbase);
+        snprintf(text, LWA_NAME, "%s(+0x%tx)", info.dli_fname, (const char *)from - (char *)info.dli_fbase);
     }
 }
 
 void lwa_say(const char *text)
 {
+    char place[LWA_NAME];
+
+    lwa_place_text(caller.from, place);
     fflush(stdout);
-    fprintf(stderr, "lamwiest: %s: %s", caller.name, text);
-    print_source();
+    fprintf(stderr, "lamwiest: %s: %s%s%s\n", caller.name, text, place[0] != '\0' ? ", called from " : "", place);
 }
 
 /* Handlers of the end of the program run, but not a second time, and not in a kernel, which may have what they want. */
@@ -310,12 +326,13 @@ void lwa_refusal_text(const lw_fault *told, char text[LWA_REFUSAL])
     text[len] = '\0';
 }
 
-_Noreturn void lwa_refuse(const lw_fault *fault)
+_Noreturn void lwa_refuse(const lw_fault *fault, const char *of)
 {
-    char text[LWA_REFUSAL];
+    char refusal[LWA_REFUSAL], text[LWA_REFUSAL + LWA_ITEM];
 
-    lwa_refusal_text(fault, text);
+    lwa_refusal_text(fault, refusal);
     lwa_log_refused(fault);
+    snprintf(text, sizeof text, "%s%s%s", refusal, of[0] != '\0' ? ", " : "", of);
     lwa_end_program(text);
 }
 
@@ -333,7 +350,7 @@ _Noreturn void lwa_unserved(const char *format, ...)
 void lwa_must(uint32_t status, const lw_fault *fault)
 {
     if (status != LW_DONE) {
-        lwa_refuse(fault);
+        lwa_refuse(fault, "");
     }
 }
 

@@ -148,35 +148,35 @@ static void waiting(void)
     }
 }
 
-static void large(void)
+static void large(int bytes)
 {
-    char *p = malloc(LARGE);
+    char *p = malloc(bytes);
 
-    memset(p, 1, LARGE);
+    memset(p, 1, bytes);
     start();
     for (int i = 0; i < 100; i++) {
-#pragma acc enter data copyin(p[0:LARGE])
-#pragma acc exit data delete(p[0:LARGE])
+#pragma acc enter data copyin(p[0:bytes])
+#pragma acc exit data delete(p[0:bytes])
     }
-    told("copyin and delete of bytes", LARGE, 100);
-#pragma acc enter data copyin(p[0:LARGE])
+    told("copyin and delete of bytes", bytes, 100);
+#pragma acc enter data copyin(p[0:bytes])
     start();
     for (int i = 0; i < 100; i++) {
-#pragma acc parallel present(p[0:LARGE])
+#pragma acc parallel present(p[0:bytes])
         p[0]++;
     }
-    told("kernel on bytes", LARGE, 100);
+    told("kernel on bytes", bytes, 100);
     start();
     for (int i = 0; i < 100; i++) {
-#pragma acc update self(p[0:LARGE])
+#pragma acc update self(p[0:bytes])
     }
-    told("update self of bytes", LARGE, 100);
+    told("update self of bytes", bytes, 100);
     start();
     for (int i = 0; i < 100; i++) {
-#pragma acc update device(p[0:LARGE])
+#pragma acc update device(p[0:bytes])
     }
-    told("update device of bytes", LARGE, 100);
-#pragma acc exit data delete(p[0:LARGE])
+    told("update device of bytes", bytes, 100);
+#pragma acc exit data delete(p[0:bytes])
     free(p);
 }
 
@@ -189,6 +189,8 @@ int main(void)
     scalars();
     for_a_moment();
     waiting();
-    large();
+    for (int bytes = LARGE / 8; bytes <= LARGE; bytes *= 2) {
+        large(bytes);
+    }
     return 0;
 }

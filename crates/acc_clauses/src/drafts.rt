@@ -23,7 +23,7 @@ pub(crate) struct Draft {
     // Where the range stood that each of them changes, when it was judged. No contract speaks of it: it is looked at, and
     // not trusted.
     places: [Place; 64],
-    // Where the ranges stood that the tasks of earlier directives changed too.
+    // Where the ranges may stand that tasks of this and of earlier directives named.
     recent: Recent,
     // What they do.
     dids: Slate<Did>,
@@ -109,7 +109,7 @@ impl Draft {
         }
     }
 
-    /// What was judged is forgotten.
+    /// What was judged is forgotten. The places stay, for the directives that follow.
     pub(crate) fn clear(&mut self)
         ensures { self.new ≡ [] }
     {
@@ -121,8 +121,8 @@ impl Draft {
         self.outline = Outline::new();
     }
 
-    /// One more task was judged. The range that it changes may stand at the place. Where it maps one, that comes right
-    /// behind it.
+    /// One more task was judged. The range that it changes may stand at the place. Where it maps one, that mostly comes
+    /// right behind it.
     #[inline(always)]
     pub(crate) fn push(&mut self, x: Acted, place: Place)
         requires { length self.old < 64 }

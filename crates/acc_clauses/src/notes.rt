@@ -67,7 +67,7 @@ fn holding_by(x: &Acted) -> Option<Holding>
     }
 }
 
-/// How many holdings a region has that is entered by the tasks of a directive, one for each; 0 where none is entered.
+/// How many holdings the region gets that a directive enters: one for each of its tasks. It is 0 where none is entered.
 pub fn count_holdings(directive: &Directive, acts: &[Acted]) -> u64
     requires asked { (left : List Holding) × (tasks_with directive.now left ≡ tasks_in acts.now) }
     ensures { result ≡ length (holdings_by (tasks_in acts.now) (dids_in acts.now)) }

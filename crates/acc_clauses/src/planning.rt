@@ -35,9 +35,9 @@ fn enter_data_task(item: Item<EnterClause>, queue: Option<u64>) -> Task
     }
 }
 
-/// Judges each of so many tasks of a directive as if those before it had acted, where the region that it leaves holds
-/// these. The task at a place, counted from 0, is told by a closure of the kind of the directive: so its code is that of
-/// this kind.
+/// Judges the tasks of a directive, of which there are `count`, each as if those before it had acted. The region that it
+/// leaves holds these. A closure tells the task at a place, counted from 0. There is one for each kind of directive, so
+/// its code is that of the kind.
 #[inline(always)]
 fn judge_each<F: Fn(usize) -> Task>(
     view: &View<'_>,

@@ -20,7 +20,7 @@ pub struct Neighbors<'a, K, T> {
     pub before: Option<KeyValueRef<'a, K, T>>,
     /// The entry of least key from it on.
     pub from: Option<KeyValueRef<'a, K, T>>,
-    /// Where the entry before it stands, if there is one.
+    /// Where the entry before it stands. Where there is none, it is of no meaning.
     pub place: Place,
 }
 

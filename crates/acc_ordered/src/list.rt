@@ -124,11 +124,11 @@ impl<K: Key, T: Copy> OrderedList<K, T> {
         self.rows.is_empty()
     }
 
-    /// The entries on both sides of a key, which are looked for first right behind a place, and then at it. That is by at
-    /// most two steps for each binary digit of the number of entries, and one at least where there are entries. A step is a halving of the list of rows, or the look into one row. Not
-    /// counted are the keys compared in that row, and among the up to 64 rows that are left: at most fifteen each. Nor is
-    /// the one that tells which end of the list is searched, nor the four beside the place that is looked at first. At
-    /// most 2^32 were counted before.
+    /// The entries on both sides of a key. They are looked for first right behind a place, and then at it. It takes at
+    /// most two steps for each binary digit of the number of entries, and at least one where there are entries. A step
+    /// is a halving of the list of rows, or the look into one row. Not counted are the keys compared in that row, and
+    /// among the up to 64 rows that are left: at most fifteen each. Nor is the one that tells which end of the list is
+    /// searched, nor the up to four beside the place. At most 2^32 were counted before.
     #[inline]
     pub fn around_counted(&self, key: K, near: Place, steps: &mut Steps) -> Neighbors<'_, K, T>
         requires limit { steps.old ≤ 2 ^ 32 }

@@ -2,15 +2,16 @@
 
 /// Where an entry may stand.
 ///
-/// Any value may be handed in, and no contract speaks of it. A call that is handed one and a key looks there first, and
-/// searches where the entry of that key is not there.
+/// Any value may be handed in, and no contract speaks of it. A call that takes one and a key looks there first, or right
+/// behind it. It searches where that is not the place of the key. No entry stands at the default, so with it such a call
+/// searches at once.
 #[derive(Clone, Copy, Debug, PartialEq, Eq)]
 pub struct Place {
     pub(crate) row: usize,
     pub(crate) at: usize,
 }
 
-// No entry stands there, which one comparison tells.
+// One comparison tells that no row has this number.
 impl Default for Place {
     fn default() -> Place {
         Place {

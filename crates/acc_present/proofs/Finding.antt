@@ -169,11 +169,6 @@ last_has P k (x ∷ rs) r all e = go (last_has P k rs r all.1) (last_below k rs)
 pub last_own : (k : ℕ) (rs : List Range) (r : Range) → AreMapped rs → last_below k rs ≡ Some r → range_of r.block rs ≡ Some r
 last_own k rs r m e = last_has (λ (t : Range). range_of t.block rs ≡ Some t) k rs r (at-own block_of rs m.own_block) e
 
--- where there is one
-pub last_owns : (k : ℕ) (rs : List Range) (o : Option Range) → AreMapped rs → last_below k rs ≡ o → IfSome o (λ r. range_of r.block rs ≡ Some r)
-last_owns k rs None m e = tt
-last_owns k rs (Some r) m e = last_own k rs r m e
-
 -- ranges that end before a section say nothing of it
 skip_all : (s : Section) (blocks : List ℕ) (front rs : List Range) → 0 < s.len → AllByRecursion (λ (r : Range). 0 < r.section.len) (front ++ rs) → AllByRecursion (λ (r : Range). end_of r.section ≤ s.start) front → where_is_apart s blocks (front ++ rs) ≡ where_is_apart s blocks rs
 skip_all s blocks [] rs some lens ends = refl

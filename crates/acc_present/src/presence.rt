@@ -179,6 +179,7 @@ impl Present {
     {
         self.laws();
         let range = self.range_at(near)?;
+        // As `told_by` says, by fewer comparisons.
         if section.len == 0 || !within(section, range.section) || is_listed(blocks, range.block) {
             return None;
         }
@@ -192,7 +193,7 @@ impl Present {
         })
     }
 
-    /// Where a section lies, as [`Present::find_range_apart`] says, by a search.
+    /// Where a section lies, as [`Present::find_range_apart`] says, by a search, which begins at a place.
     #[inline(always)]
     fn search_apart(&self, section: Section, blocks: &[u64], near: Place) -> Located
         ensures found { result.found ≡ where_is_apart section blocks.now self.now.table.ranges }
@@ -238,9 +239,9 @@ impl Present {
         (Found::Absent, None)
     }
 
-    /// Where a section lies among the ranges without those of the listed blocks, as far as the last range says that does
-    /// not begin behind the section's start, with that range. Else the first range that does, and where that last range
-    /// stands, which is looked for first at a place.
+    /// Where a section lies among the ranges without those of the listed blocks, as far as one range says: the last that
+    /// does not begin behind the section's start. With it comes that range. Else it is the first range behind it, and
+    /// where the last one may stand. The last one is looked for first at a place.
     #[inline(always)]
     fn locate(
         &self,
@@ -327,7 +328,7 @@ impl Present {
     }
 
     /// The range that is mapped to a block, if one is, as [`Present::range`] returns it, and where it stands. It is not
-    /// searched for where it stands at the place.
+    /// searched for where it stands at the place. Where none is mapped, the place is of no meaning.
     #[inline(always)]
     pub fn range_near(&self, block: u64, near: Place) -> (Option<Range>, Place)
         ensures { result.0 ≡ range_of block self.now.table.ranges }

@@ -70,7 +70,7 @@ impl Devices {
         }
     }
 
-    /// Puts another device in use than the one that is, which stands apart then.
+    /// Puts a device in use that stands apart. The one that was in use stands apart then.
     #[inline(never)]
     fn change(&mut self, device: u64)
         requires there { device < length self.old.spares.items }

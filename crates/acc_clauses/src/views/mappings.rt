@@ -37,7 +37,7 @@ impl View<'_> {
     }
 
     /// The range that is mapped to a block, if one is, and where it stands. It is not searched for where it stands at the
-    /// place.
+    /// place. Where none is mapped, the place is of no meaning.
     #[inline(always)]
     pub(crate) fn range_near(&self, block: u64, near: Place) -> (Option<Range>, Place)
         ensures { result.0 ≡ range_of block self.now.state.records.ranges }

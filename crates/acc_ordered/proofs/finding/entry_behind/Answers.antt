@@ -1,5 +1,4 @@
 use Rattle.std.proofs.Common.{◌≡◌, ◌+◌, ◌<◌, length, sym, ◌∙◌, arith}
-use Rattle.std.proofs.lemmas.Bool.Decides.{nat_tests}
 use Rattle.acc_ordered.specs.Listing.{entry_in}
 use Rattle.acc_ordered.proofs.Laying.{entry_in_row, row_bound}
 use Rattle.acc_ordered.proofs.Reading.{read_past, read_next}

@@ -56,18 +56,28 @@ static uint64_t address(size_t n)
     return LW_HOST_BASE + APART * (uint64_t)n;
 }
 
-static void map(uint32_t clause, size_t n)
+static void map_at(uint32_t clause, uint64_t start)
 {
-    lw_item item = {.clause = clause, .start = address(n), .len = LEN};
+    lw_item item = {.clause = clause, .start = start, .len = LEN};
 
     must(lw_enter_data(&table, &item, 1, LW_NO_QUEUE_GIVEN, &fault), "enter data");
 }
 
-static void unmap(size_t n)
+static void map(uint32_t clause, size_t n)
 {
-    lw_item item = {.clause = LW_DELETE, .start = address(n), .len = LEN};
+    map_at(clause, address(n));
+}
+
+static void unmap_at(uint64_t start)
+{
+    lw_item item = {.clause = LW_DELETE, .start = start, .len = LEN};
 
     must(lw_exit_data(&table, &item, 1, 0, LW_NO_QUEUE_GIVEN, &fault), "exit data");
+}
+
+static void unmap(size_t n)
+{
+    unmap_at(address(n));
 }
 
 /* ---- What is timed ---- */
@@ -101,6 +111,23 @@ static void birth_there(uint64_t round)
     char *p = arrays + APART * (size_t)MOST;
 
     (void)round;
+    acc_copyin(p, LEN);
+    acc_delete(p, LEN);
+}
+
+/* Right behind one of the others, and each time behind another one. */
+static void between_here(uint64_t round)
+{
+    uint64_t start = address(one_of(round, count)) + LEN;
+
+    map_at(LW_COPYIN, start);
+    unmap_at(start);
+}
+
+static void between_there(uint64_t round)
+{
+    char *p = arrays + APART * one_of(round, count) + LEN;
+
     acc_copyin(p, LEN);
     acc_delete(p, LEN);
 }
@@ -177,6 +204,7 @@ typedef struct job {
 static const job jobs[] = {
     {"pair on present bytes", present_here, present_there, ROUNDS},
     {"birth and its end", birth_here, birth_there, ROUNDS},
+    {"birth between others", between_here, between_there, ROUNDS},
     {"update of 16 bytes", update_here, update_there, ROUNDS},
     {"region over eight", region_here, region_there, ROUNDS / FEW},
     {"64 items and back", many_here, many_there, ROUNDS / MANY},
@@ -248,7 +276,7 @@ int main(void)
             acc_copyin(arrays + APART * count, LEN);
         }
         for (size_t j = 0; j < sizeof jobs / sizeof *jobs; j++) {
-            if (count >= FEW || j < 3) {
+            if (count >= FEW || j < 4) {
                 compare(&jobs[j]);
             }
         }

@@ -44,8 +44,9 @@ pub(crate) struct TableData {
     pub(crate) base: Base,
     // The events since the base.
     pub(crate) trace: Vec<Event>,
-    // What was planned last; it stands here so that no call has to make one.
-    plan: Plan,
+    // What was planned last; it stands here so that no call has to make one. It is large, and so in a box: less of the
+    // stack is taken while a table is made.
+    plan: Box<Plan>,
 }
 
 impl Model for Table {
@@ -69,12 +70,13 @@ fn new_data(alloc: Global, config: Config) -> Result<TableData, Fault>
     config.laws();
     let devices = Devices::new(alloc, &config)?;
     let base = devices.base(alloc, &config, 0)?;
+    let plan = Box::new(alloc, Plan::new())?;
     Ok(TableData {
         config,
         devices,
         base,
         trace: Vec::new(alloc),
-        plan: Plan::new(),
+        plan,
     })
 }
 
@@ -197,7 +199,7 @@ impl Table {
         let data = &mut *self.data;
         data.devices.select(device);
         let store = &mut data.devices.store;
-        carry_out(store, &mut data.trace, &mut data.plan, directive)
+        carry_out(store, &mut data.trace, &mut *data.plan, directive)
     }
 
     /// There is a ticket for one more event.

@@ -1,6 +1,6 @@
 -- What a directive asks, and the verdict on it.
-use Rattle.std.proofs.Common.{ℕ, zero, suc, ◌≡◌, ◌<◌, ◌≤◌, refl, ap, subst, ◌∙◌, true, false, List, [], ◌∷◌, ◌++◌, length, length-append, get_or, arith, Option, None, Result, Ok, Err, inl, inr}
-use Rattle.std.specs.Prelude.{nat_lt, map, reverse, ⊤, MatchResult}
+use Rattle.std.proofs.Common.{ℕ, zero, suc, ◌≡◌, ◌<◌, ◌≤◌, refl, sym, ap, subst, ◌∙◌, true, false, List, [], ◌∷◌, ◌++◌, length, length-append, get_or, arith, Option, None, Result, Ok, Err, inl, inr}
+use Rattle.std.specs.Prelude.{nat_lt, map, reverse, ⊤, MatchResult, OnOk}
 use Rattle.std.proofs.lemmas.Bool.Decides.{nat_tests}
 use Rattle.std.proofs.lemmas.List.{length-map, length-reverse}
 use Rattle.std.specs.List.{list_all, list_any, AllByRecursion}
@@ -21,7 +21,7 @@ use Rattle.acc_base.proofs.Results.{refused_not}
 use Rattle.acc_base.proofs.Elements.{found_has}
 use Rattle.acc_clauses.specs.declared.acted.Acted.{Acted}
 use Rattle.acc_clauses.specs.Overlays.{AreUnmixed, AreQueuesNamed, enters, tasks_in, dids_in}
-use Rattle.acc_clauses.specs.Planned.{HasFewHoldings, asked_of, holding_by, holdings_by}
+use Rattle.acc_clauses.specs.Planned.{HasFewHoldings, IsPlanOf, asked_of, holding_by, holdings_by}
 
 -- ---- tasks of one kind
 
@@ -143,6 +143,18 @@ plan_told l d s holdings dids (Err fault) few own left q judged lent = plan_judg
 -- what is asked of what the region holds that is left
 pub asked_left : (d : Directive) (g : Register) (holdings : List Holding) → few_items d ≡ Ok tt → holdings_left d g ≡ Ok holdings → asked_of d g ≡ Ok (tasks_with d holdings)
 asked_left d g holdings few left = rw (few, left) refl
+
+-- the plan of these tasks is the directive's, where no transfer that it makes is of a block that is lent
+pub planned : (l : Limits) (d : Directive) (s : State) (holdings : List Holding) (xs : List Acted) (r : Result ⊤ Fault) → asked_of d s.register ≡ Ok (tasks_with d holdings) → tasks_in xs ≡ tasks_with d holdings → length (tasks_with d holdings) ≤ 64
+    → queue_named (queue_in d) ≡ Ok tt → judge_all l 0 (tasks_with d holdings) s ≡ Ok (dids_in xs) → r ≡ none_lent (transfers_in d s.records.queues) s.records.loans → OnOk r (IsPlanOf l d s (record { tasks = tasks_in xs; dids = dids_in xs }))
+planned l d s holdings xs (Err fault) asked same few known judged free = tt
+planned l d s holdings xs (Ok x) asked same few known judged free = record {
+  asked = rw same asked;
+  few = rw same few;
+  known = known;
+  judged = rw same judged;
+  free = sym free;
+}
 
 pub ruleset event_laws = (plan_many, plan_closed, asked_left)
 

@@ -1,10 +1,8 @@
 -- The births and ends that a draft notes, after one more task.
 use Rattle.std.proofs.lemmas.Bool.Decides.{nat_tests}
-use Rattle.std.proofs.Common.{ℕ, ◌≡◌, ◌+◌, ◌<◌, ◌≤◌, refl, sym, ap, subst, ◌∙◌, List, [], ◌∷◌, ◌++◌, length, arith, Option, None, Some}
-use Rattle.std.specs.Prelude.{IsSome, option_to_list}
-use Rattle.std.proofs.lemmas.Bool.{false≢true}
-use Rattle.std.proofs.lemmas.List.{append-nil, append_assoc, length-append, length-map, same_from_push}
-use Rattle.acc_clauses.specs.Words.{Task, Did, Aim, Step}
+use Rattle.std.proofs.Common.{ℕ, ◌≡◌, ◌+◌, ◌<◌, ◌≤◌, refl, sym, ap, subst, ◌∙◌, List, [], ◌∷◌, ◌++◌, length, arith}
+use Rattle.std.proofs.lemmas.List.{append-nil, append_assoc, length-append, length-map}
+use Rattle.acc_clauses.specs.Words.{Task, Aim, Step}
 use Rattle.acc_clauses.specs.declared.acted.Acted.{Acted}
 use Rattle.acc_base.specs.declared.events.Step.TheVariants.{Born}
 use Rattle.acc_base.specs.Tasks.{section_of}
@@ -12,7 +10,6 @@ use Rattle.acc_clauses.specs.Spans.{AreSpans}
 use Rattle.acc_clauses.specs.Acts.{lens_born}
 use Rattle.acc_clauses.proofs.Spanned.{spans-none}
 use Rattle.acc_clauses.specs.Overlays.{IsDraft, tasks_in, dids_in, birth_by, births_of, lens_of, end_by, ended_of, with_aim}
-use Rattle.acc_clauses.proofs.Turns.{dids_in-push}
 
 births_of-append : (xs ys : List Acted) → births_of (xs ++ ys) ≡ births_of xs ++ births_of ys
 births_of-append [] ys = refl
@@ -49,18 +46,9 @@ pub length-ended_of : (xs : List Acted) → length (ended_of xs) ≤ length xs
 length-ended_of [] = omega arith
 length-ended_of (x ∷ xs) = omega (arith, length-ended_of xs, length-end_by x.did.step, length-append (end_by x.did.step) (ended_of xs))
 
--- there is a place for what one more task does
-pub few_dids : (xs : List Acted) (dids : List Did) (lens : List ℕ) (spans : List (ℕ × ℕ)) (ended : List ℕ) → IsDraft xs dids lens spans ended → length xs < 64 → length dids < 64
-few_dids xs dids lens spans ended draft few = let same : length dids ≡ length xs = ap length draft.dids_are ∙ length-map xs (λ (x : Acted). x.did) in omega (arith, same, few)
-
--- and for one more length
-pub few_lens : (xs : List Acted) (dids : List Did) (lens : List ℕ) (spans : List (ℕ × ℕ)) (ended : List ℕ) → IsDraft xs dids lens spans ended → length xs < 64 → length lens < 64
-few_lens xs dids lens spans ended draft few = let same : length lens ≡ length (births_of xs) = ap length draft.lens_are ∙ length-map (births_of xs) (λ (b : ℕ × ℕ). b.1) in omega (arith, same, few, length-births_of xs)
-
--- what all tasks but the last do
-pub dids_before : (xs : List Acted) (x : Acted) (dids : List Did) (last : Option Did) → (0 < length (dids_in (xs ++ x ∷ [])) → IsSome last) → dids_in (xs ++ x ∷ []) ≡ dids ++ option_to_list last → dids ≡ dids_in xs
-dids_before xs x dids None some e = let more : 0 < length (dids_in (xs ++ x ∷ [])) = rw (dids_in-push xs x) (omega (arith, length-append (dids_in xs) (x.did ∷ []))) in absurd (false≢true (some more))
-dids_before xs x dids (Some d) some e = sym (same_from_push (dids_in xs) dids x.did d (sym (dids_in-push xs x) ∙ e)).0
+-- there is a place for one more length
+pub few_lens : (xs : List Acted) (lens : List ℕ) (spans : List (ℕ × ℕ)) (ended : List ℕ) → IsDraft xs lens spans ended → length xs < 64 → length lens < 64
+few_lens xs lens spans ended draft few = let same : length lens ≡ length (births_of xs) = ap length draft.lens_are ∙ length-map (births_of xs) (λ (b : ℕ × ℕ). b.1) in omega (arith, same, few, length-births_of xs)
 
 -- the lengths that births have
 pub lens_born-births : (xs : List Acted) → lens_born (tasks_in xs) (dids_in xs) ≡ lens_of (births_of xs)
@@ -68,11 +56,10 @@ lens_born-births [] = refl
 lens_born-births (x ∷ xs) = grind (arith, nat_tests, lens_born-births xs)
 
 -- a draft with one more task that gives birth to none
-pub drafted : (xs : List Acted) (x : Acted) (dids dids' : List Did) (lens : List ℕ) (spans : List (ℕ × ℕ)) (ended ended' : List ℕ) (step : Step) → IsDraft xs dids lens spans ended → length xs < 64 → dids' ≡ dids ++ x.did ∷ []
-    → x.did.step ≡ step → birth_by x.task step ≡ [] → ended' ≡ ended ++ end_by step → IsDraft (xs ++ x ∷ []) dids' lens spans ended'
-drafted xs x dids dids' lens spans ended ended' step draft few did is none e =
+pub drafted : (xs : List Acted) (x : Acted) (lens : List ℕ) (spans : List (ℕ × ℕ)) (ended ended' : List ℕ) (step : Step) → IsDraft xs lens spans ended → length xs < 64
+    → x.did.step ≡ step → birth_by x.task step ≡ [] → ended' ≡ ended ++ end_by step → IsDraft (xs ++ x ∷ []) lens spans ended'
+drafted xs x lens spans ended ended' step draft few is none e =
     let same : births_of (xs ++ x ∷ []) ≡ births_of xs = grind (arith, nat_tests, births_of-push, append-nil) in record {
-      dids_are = did ∙ ap (λ ds. ds ++ x.did ∷ []) draft.dids_are ∙ sym (dids_in-push xs x);
       lens_are = draft.lens_are ∙ ap lens_of (sym same);
       spans_are = subst (λ (bs : List (ℕ × ℕ)). AreSpans bs spans) (sym same) draft.spans_are;
       few_spans = draft.few_spans;
@@ -81,11 +68,10 @@ drafted xs x dids dids' lens spans ended ended' step draft few did is none e =
     }
 
 -- and with one that does
-pub drafted_birth : (xs : List Acted) (x : Acted) (block place : ℕ) (dids dids' : List Did) (lens lens' : List ℕ) (spans spans' : List (ℕ × ℕ)) (ended : List ℕ) → IsDraft xs dids lens spans ended → length xs < 64 → dids' ≡ dids ++ x.did ∷ []
-    → x.did.step ≡ Born block place → lens' ≡ lens ++ (section_of x.task).len ∷ [] → AreSpans (births_of xs ++ (place, (section_of x.task).len) ∷ []) spans' → length spans' ≤ length spans + 1 → IsDraft (xs ++ x ∷ []) dids' lens' spans' ended
-drafted_birth xs x block place dids dids' lens lens' spans spans' ended draft few did is len are most =
+pub drafted_birth : (xs : List Acted) (x : Acted) (block place : ℕ) (lens lens' : List ℕ) (spans spans' : List (ℕ × ℕ)) (ended : List ℕ) → IsDraft xs lens spans ended → length xs < 64
+    → x.did.step ≡ Born block place → lens' ≡ lens ++ (section_of x.task).len ∷ [] → AreSpans (births_of xs ++ (place, (section_of x.task).len) ∷ []) spans' → length spans' ≤ length spans + 1 → IsDraft (xs ++ x ∷ []) lens' spans' ended
+drafted_birth xs x block place lens lens' spans spans' ended draft few is len are most =
     let more : births_of (xs ++ x ∷ []) ≡ births_of xs ++ (place, (section_of x.task).len) ∷ [] = grind (arith, nat_tests, births_of-push) in record {
-      dids_are = did ∙ ap (λ ds. ds ++ x.did ∷ []) draft.dids_are ∙ sym (dids_in-push xs x);
       lens_are = len ∙ ap (λ ls. ls ++ (section_of x.task).len ∷ []) draft.lens_are ∙ sym (lens_of-push (births_of xs) (place, (section_of x.task).len)) ∙ ap lens_of (sym more);
       spans_are = subst (λ (bs : List (ℕ × ℕ)). AreSpans bs spans') (sym more) are;
       few_spans = rw len (omega (arith, draft.few_spans, most, length-append lens ((section_of x.task).len ∷ [])));
@@ -94,11 +80,10 @@ drafted_birth xs x block place dids dids' lens lens' spans spans' ended draft fe
     }
 
 -- its births and ends are those of its steps, whatever became of the last pointer
-pub drafted_aimed : (xs : List Acted) (x : Acted) (aim : Aim) (dids : List Did) (lens : List ℕ) (spans : List (ℕ × ℕ)) (ended : List ℕ) → IsDraft (xs ++ x ∷ []) dids lens spans ended
-    → IsDraft (xs ++ with_aim aim x ∷ []) (dids_in xs ++ (with_aim aim x).did ∷ []) lens spans ended
-drafted_aimed xs x aim dids lens spans ended draft =
+pub drafted_aimed : (xs : List Acted) (x : Acted) (aim : Aim) (lens : List ℕ) (spans : List (ℕ × ℕ)) (ended : List ℕ) → IsDraft (xs ++ x ∷ []) lens spans ended
+    → IsDraft (xs ++ with_aim aim x ∷ []) lens spans ended
+drafted_aimed xs x aim lens spans ended draft =
     let same : births_of (xs ++ with_aim aim x ∷ []) ≡ births_of (xs ++ x ∷ []) = births_of-push xs (with_aim aim x) ∙ sym (births_of-push xs x) in record {
-      dids_are = sym (dids_in-push xs (with_aim aim x));
       lens_are = draft.lens_are ∙ ap lens_of (sym same);
       spans_are = subst (λ (bs : List (ℕ × ℕ)). AreSpans bs spans) (sym same) draft.spans_are;
       few_spans = draft.few_spans;

@@ -87,10 +87,8 @@ ended_of (x ∷ xs) = end_by x.did.step ++ ended_of xs
 abbrev pub lens_of : List (ℕ × ℕ) → List ℕ
 lens_of births = map (λ (b : ℕ × ℕ). b.1) births
 
--- what a draft notes beside its tasks: what they do, the lengths of the births among them, the spans that those take,
--- and the ends
-pub record IsDraft (xs : List Acted) (dids : List Did) (lens : List ℕ) (spans : List (ℕ × ℕ)) (ended : List ℕ) : Type 0 where
-  pub dids_are : dids ≡ dids_in xs
+-- what a draft notes beside its tasks: the lengths of the births among them, the spans that those take, and the ends
+pub record IsDraft (xs : List Acted) (lens : List ℕ) (spans : List (ℕ × ℕ)) (ended : List ℕ) : Type 0 where
   pub lens_are : lens ≡ lens_of (births_of xs)
   pub spans_are : AreSpans (births_of xs) spans
   pub few_spans : length spans ≤ length lens

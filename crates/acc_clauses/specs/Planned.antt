@@ -17,11 +17,10 @@ use Rattle.acc_base.specs.Acting.{judge_task, judge_all, after}
 use Rattle.acc_clauses.specs.declared.acted.Acted.{Acted}
 use Rattle.acc_clauses.specs.Overlays.{state_after}
 
--- the tasks of a directive in the order in which they act, and what each does; and what its items do, in written order
+-- the tasks of a directive in the order in which they act, and what each does
 pub record Planned : Type 0 where
   pub tasks : List Task
   pub dids : List Did
-  pub written : List Did
 
 -- what a directive asks, in the order in which it acts; too many items are refused before all else
 abbrev pub asked_of : Directive → Register → Result (List Task) Fault
@@ -32,11 +31,6 @@ abbrev pub in_written_order : Directive → List Did → List Did
 in_written_order (directives.Exit number) dids = reverse dids
 in_written_order _ dids = dids
 
--- what the items did, in written order, from what was noted of them turned round, and from what they did as they acted
-abbrev pub told_of : List Did → List Did → List Did
-told_of [] dids = dids
-told_of (did ∷ turned) dids = did ∷ turned
-
 -- the plan is what judging the directive in this state found. The directive asks at most 64 tasks, and the plan has
 -- what they do. There is the queue that it names. No transfer that it makes is of a block that is lent
 pub record IsPlanOf (l : Limits) (d : Directive) (s : State) (p : Planned) : Type 0 where
@@ -45,7 +39,6 @@ pub record IsPlanOf (l : Limits) (d : Directive) (s : State) (p : Planned) : Typ
   pub known : queue_named (queue_in d) ≡ Ok tt
   pub judged : judge_all l 0 p.tasks s ≡ Ok p.dids
   pub free : none_lent (transfers_in d s.records.queues) s.records.loans ≡ Ok tt
-  pub written : p.written ≡ in_written_order d p.dids
 
 -- the draft has one task more, which does what it is judged to do in what those before it leave of this state
 pub record IsJudgedNext (l : Limits) (n : ℕ) (task : Task) (s : State) (xs ys : List Acted) : Type 0 where

@@ -22,19 +22,6 @@ use acc_dev::Device;
 use acc_host::HostMem;
 use acc_present::{Place, Present};
 
-/// Raises a counter of the range that is mapped to a block. It is not searched for where it stands at the place.
-#[inline(always)]
-fn raise(present: &mut Present, counter: Counter, block: u64, near: Place)
-    requires there { HasRange present.old.table block }
-    requires below { counter_of counter block present.old.table.ranges < present.old.table.counter_max }
-    ensures table { present.new.table ≡ with_ranges present.old.table (changed_at block (risen counter) present.old.table.ranges) }
-    ensures room { IsRoomKept present.old.room present.new.room }
-{
-    let Ok(()) = present.count_near(counter, block, near) else {
-        unreachable!()
-    };
-}
-
 /// Changes the counters of the range that is mapped to a block as the task does (OpenACC 3.3, section 2.6.7). It is not
 /// searched for where it stands at the place.
 #[inline(always)]
@@ -44,7 +31,11 @@ fn recount(present: &mut Present, task: &Task, block: u64, near: Place)
     ensures room { IsRoomKept present.old.room present.new.room }
 {
     match *task {
-        Task::Enter { counter, .. } => raise(present, counter, block, near),
+        Task::Enter { counter, .. } => {
+            let Ok(()) = present.count_near(counter, block, near) else {
+                unreachable!()
+            };
+        }
         Task::ExitRegion { .. } => present.drop_near(Counter::Structured, block, near),
         Task::ExitData { finalize: true, .. } => present.clear_near(block, near),
         Task::ExitData {

@@ -2,7 +2,7 @@
 
 ghost use Rattle.std.specs.Prelude.{List, [], ◌∷◌, ◌++◌, ◌≡◌, ◌<◌, ◌≤◌, length, true};
 ghost use Rattle.acc_clauses.specs.Words.{Counters, Found};
-ghost use Rattle.acc_clauses.specs.Overlays.{IsDraft, dids_in, births_of, lens_of, ended_of, with_aim, found_over, counters_over};
+ghost use Rattle.acc_clauses.specs.Overlays.{IsDraft, births_of, lens_of, ended_of, with_aim, found_over, counters_over};
 ghost use Rattle.acc_clauses.specs.Spans.{AreSpans};
 ghost use Rattle.acc_clauses.specs.declared.acted.Acted.{Acted};
 
@@ -25,8 +25,6 @@ pub(crate) struct Draft {
     places: [Place; 64],
     // Where the ranges may stand that tasks of this and of earlier directives named.
     recent: Recent,
-    // What they do.
-    dids: Slate<Did>,
     // The lengths of the blocks that they give birth to.
     lens: Slate<u64>,
     // The addresses that those take.
@@ -47,25 +45,23 @@ impl Model for Draft {
 
     ghost view = { λ d. d.acts };
 
-    ghost invariant = { λ d. IsDraft d.acts d.dids d.lens d.spans d.ended × IsOutlined d.acts d.outline };
+    ghost invariant = { λ d. IsDraft d.acts d.lens d.spans d.ended × IsOutlined d.acts d.outline };
 }
 
 // Notes the birth or the end that the task makes, after these tasks.
 #[tactic(auto, using(crate::proofs::Drafted::tally_laws))]
 #[inline(always)]
 fn tally(
-    dids: &mut Slate<Did>,
     lens: &mut Slate<u64>,
     spans: &mut Slate<(u64, u64)>,
     ended: &mut Slate<u64>,
     x: Acted,
     acts: &[Acted],
 )
-    requires draft { IsDraft acts.now dids.old lens.old spans.old ended.old }
+    requires draft { IsDraft acts.now lens.old spans.old ended.old }
     requires few { length acts.now < 64 }
-    ensures { IsDraft (acts.now ++ x ∷ []) dids.new lens.new spans.new ended.new }
+    ensures { IsDraft (acts.now ++ x ∷ []) lens.new spans.new ended.new }
 {
-    dids.push(x.did);
     match x.did.step {
         Step::Born { place, .. } => {
             let len = section_of(x.task).len;
@@ -101,7 +97,6 @@ impl Draft {
             acts: Slate::new(),
             places: [Place::default(); 64],
             recent: Recent::new(),
-            dids: Slate::new(),
             lens: Slate::new(),
             spans: Slate::new(),
             ended: Slate::new(),
@@ -114,7 +109,6 @@ impl Draft {
         ensures { self.new ≡ [] }
     {
         self.acts.clear();
-        self.dids.clear();
         self.lens.clear();
         self.spans.clear();
         self.ended.clear();
@@ -132,7 +126,6 @@ impl Draft {
         self.recent
             .note(section_of(x.task).start, place_left(x.did.step, place));
         tally(
-            &mut self.dids,
             &mut self.lens,
             &mut self.spans,
             &mut self.ended,
@@ -153,8 +146,6 @@ impl Draft {
                 aim,
             };
             self.acts.push(Acted { task: x.task, did });
-            let _ = self.dids.pop();
-            self.dids.push(did);
         }
     }
 
@@ -175,14 +166,6 @@ impl Draft {
     #[inline(always)]
     pub(crate) fn near(&self, start: u64) -> Place {
         self.recent.near(start)
-    }
-
-    /// What they do.
-    pub(crate) fn dids(&self) -> &[Did]
-        ensures value { result.now ≡ dids_in self.now }
-        ensures few { length result.now ≤ 64 }
-    {
-        self.dids.as_slice()
     }
 
     /// The lengths of the blocks that they give birth to, one after the other.

@@ -1,31 +1,13 @@
-//! What tasks did in written order, and what the region holds that they enter.
+//! What the region holds that tasks enter.
 
 ghost use Rattle.std.specs.Prelude.{List, ◌≡◌, ◌≤◌, [], length, vec_capacity, option_to_list};
 ghost use Rattle.acc_base.specs.Judge.{tasks_with};
 ghost use Rattle.acc_base.specs.Walk.{block_counted, pointer_attached};
 ghost use Rattle.acc_clauses.specs.Overlays.{tasks_in, dids_in};
-ghost use Rattle.acc_clauses.specs.Planned.{told_of, in_written_order, holding_by, holdings_by};
+ghost use Rattle.acc_clauses.specs.Planned.{holding_by, holdings_by};
 
 use crate::acted::Acted;
-use acc_base::{Aim, Counter, Did, Directive, Holding, Step, Task};
-use arrayvec::ArrayVec;
-
-/// Notes what the tasks of the exit from a region do, where they are several: turned round, since the last item acts
-/// first. Of other directives they stand as they act, and nothing is noted.
-pub fn note_turned(turned: &mut ArrayVec<Did, 64>, directive: &Directive, dids: &[Did])
-    requires { length dids.now ≤ 64 }
-    ensures { told_of turned.new.items dids.now ≡ in_written_order directive.now dids.now }
-{
-    turned.clear();
-    if let Directive::Exit { .. } = directive {
-        if dids.len() > 1 {
-            for did in dids {
-                turned.push(*did);
-            }
-            turned.reverse();
-        }
-    }
-}
+use acc_base::{Aim, Counter, Directive, Holding, Step, Task};
 
 // The block that a step counted.
 fn block_counted(step: Step) -> Option<u64>

@@ -14,7 +14,6 @@ ghost use Rattle.acc_clauses.specs.Acts.{regions_entered};
 use crate::drafts::Draft;
 use crate::items::judge;
 use crate::lending::transfers_free;
-use crate::notes::note_turned;
 use crate::plans::Plan;
 use crate::views::View;
 use acc_base::{Counter, Directive, EnterClause, Fault, Holding, Item, QUEUE_COUNT, Task};
@@ -256,6 +255,5 @@ pub(crate) fn plan(view: &View<'_>, directive: &Directive, plan: &mut Plan) -> R
     let holdings = holdings_left(view, directive)?;
     check_queue(queue_in(directive))?;
     judge_all(view, directive, holdings, &mut plan.draft)?;
-    note_turned(&mut plan.turned, directive, plan.draft.dids());
     transfers_free(view, directive)
 }

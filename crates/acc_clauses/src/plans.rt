@@ -6,66 +6,44 @@ ghost use Rattle.acc_clauses.specs.Acts.{lens_born};
 
 use crate::acted::Acted;
 use crate::drafts::Draft;
-use acc_base::Did;
-use acc_present::Place;
-use arrayvec::ArrayVec;
 use std::marker::Model;
 
 /// A directive that was judged whole: what each of its items will do.
 ///
-/// All of it lies in the value, some 35 KiB: room for 64 items, and 16 KiB of places that it remembers. So a plan that is
+/// All of it lies in the value, some 28 KiB: room for 64 items, and 16 KiB of places that it remembers. So a plan that is
 /// used again costs nothing to make, and finds again what it found.
 #[derive(Drop)]
 pub struct Plan {
     pub(crate) draft: Draft,
-    // What its tasks do in written order, where that is not the order in which they act.
-    pub(crate) turned: ArrayVec<Did, 64>,
 }
 
 impl Model for Plan {
     ghost use Rattle.acc_clauses.specs.Overlays.{tasks_in, dids_in};
-    ghost use Rattle.acc_clauses.specs.Planned.{Planned, told_of};
+    ghost use Rattle.acc_clauses.specs.Planned.{Planned};
 
     ghost Value = { Planned };
 
-    ghost view = { λ p. record { tasks = tasks_in p.draft; dids = dids_in p.draft; written = told_of p.turned.items (dids_in p.draft) } };
+    ghost view = { λ p. record { tasks = tasks_in p.draft; dids = dids_in p.draft } };
 }
 
 impl Plan {
     /// A plan of nothing, to be filled by [`crate::Store::plan`]. It allocates nothing.
     pub fn new() -> Self
-        ensures { result ≡ record { tasks = []; dids = []; written = [] } }
+        ensures { result ≡ record { tasks = []; dids = [] } }
     {
         Plan {
             draft: Draft::new(),
-            turned: ArrayVec::new(),
         }
     }
 
-    /// Its tasks in the order in which they act, each with what it does.
-    pub(crate) fn acts(&self) -> &[Acted]
+    /// Its tasks in the order in which they act, each with what it does. It allocates nothing.
+    #[inline(always)]
+    pub fn acts(&self) -> &[Acted]
         ensures tasks { tasks_in result.now ≡ self.now.tasks }
         ensures dids { dids_in result.now ≡ self.now.dids }
         ensures few { length result.now ≤ 64 }
     {
         self.draft.acts()
-    }
-
-    /// Where the range may stand that each of its tasks changes, by the order in which they act.
-    pub(crate) fn places(&self) -> &[Place; 64] {
-        self.draft.places()
-    }
-
-    /// What each item does, in the order in which the directive or the region names them. It allocates nothing.
-    #[inline(always)]
-    pub fn did(&self) -> &[Did]
-        ensures { result.now ≡ self.now.written }
-    {
-        if self.turned.is_empty() {
-            self.draft.dids()
-        } else {
-            &self.turned
-        }
     }
 
     /// The lengths of the blocks that its tasks give birth to, one after the other.

@@ -17,16 +17,6 @@ use crate::views::View;
 use acc_base::{Counters, Found, Range, Section};
 use acc_present::Located;
 
-/// Where a section lies after the tasks.
-#[tactic(auto, using(crate::proofs::Laws::plan_laws))]
-pub(crate) fn found_after(view: &View<'_>, draft: &Draft, section: Section) -> Found
-    requires planned { IsPlanned view.now.limits draft.now view.now.state.records }
-    requires unmixed { AreUnmixed (tasks_in draft.now) }
-    ensures { result ≡ where_is section (records_after draft.now view.now.state.records).ranges }
-{
-    locate_after(view, draft, section).found
-}
-
 /// Where a section lies after the tasks, and what was found on the way among the ranges before them.
 #[tactic(auto, using(crate::proofs::Laws::plan_laws))]
 #[inline(always)]

@@ -167,7 +167,12 @@ impl Store {
         ensures state { self.new.state ≡ state_by self.old.limits.full (verdict_of self.old.limits.number directive.now self.old.state plan.now.dids) self.old.state }
     {
         self.device.laws();
-        act_all(&mut self.device, &mut self.host, plan.acts(), plan.places());
+        act_all(
+            &mut self.device,
+            &mut self.host,
+            plan.acts(),
+            plan.draft.places(),
+        );
         finish(
             &mut self.device,
             &mut self.host,

@@ -10,7 +10,7 @@ ghost use Rattle.acc_clauses.specs.Overlays.{IsPlanned, AreUnmixed, tasks_in, re
 
 use crate::aim_effects::{count_over, place_over, value_over};
 use crate::drafts::Draft;
-use crate::readings::found_after;
+use crate::readings::locate_after;
 use crate::sections::pointer_at;
 use crate::views::View;
 use acc_base::{Found, Section};
@@ -21,7 +21,7 @@ pub(crate) fn block_after(view: &View<'_>, draft: &Draft, pointer: u64) -> Optio
     requires unmixed { AreUnmixed (tasks_in draft.now) }
     ensures { result ≡ block_with pointer (records_after draft.now view.now.state.records).ranges }
 {
-    match found_after(view, draft, pointer_at(pointer)) {
+    match locate_after(view, draft, pointer_at(pointer)).found {
         Found::Inside { block, .. } => Some(block),
         Found::Empty | Found::Partly | Found::Absent => None,
     }
@@ -48,7 +48,7 @@ pub(crate) fn address_after(view: &View<'_>, draft: &Draft, address: u64) -> Opt
         start: address,
         len: 1,
     };
-    match found_after(view, draft, only) {
+    match locate_after(view, draft, only).found {
         Found::Inside { block, offset } => {
             let place = place_over(block, view.place(block), draft.acts());
             Some(place + offset)

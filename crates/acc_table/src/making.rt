@@ -6,12 +6,13 @@ ghost use Rattle.acc_base.specs.Limits.{recorded};
 ghost use Rattle.acc_base.specs.Bytes.{host_after_write};
 ghost use Rattle.acc_base.specs.Judge.{plan_of, written};
 ghost use Rattle.acc_clauses.specs.Acts.{CanWrite, HasPlanRoom, lens_born};
-ghost use Rattle.acc_clauses.specs.Planned.{IsPlanOf, state_by};
+ghost use Rattle.acc_clauses.specs.Overlays.{dids_in};
+ghost use Rattle.acc_clauses.specs.Planned.{IsPlanOf, in_written_order, state_by};
 ghost use Rattle.acc_table.specs.Making.{is_idle, number_told, event_told, reply_told, apart_of, planned_verdict, MayBeToldOf, IsCommitted, IsAsBefore};
 
 use crate::calls::Reply;
 use acc_base::{Did, Directive, Event, Fault, List};
-use acc_clauses::{Plan, Store};
+use acc_clauses::{Acted, Plan, Store};
 use std::alloc::{AllocError, Global};
 
 /// Whether the directive is the step of an empty queue, with which there is nothing to do.
@@ -108,24 +109,32 @@ fn reply_told(directive: &Directive, number: u64) -> Reply
     }
 }
 
-/// Of what the items do, what stands in memory of its own: all of it, but nothing where that is of one item.
-fn copy_apart(alloc: Global, did: &[Did]) -> Result<Vec<Did>, AllocError>
-    ensures { IfOk result (λ apart. apart.items ≡ apart_of did.now) }
+/// Of what the items do, in written order, what stands in memory of its own: all of it, but nothing where that is of one
+/// item. On the exit from a region the last item acts first.
+fn copy_apart(alloc: Global, directive: &Directive, acts: &[Acted]) -> Result<Vec<Did>, AllocError>
+    ensures { IfOk result (λ apart. apart.items ≡ apart_of (in_written_order directive.now (dids_in acts.now))) }
 {
-    match did {
-        [_] => Ok(Vec::new(alloc)),
-        _ => Vec::from_slice(alloc, did),
+    if acts.len() == 1 {
+        return Ok(Vec::new(alloc));
     }
+    let mut apart = Vec::with_capacity(alloc, acts.len())?;
+    for x in acts {
+        apart.push_reserved(x.did);
+    }
+    if let Directive::Exit { .. } = directive {
+        apart.reverse();
+    }
+    Ok(apart)
 }
 
-/// The list of what the items do, of which this stands in memory of its own.
+/// The list of what the items do, in written order, of which this stands in memory of its own.
 #[inline(always)]
-fn list_of(did: &[Did], apart: Vec<Did>) -> List<Did>
-    requires { apart.items ≡ apart_of did.now }
-    ensures { result ≡ did.now }
+fn list_of(directive: &Directive, acts: &[Acted], apart: Vec<Did>) -> List<Did>
+    requires { apart.items ≡ apart_of (in_written_order directive.now (dids_in acts.now)) }
+    ensures { result ≡ in_written_order directive.now (dids_in acts.now) }
 {
-    match did {
-        [only] => List::one(*only),
+    match acts {
+        [only] => List::one(only.did),
         _ => List::from_vec(apart),
     }
 }
@@ -140,14 +149,14 @@ fn make_room(
 ) -> Result<Vec<Did>, Fault>
     requires { IsPlanOf store.old.limits directive.now store.old.state plan.now }
     ensures same { IsAsBefore store.old store.new trace.old.items trace.new.items }
-    ensures apart { IfOk result (λ apart. apart.items ≡ apart_of plan.now.written) }
+    ensures apart { IfOk result (λ apart. apart.items ≡ apart_of (in_written_order directive.now plan.now.dids)) }
     ensures room { OnOk result (HasPlanRoom directive.now plan.now store.new.room) }
     ensures births { OnOk result (store.new.room.births ≡ lens_born plan.now.tasks plan.now.dids) }
     ensures refused { OnErr result (store.old.room.births ≡ [] → store.new.room.births ≡ []) }
     ensures place { OnOk result (vec_len trace.new < vec_capacity trace.new) }
     ensures only { IfErr result (λ fault. fault ≡ Memory) }
 {
-    let apart = copy_apart(*trace.allocator(), plan.did())?;
+    let apart = copy_apart(*trace.allocator(), directive, plan.acts())?;
     trace.reserve(1)?;
     store.reserve(directive, plan)?;
     Ok(apart)
@@ -171,7 +180,7 @@ fn prepare(
     ensures judged { OnOk result (plan_of store.old.limits directive.now store.old.state ≡ Ok (planned_verdict directive.now plan.new store.old)) }
     ensures planned { OnOk result (IsPlanOf store.new.limits directive.now store.new.state plan.new) }
     ensures idle { IfOk result (λ apart. is_none apart ≡ is_idle directive.now store.old.state) }
-    ensures apart { IfOk result (λ told. IfSome told (λ apart. apart.items ≡ apart_of plan.new.written)) }
+    ensures apart { IfOk result (λ told. IfSome told (λ apart. apart.items ≡ apart_of (in_written_order directive.now plan.new.dids))) }
     ensures room { IfOk result (λ told. IfSome told (λ _. HasPlanRoom directive.now plan.new store.new.room)) }
     ensures place { IfOk result (λ told. IfSome told (λ _. vec_len trace.new < vec_capacity trace.new)) }
     ensures refused { IfErr result (MayBeToldOf (plan_of store.old.limits directive.now store.old.state)) }
@@ -203,7 +212,7 @@ fn enact(
     ensures planned { OnOk result (IsPlanOf store.old.limits directive.now store.old.state plan.new) }
     ensures idle { IfOk result (λ told. is_none told ≡ is_idle directive.now store.old.state) }
     ensures number { IfOk result (λ told. IfSome told (λ t. t.0 ≡ number_told directive.now store.old.state)) }
-    ensures apart { IfOk result (λ told. IfSome told (λ t. t.1.items ≡ apart_of plan.new.written)) }
+    ensures apart { IfOk result (λ told. IfSome told (λ t. t.1.items ≡ apart_of (in_written_order directive.now plan.new.dids))) }
     ensures place { IfOk result (λ told. IfSome told (λ _. vec_len trace.new < vec_capacity trace.new)) }
     ensures limits { store.new.limits ≡ store.old.limits }
     ensures state { OnOk result (store.new.state ≡ state_by store.old.limits.full (planned_verdict directive.now plan.new store.old) store.old.state) }
@@ -244,7 +253,7 @@ pub fn carry_out(
     match enact(store, trace, plan, &directive) {
         Ok(Some((number, apart))) => {
             let reply = reply_told(&directive, number);
-            let did = list_of(plan.did(), apart);
+            let did = list_of(&directive, plan.acts(), apart);
             trace.push_reserved(event_told(store.number(), directive, number, did));
             Ok(reply)
         }

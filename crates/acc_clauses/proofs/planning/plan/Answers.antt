@@ -1,6 +1,6 @@
 use Rattle.std.proofs.Common.{ap, sym, ◌∙◌, rules}
 use Rattle.acc_base.specs.Queues.{queue_named}
-use Rattle.acc_clauses.proofs.Asking.{left_fit, queues_there, plan_elsewhere, plan_unqueued, plan_refused, plan_told}
+use Rattle.acc_clauses.proofs.Asking.{left_fit, queues_there, asked_left, planned, plan_elsewhere, plan_unqueued, plan_refused, plan_told}
 use Rattle.acc_clauses.proofs.planning.plan.Goals as goal
 
 pub judge_all-requires-clause-few : goal.judge_all-requires-clause-few
@@ -35,3 +35,13 @@ pub returns-clause-judged : goal.returns-clause-judged
 returns-clause-judged c =
     let known = ap queue_named (sym c.queue_in.ensures) ∙ sym c.in_ok-check_queue.ensures in
     plan_told c.args.view.now.limits c.args.directive.now c.args.view.now.state _ _ c.transfers_free.result (sym c.in_ok-check_items.ensures) (sym c.in_ok-check_device.ensures) c.in_ok-holdings.ensures known c.in_ok-judge_all.ensures.judged c.transfers_free.ensures
+
+pub returns-clause-planned : goal.returns-clause-planned
+returns-clause-planned c =
+    let d = c.args.directive.now in
+    let s = c.args.view.now.state in
+    let few = sym c.in_ok-check_items.ensures in
+    let left = c.in_ok-holdings.ensures in
+    let known = ap queue_named (sym c.queue_in.ensures) ∙ sym c.in_ok-check_queue.ensures in
+    let judged = c.in_ok-judge_all.ensures in
+    planned c.args.view.now.limits d s _ c.judge_all.new.draft c.transfers_free.result (asked_left d s.register _ few left) judged.asked (left_fit d s.register _ c.requires.register few left).few known judged.judged c.transfers_free.ensures

@@ -19,7 +19,7 @@ returns-in-Ok-Some-clause-done c =
     let busy : is_idle d s ≡ false = sym (rw c.in-Ok-Some.field-0-is at e.idle) in
     let told_number = rw c.in-Ok-Some.field-0-is at e.number in
     let number : c.in-Ok-Some.number ≡ number_told d s = cc (told_number, c.in-Ok-Some.number-is) in
-    let written : c.list_of-did.result ≡ in_written_order d dids = c.list_of-did.ensures ∙ (c.did.ensures ∙ e.planned.written) in
+    let written : c.list_of-did.result ≡ in_written_order d dids = c.list_of-did.ensures ∙ ap (in_written_order d) c.acts.ensures.dids in
     let made : verdict_of k d s dids ≡ Makes (event_told k d (number_told d s) did) = told k d s dids busy ∙ ap (λ ds. Makes (event_told k d (number_told d s) ds)) (sym written) in
     let event : c.event_told.result ≡ event_told k d (number_told d s) did = c.event_told.ensures ∙ (ap (λ m. event_told m d c.in-Ok-Some.number did) own ∙ ap (λ n. event_told k d n did) number) in
     subst (λ (v : Verdict). IsCommitted v c.reply_told-reply.result c.args.store.now c.enact.new.store c.args.trace.now.items c.push_reserved.new.self.items) (sym made) (record {

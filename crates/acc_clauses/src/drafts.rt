@@ -20,8 +20,7 @@ use std::marker::Model;
 #[derive(Drop)]
 pub(crate) struct Draft {
     acts: Slate<Acted>,
-    // Where the range stood that each of them changes, when it was judged. No contract speaks of it: it is looked at, and
-    // not trusted.
+    // Where the range stood that each of them changes, when it was judged: it is looked at, and not trusted.
     places: [Place; 64],
     // Where the ranges may stand that tasks of this and of earlier directives named.
     recent: Recent,
@@ -115,8 +114,7 @@ impl Draft {
         self.outline = Outline::new();
     }
 
-    /// One more task was judged. The range that it changes may stand at the place. Where it maps one, that mostly comes
-    /// right behind it.
+    /// One more task was judged. The range that it changes may stand at the place, or where it maps one, right behind it.
     #[inline(always)]
     pub(crate) fn push(&mut self, x: Acted, place: Place)
         requires { length self.old < 64 }

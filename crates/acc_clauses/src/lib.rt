@@ -38,6 +38,7 @@ mod targets;
 mod transfers;
 mod views;
 
+pub use acc_present::Place;
 pub use acted::Acted;
 pub use bases::{Base, DeviceBase};
 pub use planning::{check_items, device_named};

@@ -350,11 +350,14 @@ impl Present {
         (range, place)
     }
 
-    /// The mapped range of least start at or above an address.
-    pub fn next_range(&self, from: u64) -> Option<Range>
-        ensures { result ≡ range_from from self.now.table.ranges }
+    /// The mapped range of least start at or above an address, and where it stands. It is looked for first at a place and
+    /// right behind it.
+    #[inline]
+    pub fn next_range(&self, from: u64, near: Place) -> (Option<Range>, Place)
+        ensures { result.0 ≡ range_from from self.now.table.ranges }
     {
-        range_if(self.ranges.next(from))
+        let (found, place) = self.ranges.next_near(from, near);
+        (range_if(found), place)
     }
 
     /// Maps a section to a block. The section is absent, and no range is mapped to the block. Both counters of the new

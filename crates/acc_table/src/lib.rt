@@ -16,7 +16,7 @@ mod rebasing;
 mod runs;
 mod tables;
 
-pub use acc_clauses::{Base, DeviceBase};
+pub use acc_clauses::{Base, DeviceBase, Place};
 pub use acc_lend::Lease;
 pub use calls::{Answer, Call, Mapped, Reply, Turn, abandon, abandon_all};
 pub use rebasing::Folded;

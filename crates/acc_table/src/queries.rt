@@ -18,7 +18,7 @@ ghost use Rattle.acc_table.specs.Queries.{is_inside, counters_of_section, mapped
 use crate::calls::Mapped;
 use crate::tables::Table;
 use acc_base::{Attachment, Config, Counters, Directive, Ended, Event, Found, Free, Hole, Section};
-use acc_clauses::{Base, View, device_named};
+use acc_clauses::{Base, Place, View, device_named};
 
 fn is_inside(found: Found) -> bool
     ensures { result ≡ is_inside found }
@@ -136,16 +136,27 @@ impl Table {
         ensures least { IsLeastFrom from (view device self.now.state).records.ranges result }
     {
         self.laws();
+        let (mapped, _) = self.mapped_near(device, from, Place::default())?;
+        Some(mapped)
+    }
+
+    /// As [`Table::mapped`], and where that range stands. It is looked for first at a place and right behind it. So a
+    /// caller that hands in where the last one stood finds all ranges without a search.
+    pub fn mapped_near(&self, device: u64, from: u64, near: Place) -> Option<(Mapped, Place)>
+        ensures { option_map (λ found. found.0) result ≡ mapped_from from (view device self.now.state).records }
+    {
         let view = self.on(device)?;
-        let range = view.next_range(from)?;
-        Some(Mapped {
+        let (range, place) = view.next_range(from, near);
+        let range = range?;
+        let mapped = Mapped {
             start: range.section.start,
             len: range.section.len,
             place: view.place(range.block),
             structured: range.structured,
             dynamic: range.dynamic,
             lent: view.is_lent(range.block),
-        })
+        };
+        Some((mapped, place))
     }
 
     /// The bytes of a section of host memory, as many as it is long; an empty one has none, wherever it starts. `None`

@@ -29,11 +29,12 @@ impl View<'_> {
             .find_range_apart(section, blocks, near)
     }
 
-    /// The mapped range of least start at or above a host address, if there is one.
-    pub fn next_range(&self, from: u64) -> Option<Range>
-        ensures { result ≡ range_from from self.now.state.records.ranges }
+    /// The mapped range of least start at or above a host address, and where it stands. A place is looked at first.
+    #[inline]
+    pub fn next_range(&self, from: u64, near: Place) -> (Option<Range>, Place)
+        ensures { result.0 ≡ range_from from self.now.state.records.ranges }
     {
-        self.environment.present.next_range(from)
+        self.environment.present.next_range(from, near)
     }
 
     /// The range that is mapped to a block, if one is, and where it stands. It is not searched for where it stands at the

@@ -8,4 +8,4 @@ use Rattle.acc_present.proofs.Mapping.{first_value}
 use Rattle.acc_present.proofs.presence.Present.next_range.Goals as goal
 
 pub returns : goal.returns
-returns c = c.range_if.ensures ∙ ap (λ (o : Option (KeyValue Range)). option_map (λ (e : KeyValue Range). e.value) o) c.next.ensures ∙ first_value c.args.from c.self.inside.ranges.entries c.self.invariant.2.keyed ∙ ap (λ (p : PresentState). range_from c.args.from p.table.ranges) c.self.view_is
+returns c = c.range_if.ensures ∙ ap (λ (o : Option (KeyValue Range)). option_map (λ (e : KeyValue Range). e.value) o) c.next_near.ensures ∙ first_value c.args.from c.self.inside.ranges.entries c.self.invariant.2.keyed ∙ ap (λ (p : PresentState). range_from c.args.from p.table.ranges) c.self.view_is

@@ -10,7 +10,7 @@ _accrun() {
     fi
     case $before in
     --explain=) words='auto always never' ;;
-    --emit | --emit=) words=c ;;
+    --emit | --emit=) words='c fortran' ;;
     --trace | --trace=) words='counts full' ;;
     *)
         if [[ $word != -* ]]; then return; fi

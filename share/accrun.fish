@@ -2,7 +2,7 @@
 for option in (accrun --help | string replace -rf '^ +(?:-., )?--([a-z-]+).*' '$1')
     switch $option
         case emit
-            complete -c accrun -l $option -x -a c
+            complete -c accrun -l $option -x -a 'c fortran'
         case trace
             complete -c accrun -l $option -x -a 'counts full'
         case explain

@@ -101,7 +101,7 @@ fn do_asked<
         told: &mut told,
     };
     let ending = match options.expect {
-        Some(name) if !options.emit => compared(rt, options, name, reader, ends),
+        Some(name) if options.emit.is_none() => compared(rt, options, name, reader, ends),
         _ => carried_out(rt, options, reader, ends),
     };
     match flushed(out, ending) {
@@ -170,7 +170,7 @@ fn carried_out<
     }
     match options.out {
         Some(folder) => emit_all(rt, options, folder, ends),
-        None if options.emit => emit_script(rt, options, reader, ends),
+        None if options.emit.is_some() => emit_script(rt, options, reader, ends),
         None if options.svg == Some("-") || options.html == Some("-") => {
             run_shown(rt, options, reader, ends)
         }

@@ -2,6 +2,7 @@
 
 use crate::emitters::Emitter;
 use crate::faults::EmitFault;
+use crate::languages::Language;
 use crate::marks::Marks;
 use crate::pointers::{POINTER_LEN, bytes_at, is_attached, pointer_section};
 use crate::sheets::Sheet;
@@ -35,8 +36,8 @@ pub fn emit_bytes(
         wanted,
         ..
     } = emitter;
-    start_question(sheet, if on_device { "peek" } else { "show" }, section)?;
-    put_length(sheet, section.len);
+    let question = if on_device { "peek" } else { "show" };
+    start_question(sheet, question, section)?;
     sheet.need(section.len);
     let bytes = bytes_at(&own.table, section, on_device);
     let others = bytes_at(&twin.table, section, on_device);
@@ -71,7 +72,6 @@ pub fn emit_present(emitter: &mut Emitter, section: Section) -> Result<(), EmitF
     let is_present = emitter.own.table.is_present(DEVICE, section);
     let Emitter { sheet, wanted, .. } = emitter;
     start_question(sheet, "present", section)?;
-    put_length(sheet, section.len);
     let word: &[u8] = if is_present { b"yes" } else { b"no" };
     put_answer(sheet, wanted.line().unwrap_or(word));
     Ok(())
@@ -80,8 +80,13 @@ pub fn emit_present(emitter: &mut Emitter, section: Section) -> Result<(), EmitF
 /// Puts the line that has to come, and ends the question.
 fn put_answer(sheet: &mut Sheet, line: &[u8]) {
     sheet.body.text(", \"");
-    put_literal(&mut sheet.body, line);
-    sheet.body.text("\");\n");
+    put_literal(sheet, line);
+    end_answer(sheet);
+}
+
+fn end_answer(sheet: &mut Sheet) {
+    sheet.body.text("\"");
+    sheet.end_call();
 }
 
 /// Puts the bytes that have to come, and that the twin has too: those of the line that is given, if one is. A byte that is
@@ -104,28 +109,28 @@ fn put_bytes(
         if *byte != *other || marks.is_open(section.start.saturating_add(at)) {
             sheet.body.text("??");
         } else if let Some(digits) = digits {
-            put_literal(&mut sheet.body, digits);
+            put_literal(sheet, digits);
         } else {
             sheet.body.digits(&[*byte]);
         }
     }
-    sheet.body.text("\");\n");
+    end_answer(sheet);
 }
 
 fn put_break(sheet: &mut Sheet, is_first: bool) {
-    sheet.body.text(if is_first { ",\n" } else { "\"\n" });
+    let (c, fortran) = if is_first {
+        (",\n", ", &\n")
+    } else {
+        ("\"\n", "\" // &\n")
+    };
+    sheet.body.text(sheet.language.pick(c, fortran));
     sheet.start("    \"");
 }
 
 fn start_question(sheet: &mut Sheet, call: &str, section: Section) -> Result<(), EmitFault> {
-    sheet.start_call(call);
+    sheet.start_question(call);
     sheet.body.text(", ");
-    sheet.put_address(section)
-}
-
-fn put_length(sheet: &mut Sheet, length: u64) {
-    sheet.body.text(", ");
-    sheet.body.number(length);
+    sheet.put_argument(section)
 }
 
 /// Puts a question for each pointer of a section whose target is known.
@@ -158,19 +163,18 @@ fn put_pointer(
     is_attached: bool,
 ) -> Result<(), EmitFault> {
     let (show, peek) = ("show_pointer", "peek_pointer");
-    start_question(
-        sheet,
-        if on_device { peek } else { show },
-        pointer_section(place),
-    )?;
+    sheet.start_question(if on_device { peek } else { show });
+    sheet.body.text(", ");
+    sheet.put_start(pointer_section(place))?;
     let address = if is_attached {
         "acc_deviceptr"
     } else {
-        "(void *)"
+        sheet.language.pick("(void *)", "c_loc")
     };
     let _ = write!(sheet.body, ", {address}(");
-    sheet.put_byte_address(target)?;
-    sheet.body.text("));\n");
+    sheet.put_byte(target)?;
+    sheet.body.text(")");
+    sheet.end_call();
     Ok(())
 }
 
@@ -228,17 +232,22 @@ pub fn emit_comment(alloc: Global, emitter: &mut Emitter, effect: Effect) -> Res
 }
 
 fn put_comment(sheet: &mut Sheet, text: &[u8]) {
-    sheet.start("/* no program can see this; the table says:\n");
+    sheet.start_remark();
+    sheet
+        .body
+        .text("no program can see this; the table says:\n");
     let mut rest = text;
     for _ in 0..text.len() {
         if rest.is_empty() {
             break;
         }
         let (line, after) = next_line(rest);
-        sheet.start("     ");
+        sheet.start(sheet.language.pick("     ", "!    "));
         sheet.body.bytes(line);
         sheet.body.text("\n");
         rest = after;
     }
-    sheet.start("*/\n");
+    if sheet.language == Language::C {
+        sheet.start("*/\n");
+    }
 }

@@ -104,7 +104,7 @@ fn exit_frame(queue: Option<u64>, finalize: bool) -> DirectiveFrame {
     }
 }
 
-/// Puts a directive, or one for each item where C needs it. Items act one after the other, so both do the same.
+/// Puts a directive, or one for each item where it needs that. Items act one after the other, so both do the same.
 ///
 /// # Errors
 ///
@@ -142,9 +142,9 @@ fn put_item(sheet: &mut Sheet, frame: DirectiveFrame, item: Written) -> Result<(
 /// Puts a comment for an item without a section, and opens its block all the same.
 fn put_passed_over(sheet: &mut Sheet, frame: DirectiveFrame, item: Written) {
     if !item.words.word.is_empty() {
-        sheet.start("/* an empty section: no action */\n");
+        sheet.remark("an empty section: no action");
     } else if item.pointer().is_none() {
-        sheet.start("/* the pointer stays as it is: no action */\n");
+        sheet.remark("the pointer stays as it is: no action");
     }
     put_opening(sheet, frame);
 }
@@ -189,11 +189,10 @@ fn put_fill(sheet: &mut Sheet, item: Written) -> Result<(), EmitFault> {
     }
     sheet.need(item.section.len);
     sheet.body.text("#if !KNOWS_ZERO\n");
-    sheet.start("fill_with_zero(");
-    sheet.put_address(item.section)?;
-    sheet.body.text(", ");
-    sheet.body.number(item.section.len);
-    sheet.body.text(");\n#endif\n");
+    sheet.start_call("fill_with_zero");
+    sheet.put_argument(item.section)?;
+    sheet.end_call();
+    sheet.body.text("#endif\n");
     Ok(())
 }
 
@@ -202,7 +201,7 @@ fn put_clauses(
     frame: DirectiveFrame,
     items: &[Written],
 ) -> Result<(), EmitFault> {
-    sheet.start("#pragma acc ");
+    sheet.start_directive();
     sheet.body.text(frame.head);
     for item in items {
         put_clause(sheet, *item)?;
@@ -241,7 +240,8 @@ fn put_queue(sheet: &mut Sheet, queue: Option<u64>) {
 
 /// Puts a `wait` for a queue, or for all (OpenACC 3.3, the wait directive).
 pub fn put_wait(sheet: &mut Sheet, queue: Option<u64>) {
-    sheet.start("#pragma acc wait");
+    sheet.start_directive();
+    sheet.body.text("wait");
     if let Some(queue) = queue {
         sheet.body.text("(");
         sheet.body.number(queue);
@@ -259,9 +259,10 @@ pub fn put_call(sheet: &mut Sheet, call: &str, pointer: Option<u64>) -> Result<(
     let Some(pointer) = pointer else {
         return Ok(());
     };
-    sheet.start(call);
-    sheet.body.text("((void **)(");
-    sheet.put_address(pointer_section(pointer))?;
-    sheet.body.text("));\n");
+    sheet.start_call(call);
+    sheet.body.text(sheet.language.pick("(void **)(", ""));
+    sheet.put_start(pointer_section(pointer))?;
+    sheet.body.text(sheet.language.pick(")", ""));
+    sheet.end_call();
     Ok(())
 }

@@ -15,7 +15,7 @@ use std::alloc::Global;
 ///
 /// # Errors
 ///
-/// [`EmitFault::Line`] where C cannot have the directive; [`EmitFault::Run`] for lack of memory.
+/// [`EmitFault::Line`] where a program cannot have the directive; [`EmitFault::Run`] for lack of memory.
 pub fn emit_directive(
     alloc: Global,
     emitter: &mut Emitter,
@@ -37,7 +37,7 @@ pub fn emit_directive(
         }
         _ => emitter
             .sheet
-            .start("/* a copy of the queue may be made now, or later */\n"),
+            .remark("a copy of the queue may be made now, or later"),
     }
     Ok(())
 }
@@ -65,7 +65,7 @@ fn emit_end(emitter: &mut Emitter, did: &[Did]) -> Result<(), EmitFault> {
     region.put_end(&mut emitter.sheet)
 }
 
-/// Notes what the items of a directive did, in a queue or at once; fails where C cannot have it.
+/// Notes what the items of a directive did, in a queue or at once; fails where a program cannot have it.
 fn note_all(emitter: &mut Emitter, queue: Option<u64>, items: &[Written]) -> Result<(), EmitFault> {
     for (nth, item) in items.iter().enumerate() {
         if item.copied_block().is_some() && has_attached(emitter, items, nth, item.section) {
@@ -97,7 +97,7 @@ fn has_attached(emitter: &Emitter, items: &[Written], nth: usize, section: Secti
 }
 
 /// Checks the pointer that an item attached. Some `point` has to have written it, since only then has it an address in
-/// C too. No copy of it may wait.
+/// the program too. No copy of it may wait.
 fn check_attached(emitter: &Emitter, item: Written) -> Result<(), EmitFault> {
     let Some(place) = item.attached() else {
         return Ok(());

@@ -1,5 +1,6 @@
 //! A script that is being emitted.
 
+use crate::emitting::Origin;
 use crate::faults::EmitFault;
 use crate::marks::Marks;
 use crate::regions::NestedRegion;
@@ -31,7 +32,7 @@ pub struct Emitter {
 }
 
 impl Emitter {
-    /// Returns new tables of these limits, and an empty program, which has to have the output that is given.
+    /// Returns new tables of these limits, and an empty program, in the language and with the output that are asked for.
     ///
     /// # Errors
     ///
@@ -39,17 +40,17 @@ impl Emitter {
     pub fn new<R: Threads + Wait + Sync + AllocGlobal>(
         rt: &R,
         config: Config,
-        output: Option<&[u8]>,
+        origin: Origin<'_>,
     ) -> Result<Emitter, EmitFault> {
         let alloc = rt.alloc();
         Ok(Emitter {
             marks: Marks::new(alloc, config.host())?,
             own: boxed_session(alloc, config)?,
             twin: twin_of(rt, config)?,
-            sheet: Sheet::new(alloc),
+            sheet: Sheet::new(alloc, origin.language),
             births: Vec::new(alloc),
             regions: Vec::new(alloc),
-            wanted: Wanted::new(alloc, output)?,
+            wanted: Wanted::new(alloc, origin.output)?,
         })
     }
 }

@@ -4,6 +4,7 @@ use crate::answers::{emit_bytes, emit_comment, emit_present, emit_report};
 use crate::doing::emit_directive;
 use crate::emitters::Emitter;
 use crate::faults::{EmitFault, Reason};
+use crate::languages::Language;
 use crate::refusals::emit_refused;
 use crate::sheets::Sheet;
 use crate::twins::{DEVICE, follow_on_twin, read_on};
@@ -13,12 +14,15 @@ use acc_base::{Config, Fault, ScriptFault, Section};
 use acc_read::{Page, Statement, next_line, statement_text};
 use acc_script::Effect;
 use std::alloc::Global;
+use std::fmt::Write;
 use std::sync::Wait;
 use std::thread::Threads;
 
 /// What a program is made of.
 #[derive(Clone, Copy)]
 pub struct Origin<'a> {
+    /// The language of the program.
+    pub language: Language,
     /// The name of the script, if it has one.
     pub name: Option<&'a str>,
     /// The script.
@@ -29,19 +33,19 @@ pub struct Origin<'a> {
     pub until_refusal: bool,
 }
 
-/// Returns a script as a C program with OpenACC 3.3 directives, which prints what the script prints and compares it.
-/// Its tables have these limits. The program begins with the name of the script and its first comments.
+/// Returns a script as a program with OpenACC 3.3 directives, which prints what the script prints and compares it. Its
+/// tables have these limits. The program begins with the name of the script and its first comments.
 ///
 /// # Errors
 ///
 /// [`EmitFault::Run`] for a fault of the script or lack of memory; [`EmitFault::Line`] at the first line that a program
-/// in C cannot have, or for which the output has no line.
+/// cannot have, or for which the output has no line.
 pub fn emit<R: Threads + Wait + Sync + AllocGlobal>(
     rt: &R,
     config: Config,
     origin: Origin<'_>,
 ) -> Result<Page, EmitFault> {
-    let mut emitter = Emitter::new(rt, config, origin.output)?;
+    let mut emitter = Emitter::new(rt, config, origin)?;
     emit_lines(rt, &mut emitter, origin.script, origin.until_refusal)?;
     Ok(emitter.sheet.whole(rt.alloc(), origin.name, origin.script)?)
 }
@@ -127,12 +131,10 @@ fn emit_done<R: Threads + Wait + Sync + AllocGlobal>(
 fn put_statement(sheet: &mut Sheet, line: &[u8]) {
     let text = statement_text(line);
     if !text.is_empty() {
-        let number = sheet.line;
-        sheet.start("/* ");
-        sheet.body.number(number);
-        sheet.body.text(": ");
+        sheet.start_remark();
+        let _ = write!(sheet.body, "{}: ", sheet.line);
         sheet.body.bytes(text);
-        sheet.body.text(" */\n");
+        sheet.end_remark();
     }
 }
 
@@ -163,9 +165,7 @@ fn emit_statement(
         }
         Statement::Show(section) | Statement::Peek(section) | Statement::Present(section)
             if section.len == 0 => {
-            emitter
-                .sheet
-                .start("/* an empty section: nothing to compare */\n");
+            emitter.sheet.remark("an empty section: nothing to compare");
             Ok(())
         }
         Statement::Show(section) => emit_bytes(emitter, *section, false),

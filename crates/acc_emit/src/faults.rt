@@ -3,7 +3,7 @@
 use acc_base::Fault;
 use std::alloc::{AllocError, AllocFailed};
 
-/// What an OpenACC program in C cannot have.
+/// What an OpenACC program cannot have.
 #[derive(Clone, Copy, Debug, PartialEq, Eq)]
 pub enum Reason {
     /// The statement is refused, and a program that goes on cannot have it.

@@ -1,7 +1,24 @@
 //! The harness of each program: what stands before and behind the statements of its script.
 
-/// The head of each program.
-pub const HEAD: &str =
+/// What stands around what a script gives.
+#[derive(Clone, Copy)]
+pub struct Harness {
+    /// The head, up to the arrays.
+    pub head: &'static str,
+    /// What the statements use.
+    pub declarations: &'static str,
+    /// What stands behind the statements: the end of the main program, and what it calls.
+    pub functions: &'static str,
+}
+
+/// The harness in C.
+pub const IN_C: Harness = Harness {
+    head: HEAD,
+    declarations: DECLARATIONS,
+    functions: FUNCTIONS,
+};
+
+const HEAD: &str =
     r#"/* Written from a script by accrun --emit c. The program does what the script does, and prints what the script prints.
    It ends with status 0 if all that came is as expected, with 1 at the first line that differs, and with 77 where the
    device shares the host's memory. A byte that OpenACC leaves open is expected as ??, and any will do. It is OpenACC 3.3,
@@ -24,8 +41,7 @@ pub const HEAD: &str =
 
 "#;
 
-/// What the statements of each program use.
-pub const DECLARATIONS: &str = r#"
+const DECLARATIONS: &str = r#"
 /* Room for the bytes of the longest section that is looked at. */
 static unsigned char bytes[LONGEST];
 
@@ -45,8 +61,7 @@ int main(void)
     ask_for_discrete_device();
 "#;
 
-/// What stands behind the statements: the end of `main`, and the functions that it calls.
-pub const FUNCTIONS: &str = r#"    return 0;
+const FUNCTIONS: &str = r#"    return 0;
 }
 
 /* What came, as digits or a word. */

@@ -1,4 +1,4 @@
-//! The items of a directive, as C writes them.
+//! The items of a directive, as programs write them.
 
 use acc_base::{
     Aim, Did, EnterClause, ExitClause, Fault, Item, RegionClause, Section, Step, UpdateClause,
@@ -15,7 +15,7 @@ pub struct Words {
     pub zero: bool,
 }
 
-/// A clause of a directive, as C writes it.
+/// A clause of a directive, as programs write it.
 pub trait WrittenClause: Copy {
     /// Returns its word and its modifier.
     fn words(self) -> Words;
@@ -67,7 +67,7 @@ impl WrittenClause for UpdateClause {
     }
 }
 
-/// An item of a data clause, as C writes it, and what it did.
+/// An item of a data clause, as programs write it, and what it did.
 #[derive(Clone, Copy)]
 pub struct Written {
     /// Its clause.
@@ -101,7 +101,7 @@ pub fn written_items<C: WrittenClause>(
 }
 
 impl Written {
-    /// Whether a data clause of C can name it: it has a word, and its section is not empty.
+    /// Whether a data clause of a program can name it: it has a word, and its section is not empty.
     pub fn is_clause(self) -> bool {
         !self.words.word.is_empty() && self.section.len > 0
     }
@@ -157,7 +157,7 @@ impl Written {
     }
 }
 
-/// Whether one directive of C can have all of the items: each names another array, as C asks. None has a pointer, since
+/// Whether one directive can have all of the items: each names another array, as compilers ask. None has a pointer, since
 /// a call attaches it before the next item. None has the modifier `zero`, which not each compiler knows.
 pub fn fit_one_directive(names: &Names, items: &[Written]) -> bool {
     for (nth, item) in items.iter().enumerate() {

@@ -1,9 +1,11 @@
 //! Kernels as parallel loops.
 
 use crate::faults::EmitFault;
+use crate::languages::Language;
 use crate::sheets::Sheet;
 use acc_base::Section;
 use acc_read::ScriptKernel;
+use std::fmt::Write;
 
 /// Puts a kernel over a section as a loop that runs in parallel (OpenACC 3.3, sections 2.5.1 and 2.9).
 ///
@@ -17,81 +19,111 @@ pub fn put_kernel(
 ) -> Result<(), EmitFault> {
     match kernel {
         ScriptKernel::Plus(source) => put_plus(sheet, source, section),
-        ScriptKernel::Add(number) => put_loop(sheet, section, Some(" + "), number),
-        ScriptKernel::Xor(number) => put_loop(sheet, section, Some(" ^ "), number),
-        ScriptKernel::Number(number) => put_loop(sheet, section, None, number),
+        _ => put_change(sheet, kernel, section),
     }
 }
 
-fn put_loop(
-    sheet: &mut Sheet,
-    section: Section,
-    operator: Option<&str>,
-    number: u8,
-) -> Result<(), EmitFault> {
-    put_start(sheet, section)?;
+/// Puts a kernel that reads no other section.
+fn put_change(sheet: &mut Sheet, kernel: ScriptKernel, section: Section) -> Result<(), EmitFault> {
+    put_directive(sheet, section)?;
     sheet.body.text("\n");
-    put_for(sheet, section.len);
-    put_target(sheet, section)?;
-    match operator {
-        Some(operator) => {
-            sheet.put_cell(section)?;
-            sheet.body.text(operator);
-        }
-        None => sheet.body.text("i + "),
-    }
-    sheet.body.number(u64::from(number));
-    sheet.body.text(");\n");
-    Ok(())
+    put_loop(sheet, kernel, section, section.len)
 }
 
 fn put_plus(sheet: &mut Sheet, source: Section, section: Section) -> Result<(), EmitFault> {
-    let count = source.len.min(section.len);
-    if count == 0 {
-        return put_loop(sheet, section, Some(" ^ "), 0);
+    let len = source.len.min(section.len);
+    if len == 0 {
+        return put_change(sheet, ScriptKernel::Xor(0), section);
     }
-    put_source(sheet, source, count)?;
-    put_start(sheet, section)?;
-    sheet.body.text(" copyin(bytes[0:");
-    sheet.body.number(count);
-    sheet.body.text("])\n");
-    put_for(sheet, count);
-    put_target(sheet, section)?;
-    sheet.put_cell(section)?;
-    sheet.body.text(" + bytes[i]);\n");
+    let source = Section { len, ..source };
+    put_source(sheet, source)?;
+    put_directive(sheet, section)?;
+    sheet.body.text(" copyin(");
+    put_first_bytes(sheet, len);
+    sheet.body.text(")\n");
+    put_loop(sheet, ScriptKernel::Plus(source), section, len)
+}
+
+/// Puts a copy of a source in host memory, so that its bytes count and not the device's.
+fn put_source(sheet: &mut Sheet, source: Section) -> Result<(), EmitFault> {
+    sheet.need(source.len);
+    match sheet.language {
+        Language::C => {
+            sheet.start_call("memcpy");
+            sheet.body.text("bytes, ");
+            sheet.put_argument(source)?;
+            sheet.end_call();
+        }
+        Language::Fortran => {
+            sheet.start("");
+            put_first_bytes(sheet, source.len);
+            sheet.body.text(" = ");
+            sheet.put_section(source)?;
+            sheet.body.text("\n");
+        }
+    }
     Ok(())
 }
 
-/// Puts a copy of this many bytes of a source in host memory, so that those count and not the device's.
-fn put_source(sheet: &mut Sheet, source: Section, count: u64) -> Result<(), EmitFault> {
-    sheet.need(count);
-    sheet.start("memcpy(bytes, ");
-    sheet.put_address(Section {
-        start: source.start,
-        len: count,
-    })?;
-    sheet.body.text(", ");
-    sheet.body.number(count);
-    sheet.body.text(");\n");
-    Ok(())
+fn put_first_bytes(sheet: &mut Sheet, len: u64) {
+    let _ = match sheet.language {
+        Language::C => write!(sheet.body, "bytes[0:{len}]"),
+        Language::Fortran => write!(sheet.body, "bytes(0:{})", len.saturating_sub(1)),
+    };
 }
 
-fn put_start(sheet: &mut Sheet, section: Section) -> Result<(), EmitFault> {
-    sheet.start("#pragma acc parallel loop present(");
+fn put_directive(sheet: &mut Sheet, section: Section) -> Result<(), EmitFault> {
+    sheet.start_directive();
+    sheet.body.text("parallel loop present(");
     sheet.put_section(section)?;
     sheet.body.text(")");
     Ok(())
 }
 
-fn put_for(sheet: &mut Sheet, count: u64) {
-    sheet.start("for (int i = 0; i < ");
-    sheet.body.number(count);
-    sheet.body.text("; i++)\n");
-}
-
-fn put_target(sheet: &mut Sheet, section: Section) -> Result<(), EmitFault> {
+/// Puts the loop over the first `count` bytes of a section.
+fn put_loop(
+    sheet: &mut Sheet,
+    kernel: ScriptKernel,
+    section: Section,
+    count: u64,
+) -> Result<(), EmitFault> {
+    sheet.start("");
+    let _ = match sheet.language {
+        Language::C => writeln!(sheet.body, "for (int i = 0; i < {count}; i++)"),
+        Language::Fortran => writeln!(sheet.body, "do i = 0, {}", count.saturating_sub(1)),
+    };
     sheet.start("    ");
     sheet.put_cell(section)?;
-    sheet.body.text(" = (unsigned char)(");
+    sheet
+        .body
+        .text(sheet.language.pick(" = (unsigned char)(", " = BYTE("));
+    put_value(sheet, kernel, section)?;
+    sheet.end_call();
+    if sheet.language == Language::Fortran {
+        sheet.start("end do\n");
+    }
+    Ok(())
+}
+
+/// Puts the number whose lowest byte a cell gets.
+fn put_value(sheet: &mut Sheet, kernel: ScriptKernel, section: Section) -> Result<(), EmitFault> {
+    let is_fortran = sheet.language == Language::Fortran;
+    if is_fortran && matches!(kernel, ScriptKernel::Xor(_)) {
+        sheet.body.text("ieor(int(");
+    }
+    match kernel {
+        ScriptKernel::Number(_) => sheet.body.text("i"),
+        _ => sheet.put_cell(section)?,
+    }
+    let _ = match kernel {
+        ScriptKernel::Xor(number) if is_fortran => write!(sheet.body, "), {number})"),
+        ScriptKernel::Xor(number) => write!(sheet.body, " ^ {number}"),
+        ScriptKernel::Add(number) | ScriptKernel::Number(number) => write!(
+            sheet.body,
+            " + {number}"
+        ),
+        ScriptKernel::Plus(_) if is_fortran => write!(sheet.body, " + int(bytes(i))"),
+        ScriptKernel::Plus(_) => write!(sheet.body, " + bytes[i]"),
+    };
     Ok(())
 }

@@ -2,18 +2,22 @@
 
 /// The Makefile. It works wherever the folder is.
 pub const MAKEFILE: &str =
-    r##"# Programs in C, which `accrun --emit c --out` wrote from scripts of OpenACC data directives, and what runs them.
+    r##"# Programs in C and Fortran, which `accrun --emit LANGUAGE --out` wrote from scripts of OpenACC data directives.
 #
-#   make check                  runs them on lamwiest, which pkg-config finds as lamwiest_acc, and prints TAP
+#   make check                  runs all on lamwiest, which pkg-config finds as lamwiest_acc, and prints TAP
 #   make check DEVICE=FOLDER    on libgomp, with the device whose plugin is in that folder, by a path from here
 #   make check DEVICE=own       on the machine's own device
 #
-# For another compiler: make check CC=nvc CFLAGS=-acc DEVICE=own
+# For other compilers: make check CC=nvc CFLAGS=-acc FC=nvfortran FFLAGS=-acc DEVICE=own
+# FC= leaves out the programs in Fortran, and CC= those in C.
 # The lines of the file KNOWN have a name, a tab and a reason each: these programs have to differ. A file settings.mk
 # may set any of these variables.
 
 CC = gcc
-CFLAGS = -std=gnu11 -O1 -Wall -Wextra -Werror -fopenacc $(if $(filter own,$(DEVICE)),,-foffload=disable)
+CFLAGS = -std=gnu11 -Wextra $(BOTH)
+FC = gfortran
+FFLAGS = -ffree-line-length-none -Wno-unused -Wno-unused-dummy-argument $(BOTH)
+BOTH = -O1 -Wall -Werror -fopenacc $(if $(filter own,$(DEVICE)),,-foffload=disable)
 DEVICE = lamwiest
 KNOWN =
 OUT = out
@@ -23,8 +27,10 @@ WAY = $(if $(filter lamwiest own,$(DEVICE)),$(DEVICE),libgomp)
 FOUND := $(if $(filter lamwiest,$(WAY)),$(shell pkg-config --libs lamwiest_acc 2>/dev/null),none)
 LIBRARIES = $(or $(filter-out none,$(FOUND)),$(if $(FOUND),,$(error pkg-config does not find lamwiest_acc)))
 # Each compiler and each way has programs of its own.
-MADE = $(OUT)/$(notdir $(firstword $(CC)))/$(WAY)
-PROGRAMS = $(patsubst %.c,$(MADE)/%,$(sort $(wildcard *.c)))
+C_MADE = $(OUT)/$(notdir $(firstword $(CC)))/$(WAY)
+F_MADE = $(OUT)/$(notdir $(firstword $(FC)))/$(WAY)
+PROGRAMS = $(if $(CC),$(patsubst %.c,$(C_MADE)/%,$(sort $(wildcard *.c)))) \
+    $(if $(FC),$(patsubst %.F90,$(F_MADE)/%,$(sort $(wildcard *.F90))))
 
 MAKEFLAGS += -j$(shell nproc) --no-print-directory
 
@@ -33,7 +39,9 @@ check: programs ; @bash ./check "$(DEVICE)" "$(KNOWN)" $(PROGRAMS)
 programs: $(PROGRAMS)
 
 # What a compiler does not take makes no program, and `check` tells that.
-$(MADE)/%: %.c Makefile ; @mkdir -p $(@D) && { $(CC) $(CFLAGS) -o $@ $< $(LIBRARIES) || rm -f $@; }
+MAKE_IT = @mkdir -p $(@D) && { $(1) -o $@ $< $(LIBRARIES) || rm -f $@; }
+$(C_MADE)/%: %.c Makefile ; $(call MAKE_IT,$(CC) $(CFLAGS))
+$(F_MADE)/%: %.F90 Makefile ; $(call MAKE_IT,$(FC) $(FFLAGS))
 
 clean: ; rm -rf $(OUT)
 
@@ -42,8 +50,8 @@ clean: ; rm -rf $(OUT)
 
 /// The runner, which bash runs.
 pub const CHECK: &str =
-    r##"# Runs programs of `accrun --emit c --out`, and prints TAP: `ok` where one ends with status 0, and so agrees. Those that
-# the file KNOWN names have to differ, and are marked TODO with the reason that stands there.
+    r##"# Runs programs of `accrun --emit LANGUAGE --out`, and prints TAP: `ok` where one ends with status 0, and so agrees. Those
+# that the file KNOWN names have to differ, and are marked TODO with the reason that stands there.
 # Usage: bash check DEVICE KNOWN PROGRAM..: DEVICE is `lamwiest`, with which the programs are linked; `own`, that of the
 # machine; or the folder of a plugin for libgomp, where each program runs with eager queues and with late ones. KNOWN may
 # be an empty word. The status is 1 where a program differs that is not known, or agrees though it is.
@@ -88,9 +96,11 @@ skipped=0
 differ=0
 for program in "$@"; do
     name=${program##*/}
+    compiler=${program%/*/*}
+    compiler=${compiler##*/}
     for way in "${ways[@]}"; do
         number=$((number + 1))
-        test="$number - $name, $way"
+        test="$number - $name by $compiler, $way"
         status=0
         if [[ -x $program ]]; then
             run "$way" "$program" >"$work/output" 2>&1 || status=$?

@@ -1,4 +1,5 @@
-//! A script as a C program with OpenACC 3.3 directives, which does what the script does and compares what it prints.
+//! A script as a program in C or Fortran with OpenACC 3.3 directives, which does what the script does and compares what it
+//! prints.
 //!
 //! A byte is compared only where OpenACC determines it. `twins` finds those that nothing has filled, and `marks` keeps
 //! those of addresses and those that a queued copy races for.
@@ -11,9 +12,11 @@ mod emitters;
 mod emitting;
 mod faults;
 mod harness;
+mod harness_in_fortran;
 mod items;
 mod kernels;
 mod kits;
+mod languages;
 mod marks;
 mod pointers;
 mod refusals;
@@ -27,3 +30,4 @@ mod writes;
 pub use emitting::{Origin, emit};
 pub use faults::{EmitFault, Reason};
 pub use kits::{CHECK, MAKEFILE};
+pub use languages::Language;

@@ -14,7 +14,7 @@ use std::alloc::Global;
 ///
 /// # Errors
 ///
-/// [`EmitFault::Line`] where C cannot have the statement so; [`EmitFault::Run`] for lack of memory.
+/// [`EmitFault::Line`] where a program cannot have the statement so; [`EmitFault::Run`] for lack of memory.
 pub fn emit_refused(
     alloc: Global,
     emitter: &mut Emitter,
@@ -28,10 +28,11 @@ pub fn emit_refused(
     if !is_of_openacc(fault) {
         return Err(emitter.sheet.unfit(Reason::Limit));
     }
-    emitter.sheet.start("expect_failure();\n");
+    emitter.sheet.start_call("expect_failure");
+    emitter.sheet.end_call();
     put_refused(alloc, emitter, statement)?;
-    emitter.sheet.start_call("no_failure");
-    emitter.sheet.body.text(");\n");
+    emitter.sheet.start_question("no_failure");
+    emitter.sheet.end_call();
     for region in emitter.regions.iter().rev() {
         region.close_blocks(&mut emitter.sheet);
     }

@@ -34,9 +34,12 @@ impl NestedRegion {
 
     /// Closes its blocks, behind a directive that does not return.
     pub fn close_blocks(&self, sheet: &mut Sheet) {
-        let blocks = if self.is_one { 1 } else { self.items.len() };
-        for _ in 0..blocks {
-            sheet.close_block();
+        if self.is_one {
+            sheet.close_block(true);
+            return;
+        }
+        for item in self.items.iter().rev() {
+            sheet.close_block(item.is_clause());
         }
     }
 
@@ -49,11 +52,11 @@ impl NestedRegion {
         for item in &self.items {
             put_call(sheet, "acc_detach", item.pointer())?;
             if !self.is_one {
-                sheet.close_block();
+                sheet.close_block(item.is_clause());
             }
         }
         if self.is_one {
-            sheet.close_block();
+            sheet.close_block(true);
         }
         Ok(())
     }

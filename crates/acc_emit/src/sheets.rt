@@ -1,6 +1,9 @@
 //! The text of the program, while it grows.
 
 use crate::faults::{EmitFault, Reason};
+use crate::harness::{Harness, IN_C};
+use crate::harness_in_fortran::IN_FORTRAN;
+use crate::languages::Language;
 use acc_base::{Fault, Section};
 use acc_read::{Names, Page, Spot, next_line};
 use std::alloc::Global;
@@ -13,6 +16,8 @@ const SET_IN: u64 = 16;
 /// The parts of a program, and the arrays that it names.
 #[derive(Drop)]
 pub struct Sheet {
+    /// The language of the program.
+    pub language: Language,
     /// The declarations of the arrays.
     pub head: Page,
     /// The statements.
@@ -23,14 +28,15 @@ pub struct Sheet {
     pub line: u64,
     /// The length of the longest section whose bytes the program handles.
     longest: u64,
-    /// How many blocks of C are open within `main`.
+    /// How many blocks are open.
     depth: u64,
 }
 
 impl Sheet {
-    /// Returns a sheet without a line.
-    pub fn new(alloc: Global) -> Sheet {
+    /// Returns a sheet without a line, for a program in a language.
+    pub fn new(alloc: Global, language: Language) -> Sheet {
         Sheet {
+            language,
             head: Page::new(alloc),
             body: Page::new(alloc),
             names: Names::new(alloc),
@@ -62,25 +68,64 @@ impl Sheet {
         self.body.text(text);
     }
 
-    /// Begins a call, whose first argument is the number of the script's line.
-    pub fn start_call(&mut self, name: &str) {
-        self.start(name);
-        let _ = write!(self.body, "({}", self.line);
+    /// Begins a directive.
+    pub fn start_directive(&mut self) {
+        self.start(self.language.pick("#pragma acc ", "!$acc "));
     }
 
-    /// Opens a block.
+    /// Begins a call.
+    pub fn start_call(&mut self, name: &str) {
+        self.start(self.language.pick("", "call "));
+        let _ = write!(self.body, "{name}(");
+    }
+
+    /// Begins a call, whose first argument is the number of the script's line.
+    pub fn start_question(&mut self, name: &str) {
+        self.start_call(name);
+        self.body.number(self.line);
+    }
+
+    /// Ends a call.
+    pub fn end_call(&mut self) {
+        self.body.text(self.language.pick(");\n", ")\n"));
+    }
+
+    /// Puts a comment as a line.
+    pub fn remark(&mut self, text: &str) {
+        self.start_remark();
+        self.body.text(text);
+        self.end_remark();
+    }
+
+    /// Begins a line that is a comment.
+    pub fn start_remark(&mut self) {
+        self.start(self.language.pick("/* ", "! "));
+    }
+
+    /// Ends it.
+    pub fn end_remark(&mut self) {
+        self.body.text(self.language.pick(" */\n", "\n"));
+    }
+
+    /// Opens the block of a region's directive, or in C also one without a directive. In Fortran the directive opens it.
     pub fn open_block(&mut self) {
-        self.start("{\n");
+        if self.language == Language::C {
+            self.start("{\n");
+        }
         self.depth = self.depth.saturating_add(1);
     }
 
-    /// Closes the innermost block.
-    pub fn close_block(&mut self) {
+    /// Closes the innermost block, which has a directive or none.
+    pub fn close_block(&mut self, has_directive: bool) {
         self.depth = self.depth.saturating_sub(1);
-        self.start("}\n");
+        match self.language {
+            Language::C => self.start("}\n"),
+            Language::Fortran if has_directive => self.start("!$acc end data\n"),
+            Language::Fortran => {}
+        }
     }
 
-    /// Puts a section as a subarray of C, `a_[0:16]`, or as the whole array, `a_`.
+    /// Puts a section as a subarray, `a_[0:16]` or `a_(0:15)`, or as the whole array, `a_`.
     ///
     /// # Errors
     ///
@@ -89,33 +134,57 @@ impl Sheet {
         let spot = spot_of(&self.names, self.line, section)?;
         put_name(&mut self.body, spot.name);
         if spot.array.whole() != section {
-            let _ = write!(self.body, "[{}:{}]", spot.offset, section.len);
+            put_part(&mut self.body, self.language, spot.offset, section.len);
         }
         Ok(())
     }
 
-    /// Puts the address of the first byte of a section that lies in one array, `a_ + 8`.
+    /// Puts a section that lies in one array as an argument without a length: in C the address of its first byte,
+    /// `a_ + 8`, and in Fortran the section.
     ///
     /// # Errors
     ///
     /// `OutsideArray` alone, where no one array has the section.
-    pub fn put_address(&mut self, section: Section) -> Result<(), EmitFault> {
+    pub fn put_start(&mut self, section: Section) -> Result<(), EmitFault> {
+        if self.language == Language::Fortran {
+            return self.put_section(section);
+        }
         let spot = spot_of(&self.names, self.line, section)?;
         put_name(&mut self.body, spot.name);
         put_offset(&mut self.body, spot.offset);
         Ok(())
     }
 
-    /// Puts the address of a byte of some array.
+    /// Puts a section that lies in one array as an argument with its length: in C as two arguments, `a_ + 8, 4`.
+    ///
+    /// # Errors
+    ///
+    /// `OutsideArray` alone, where no one array has the section.
+    pub fn put_argument(&mut self, section: Section) -> Result<(), EmitFault> {
+        self.put_start(section)?;
+        if self.language == Language::C {
+            let _ = write!(self.body, ", {}", section.len);
+        }
+        Ok(())
+    }
+
+    /// Puts a byte of some array as what an address is taken of: in C as its address, and in Fortran as the element.
     ///
     /// # Errors
     ///
     /// `OutsideArray` alone, where no array has it.
-    pub fn put_byte_address(&mut self, start: u64) -> Result<(), EmitFault> {
-        self.put_address(Section { start, len: 1 })
+    pub fn put_byte(&mut self, start: u64) -> Result<(), EmitFault> {
+        let byte = Section { start, len: 1 };
+        if self.language == Language::C {
+            return self.put_start(byte);
+        }
+        let spot = spot_of(&self.names, self.line, byte)?;
+        put_name(&mut self.body, spot.name);
+        let _ = write!(self.body, "({})", spot.offset);
+        Ok(())
     }
 
-    /// Puts the byte at the place `i` of a section that lies in one array, `a_[i + 8]`.
+    /// Puts the byte at the place `i` of a section that lies in one array, `a_[i + 8]` or `a_(i + 8)`.
     ///
     /// # Errors
     ///
@@ -123,9 +192,9 @@ impl Sheet {
     pub fn put_cell(&mut self, section: Section) -> Result<(), EmitFault> {
         let spot = spot_of(&self.names, self.line, section)?;
         put_name(&mut self.body, spot.name);
-        self.body.text("[i");
+        self.body.text(self.language.pick("[i", "(i"));
         put_offset(&mut self.body, spot.offset);
-        self.body.text("]");
+        self.body.text(self.language.pick("]", ")"));
         Ok(())
     }
 
@@ -136,36 +205,45 @@ impl Sheet {
     ///
     /// [`Fault::Memory`] alone.
     pub fn whole(&self, alloc: Global, name: Option<&str>, script: &[u8]) -> Result<Page, Fault> {
+        let harness: Harness = match self.language {
+            Language::C => IN_C,
+            Language::Fortran => IN_FORTRAN,
+        };
         let mut page = Page::new(alloc);
-        put_title(&mut page, name, script);
-        page.text(crate::harness::HEAD);
+        self.put_title(&mut page, name, script);
+        page.text(harness.head);
         page.bytes(self.head.whole()?);
         let _ = writeln!(page, "\n#define LONGEST {}", self.longest);
-        page.text(crate::harness::DECLARATIONS);
+        page.text(harness.declarations);
         page.bytes(self.body.whole()?);
-        page.text(crate::harness::FUNCTIONS);
+        page.text(harness.functions);
         Ok(page)
     }
-}
 
-fn put_title(page: &mut Page, name: Option<&str>, script: &[u8]) {
-    if let Some(name) = name {
-        put_remark(page, name.as_bytes());
-    }
-    let mut rest = script;
-    for _ in 0..script.len() {
-        if !rest.starts_with(b"#") {
-            break;
+    fn put_title(&self, page: &mut Page, name: Option<&str>, script: &[u8]) {
+        if let Some(name) = name {
+            put_remark(page, self.language, name.as_bytes());
         }
-        let (line, after) = next_line(rest);
-        put_remark(page, line.get(1..).unwrap_or(&[]).trim_ascii());
-        rest = after;
+        let mut rest = script;
+        for _ in 0..script.len() {
+            if !rest.starts_with(b"#") {
+                break;
+            }
+            let (line, after) = next_line(rest);
+            put_remark(
+                page,
+                self.language,
+                line.get(1..).unwrap_or(&[]).trim_ascii(),
+            );
+            rest = after;
+        }
     }
 }
 
-/// Puts a comment of C. A blank stands in what would begin or end one within it.
-fn put_remark(page: &mut Page, text: &[u8]) {
-    page.text("/* ");
+/// Puts a comment. A blank stands in what would begin or end one of C within it, which the preprocessor of Fortran knows
+/// too; and no line of Fortran ends with what would join it to the next.
+fn put_remark(page: &mut Page, language: Language, text: &[u8]) {
+    page.text(language.pick("/* ", "! "));
     let mut last = b' ';
     for byte in text {
         if matches!((last, *byte), (b'*', b'/') | (b'/', b'*')) {
@@ -174,7 +252,18 @@ fn put_remark(page: &mut Page, text: &[u8]) {
         page.bytes(slice::from_ref(byte));
         last = *byte;
     }
-    page.text(" */\n");
+    let end = if last == b'\\' { " !\n" } else { "\n" };
+    page.text(language.pick(" */\n", end));
+}
+
+fn put_part(page: &mut Page, language: Language, offset: u64, len: u64) {
+    let _ = match language {
+        Language::C => write!(page, "[{offset}:{len}]"),
+        Language::Fortran => {
+            let last = offset.saturating_add(len).saturating_sub(1);
+            write!(page, "({offset}:{last})")
+        }
+    };
 }
 
 fn spot_of(names: &Names, line: u64, section: Section) -> Result<Spot<'_>, EmitFault> {
@@ -187,7 +276,7 @@ fn spot_of(names: &Names, line: u64, section: Section) -> Result<Spot<'_>, EmitF
     }
 }
 
-/// Puts the name of an array in C: with `_` behind it, so that it is no keyword and no name of the harness.
+/// Puts the name of an array: with `_` behind it, so that it is no keyword and no name of the harness.
 pub fn put_name(page: &mut Page, name: &[u8]) {
     page.bytes(name);
     page.text("_");

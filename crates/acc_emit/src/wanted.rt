@@ -2,6 +2,8 @@
 
 use crate::emitters::Emitter;
 use crate::faults::{EmitFault, Reason};
+use crate::languages::Language;
+use crate::sheets::Sheet;
 use acc_base::Fault;
 use acc_read::{Page, next_line};
 use acc_script::{Effect, MemorySink, write_effect};
@@ -100,16 +102,23 @@ pub fn pass_wanted(alloc: Global, emitter: &mut Emitter, effect: Effect) -> Resu
     }
 }
 
-/// Puts a piece of a line within a text of C.
-pub fn put_literal(page: &mut Page, piece: &[u8]) {
+/// Puts a piece of a line within a text of the program.
+pub fn put_literal(sheet: &mut Sheet, piece: &[u8]) {
+    let language = sheet.language;
+    let page = &mut sheet.body;
     for byte in piece {
         match *byte {
-            b'"' => page.text("\\\""),
-            b'\\' => page.text("\\\\"),
+            b'"' => page.text(language.pick("\\\"", "\"\"")),
+            b'\\' => page.text(language.pick("\\\\", "\\")),
             b' '..=b'~' => page.bytes(slice::from_ref(byte)),
-            _ => {
-                let _ = write!(page, "\\{byte:03o}");
-            }
+            _ => put_escape(page, language, *byte),
         }
     }
+}
+
+fn put_escape(page: &mut Page, language: Language, byte: u8) {
+    let _ = match language {
+        Language::C => write!(page, "\\{byte:03o}"),
+        Language::Fortran => write!(page, "\" // achar({byte}) // \""),
+    };
 }

@@ -3,6 +3,7 @@
 use crate::emitters::Emitter;
 use crate::faults::EmitFault;
 use crate::kernels::put_kernel;
+use crate::languages::Language;
 use crate::pointers::word_at;
 use crate::sheets::{Sheet, put_name};
 use acc_base::Section;
@@ -22,17 +23,22 @@ pub fn declare(
     array: Array,
 ) -> Result<(), EmitFault> {
     sheet.names.insert(alloc, name, array)?;
-    sheet.head.text("static _Alignas(16) unsigned char ");
+    let size = array.whole().len;
+    let declared = "static _Alignas(16) unsigned char ";
+    let declared = sheet
+        .language
+        .pick(declared, "    integer(1), target, save :: ");
+    sheet.head.text(declared);
     put_name(&mut sheet.head, name);
-    put_size(sheet, array.whole().len);
+    if sheet.language == Language::Fortran {
+        let _ = writeln!(sheet.head, "(0:{}) = 0", size.saturating_sub(1));
+        return Ok(());
+    }
+    let _ = writeln!(sheet.head, "[{size}];");
     sheet.start("(void)");
     put_name(&mut sheet.body, name);
     sheet.body.text(";\n");
     Ok(())
-}
-
-fn put_size(sheet: &mut Sheet, size: u64) {
-    let _ = writeln!(sheet.head, "[{size}];");
 }
 
 /// Emits a write of the host into a section: of bytes, or of the host address of a target into a pointer.
@@ -61,25 +67,28 @@ pub fn emit_write(
 }
 
 fn put_write(sheet: &mut Sheet, section: Section, bytes: &[u8]) -> Result<(), EmitFault> {
-    sheet.start("memcpy(");
-    sheet.put_address(section)?;
+    sheet.start_call(sheet.language.pick("memcpy", "put"));
+    sheet.put_start(section)?;
     sheet.body.text(", \"");
     for byte in bytes {
-        sheet.body.text("\\x");
+        sheet.body.text(sheet.language.pick("\\x", ""));
         sheet.body.digits(&[*byte]);
     }
-    sheet.body.text("\", ");
-    sheet.body.number(section.len);
-    sheet.body.text(");\n");
+    sheet.body.text("\"");
+    if sheet.language == Language::C {
+        let _ = write!(sheet.body, ", {}", section.len);
+    }
+    sheet.end_call();
     Ok(())
 }
 
 fn put_point(sheet: &mut Sheet, section: Section, target: u64) -> Result<(), EmitFault> {
-    sheet.start("point(");
-    sheet.put_address(section)?;
-    sheet.body.text(", ");
-    sheet.put_byte_address(target)?;
-    sheet.body.text(");\n");
+    sheet.start_call("point");
+    sheet.put_start(section)?;
+    sheet.body.text(sheet.language.pick(", ", ", c_loc("));
+    sheet.put_byte(target)?;
+    sheet.body.text(sheet.language.pick("", ")"));
+    sheet.end_call();
     Ok(())
 }
 

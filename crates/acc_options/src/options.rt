@@ -1,5 +1,6 @@
 //! The command line.
 
+use acc_emit::Language;
 use acc_follow::Views;
 use acc_lines::{Manner, Terminals};
 use acc_trials::{Machine, bytes_of, first_words, options_in};
@@ -44,8 +45,8 @@ pub struct Options<'a> {
     pub line: bool,
     /// Whether the script goes on behind a line at fault.
     pub keep_going: bool,
-    /// Whether the script is emitted as a program in C, in place of a run.
-    pub emit: bool,
+    /// The language of a program that the script is emitted as, in place of a run.
+    pub emit: Option<Language>,
     /// The folder for the programs of all scripts, where there are several.
     pub out: Option<&'a str>,
     /// Whether that program ends with the first statement that is refused.
@@ -132,7 +133,7 @@ const TRACES: &[&str] = &["counts", "full"];
 const TIMES: &[&str] = &["auto", "always", "never"];
 
 /// The languages that a script can be emitted in.
-const LANGUAGES: &[&str] = &["c"];
+const LANGUAGES: &[&str] = &["c", "fortran"];
 
 /// Options of runs, which do not go with what is done in place of one.
 const OF_RUNS: &[&str] = &[
@@ -455,6 +456,14 @@ fn is_explained(when: &str, terminals: Terminals) -> bool {
     }
 }
 
+/// The one of the languages that has this name.
+fn language_named(name: &str) -> Language {
+    match name {
+        "fortran" => Language::Fortran,
+        _ => Language::C,
+    }
+}
+
 fn shown_by(matches: &ArgMatches<'_>) -> Views {
     Views {
         echo: matches.get_flag("echo"),
@@ -482,7 +491,7 @@ pub fn options_of<'a>(matches: &'a ArgMatches<'_>, terminals: Terminals) -> Opti
             .map(|when| is_explained(when, terminals)),
         line: matches.get_flag("line"),
         keep_going: matches.get_flag("keep-going"),
-        emit: matches.contains_id("emit"),
+        emit: matches.get_str("emit").map(language_named),
         out: matches.get_str("out"),
         until_refusal: matches.get_flag("until-refusal"),
         rows: matches.get_strs("rows").unwrap_or(&[]),
@@ -554,7 +563,7 @@ skipped where there are fewer. With '# wants: past-the-end' a section may reach
 past its array with no warning, and with '# wants: unused-names' an array may be
 unused.
 
-A program of --emit c does what the script does, and has the expected output in
+A program of --emit does what the script does, and has the expected output in
 it, which is that of --expect where it is given. With --until-refusal it has to
 fail at the first statement that is refused. With --out each FILE, and what ends
 with .acc in folders, becomes a program in FOLDER. It ends with the first

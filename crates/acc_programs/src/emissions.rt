@@ -1,8 +1,8 @@
-//! Scripts that are written as programs in C.
+//! Scripts that are written as programs.
 
 use crate::programs::write_page;
 use acc_base::Fault;
-use acc_emit::{CHECK, EmitFault, MAKEFILE, Origin, Reason, emit};
+use acc_emit::{CHECK, EmitFault, Language, MAKEFILE, Origin, Reason, emit};
 use acc_files::{FileFault, FileStore};
 use acc_follow::Page;
 use acc_options::Options;
@@ -15,10 +15,7 @@ use std::alloc::Global;
 use std::sync::Wait;
 use std::thread::Threads;
 
-/// How a line of each program begins that is written here.
-const MARK: &[u8] = b"/* Written from a script by accrun --emit c. ";
-
-/// Reads the script and writes it as a program in C. With `--expect` that has to have the output in the file.
+/// Reads the script and writes it as a program. With `--expect` that has to have the output in the file.
 ///
 /// # Errors
 ///
@@ -61,7 +58,7 @@ fn file_name(path: &str) -> &str {
     path.rsplit_once('/').map_or(path, |parts| parts.1)
 }
 
-/// Writes scripts as programs in C into a folder, and beside them a Makefile and a runner. Why a script gives no program
+/// Writes scripts as programs into a folder, and beside them a Makefile and a runner. Why a script gives no program
 /// is told on standard error; [`Status::Refused`] where one gives none.
 ///
 /// # Errors
@@ -83,7 +80,7 @@ pub fn emit_all<'a, R: Threads + Wait + Sync + AllocGlobal, O: Sink, E: Sink, D:
     let mut status = Status::Clean;
     let mut programs = Vec::new(rt.alloc());
     for script in &scripts {
-        let name = program_name(rt.alloc(), folder, script.as_str())?;
+        let name = program_name(rt.alloc(), folder, script.as_str(), language_of(options))?;
         if programs.contains(&name) {
             tell_taken(rt.alloc(), err, script.as_str(), name.as_str());
             status = Status::Refused;
@@ -100,16 +97,26 @@ pub fn emit_all<'a, R: Threads + Wait + Sync + AllocGlobal, O: Sink, E: Sink, D:
     }
 }
 
+/// The language of programs, which is C where none is asked for.
+fn language_of(options: Options<'_>) -> Language {
+    options.emit.unwrap_or(Language::C)
+}
+
 /// The name of the program of a script: `FOLDER/life.c` for `tests/life.acc`. It has `_` for each letter that make or a
 /// shell might take for another thing than a part of a name.
-fn program_name(alloc: Global, folder: &str, script: &str) -> Result<String, Fault> {
+fn program_name(
+    alloc: Global,
+    folder: &str,
+    script: &str,
+    language: Language,
+) -> Result<String, Fault> {
     let name = file_name(script);
     let mut path = format!(in alloc; "{folder}/")?;
     for letter in name.strip_suffix(".acc").unwrap_or(name).chars() {
         let is_plain = letter.is_ascii_alphanumeric() || matches!(letter, '.' | '_' | '-');
         path.push(if is_plain { letter } else { '_' })?;
     }
-    path.push_str(".c")?;
+    path.push_str(language.suffix())?;
     Ok(path)
 }
 
@@ -124,14 +131,18 @@ fn tell_taken<E: Sink>(alloc: Global, err: &mut E, script: &str, name: &str) {
     let _ = write_all(err, page.as_slice());
 }
 
-/// Whether a file was written by `--emit c`: a program, or the Makefile or the runner beside programs.
+/// Whether a file was written by `--emit`: a program, or the Makefile or the runner beside programs.
 fn is_emitted(text: &[u8]) -> bool {
     let first = first_line(text);
     first == first_line(MAKEFILE.as_bytes())
         || first == first_line(CHECK.as_bytes())
-        || text
-            .split(|byte| *byte == b'\n')
-            .any(|line| line.starts_with(MARK))
+        || text.split(|byte| *byte == b'\n').any(|line| is_mark(line))
+}
+
+/// Whether a line stands in each program of a language alone.
+fn is_mark(line: &[u8]) -> bool {
+    line.starts_with(Language::C.mark().as_bytes())
+        || line.starts_with(Language::Fortran.mark().as_bytes())
 }
 
 /// The first line of a text, without what ends it.
@@ -149,7 +160,7 @@ struct Maker<'a, R, D> {
 }
 
 impl<R: Threads + Wait + Sync + AllocGlobal, D: FileStore> Maker<'_, R, D> {
-    /// A script as a program in C, with the options of its first line where it comes from a file.
+    /// A script as a program, with the options of its first line where it comes from a file.
     fn program_of<'x>(
         &self,
         options: Options<'x>,
@@ -176,6 +187,7 @@ impl<R: Threads + Wait + Sync + AllocGlobal, D: FileStore> Maker<'_, R, D> {
     ) -> Result<Page, Mishap<'x>> {
         let config = limits(options)?;
         let origin = Origin {
+            language: language_of(options),
             name: options.file.map(file_name),
             script,
             output,
@@ -240,7 +252,7 @@ impl<R: Threads + Wait + Sync + AllocGlobal, D: FileStore> Maker<'_, R, D> {
         self.write(name, page.whole()?)
     }
 
-    /// Writes a file, unless one has its name that `--emit c` did not write.
+    /// Writes a file, unless one has its name that `--emit` did not write.
     fn write<'x>(&self, name: &'x str, text: &[u8]) -> Result<(), Mishap<'x>> {
         let written = match self.files.read(name) {
             Ok(old) if !is_emitted(&old) => Err(FileFault::Because("another file has this name")),

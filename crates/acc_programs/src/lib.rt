@@ -1,4 +1,4 @@
-//! What is written in place of what a script prints: programs in C, scripts by chance, counts of rows.
+//! What is written in place of what a script prints: programs, scripts by chance, counts of rows.
 #![tactic(auto)]
 
 mod emissions;

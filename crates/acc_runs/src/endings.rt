@@ -24,7 +24,7 @@ pub enum Mishap<'a> {
     Within(&'a str, u64, Fault),
     /// A file of this name cannot be read, and why.
     Unread(&'a str, &'static str),
-    /// The line of a number cannot be emitted as C, and why.
+    /// The line of a number cannot be emitted, and why.
     Unfit(u64, Reason),
     /// A picture, a page or JUnit cannot be written to a file of this name, and why; with the line's number, for one of
     /// many.

@@ -8,10 +8,11 @@ use std::test::Fail;
 use std::thread::Threads;
 
 /// Command lines that are accepted, and a text that standard output has then for an empty script.
-const ACCEPTED: [(&str, &str); 4] = [
+const ACCEPTED: [(&str, &str); 5] = [
     ("--help", "Usage: accrun [OPTIONS] [FILE]..."),
     ("-h", "[possible values: counts, full]\n"),
     ("--emit c --threads 2 --host 64", "int main("),
+    ("--emit fortran --host 64", "program script\n"),
     ("--random 1 --lines 1", "wait\nshow a\n"),
 ];
 

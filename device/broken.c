@@ -51,7 +51,8 @@
     MISTAKE(deviceptr_of_mapping, "acc_deviceptr is that of the mapping's first byte")                                 \
     MISTAKE(wait_ignored, "wait waits for nothing")                                                                    \
     MISTAKE(wait_of_one_queue, "wait without a queue waits for queue 0")                                               \
-    MISTAKE(queue_out_of_order, "every second copy of a queue comes before the others")
+    MISTAKE(queue_out_of_order, "every second copy of a queue comes before the others")                                \
+    MISTAKE(device_unchecked, "acc_set_device_num passes over a device that is not there")
 
 #define NAME(name, what) name,
 enum mistake { MISTAKES(NAME) COUNT };
@@ -236,6 +237,12 @@ void *acc_deviceptr(void *start)
     if (is(deviceptr_of_mapping) && is_present(start, length))
         widen(&start, &length);
     return NEXT(acc_deviceptr)(start);
+}
+
+void acc_set_device_num(int number, acc_device_t type)
+{
+    if (!is(device_unchecked) || number < acc_get_num_devices(type))
+        NEXT(acc_set_device_num)(number, type);
 }
 
 /* The programs fill with zero by this call, where the compiler does not know the modifier. */

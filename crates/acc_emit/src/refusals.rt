@@ -5,9 +5,11 @@ use crate::doing::put_all;
 use crate::emitters::Emitter;
 use crate::faults::{EmitFault, Reason};
 use crate::kernels::put_kernel;
+use crate::sheets::Sheet;
 use acc_base::Fault;
 use acc_read::Statement;
 use std::alloc::Global;
+use std::fmt::Write;
 
 /// Emits a statement that is refused, as the last one of the program, and returns that it is. The command line has to ask
 /// for that, and OpenACC has to have the refusal too.
@@ -39,11 +41,12 @@ pub fn emit_refused(
     Ok(true)
 }
 
-/// Whether a refusal is an error of OpenACC (OpenACC 3.3, section 2.7). The others come from limits of the table.
+/// Whether a refusal is an error of OpenACC (OpenACC 3.3, sections 2.7 and 2.14.3). The others come from limits of the
+/// table.
 fn is_of_openacc(fault: Fault) -> bool {
     matches!(
         fault,
-        Fault::PartlyPresent { .. } | Fault::NotPresent { .. }
+        Fault::PartlyPresent { .. } | Fault::NotPresent { .. } | Fault::NoDevice { .. }
     )
 }
 
@@ -63,6 +66,22 @@ fn put_refused(
             section,
             ..
         } => put_kernel(&mut emitter.sheet, *kernel, *section),
+        Statement::Select(device) => {
+            let devices = emitter.own.table.config().devices();
+            put_absent_device(&mut emitter.sheet, device.saturating_sub(devices));
+            Ok(())
+        }
         _ => Err(emitter.sheet.unfit(Reason::Limit)),
     }
+}
+
+/// Puts the choice of a device that is not there on any machine (OpenACC 3.3, section 3.2.4): so many behind the first
+/// that is not.
+fn put_absent_device(sheet: &mut Sheet, behind: u64) {
+    sheet.start_call("acc_set_device_num");
+    let _ = write!(
+        sheet.body,
+        "acc_get_num_devices(acc_get_device_type()) + {behind}, acc_get_device_type()"
+    );
+    sheet.end_call();
 }

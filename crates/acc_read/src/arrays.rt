@@ -107,6 +107,7 @@ impl Arrays {
     }
 
     /// The array of a name, if it is declared.
+    #[inline(always)]
     pub fn get(&self, name: &[u8]) -> Option<Array>
         ensures { result ≡ array_of name.now self.now }
     {

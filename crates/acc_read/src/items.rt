@@ -30,6 +30,7 @@ fn via_at<'a>(arrays: &Arrays, text: &'a [u8]) -> Result<(Option<u64>, &'a [u8])
 }
 
 /// The pointer to a section, where the word `via` stands next, and the text after it.
+#[inline(always)]
 #[tactic(auto, unfolding(crate::specs::Items::aim_at))]
 fn aim_at<'a>(arrays: &Arrays, text: &'a [u8]) -> Result<(Option<u64>, &'a [u8]), ScriptFault>
     ensures { let read = aim_at arrays.now text.now in

@@ -8,6 +8,7 @@ use crate::tokens::{is_at_end, is_mark_next, mark_at, name_at, number_at};
 use acc_base::{ScriptFault, Section};
 
 /// The next word, which is the name of an array, and the text after it.
+#[inline(always)]
 #[tactic(auto, unfolding(crate::specs::Places::known_at))]
 fn known_at<'a>(arrays: &Arrays, text: &'a [u8]) -> Result<(Array, &'a [u8]), ScriptFault>
     ensures { let read = known_at arrays.now text.now in
@@ -19,6 +20,7 @@ fn known_at<'a>(arrays: &Arrays, text: &'a [u8]) -> Result<(Array, &'a [u8]), Sc
 }
 
 /// An offset of an array in brackets, as an address, and the text after it.
+#[inline(always)]
 #[tactic(auto, unfolding(crate::specs::Places::offset_at))]
 fn offset_at(array: Array, text: &[u8]) -> Result<(u64, &[u8]), ScriptFault>
     ensures { let read = offset_at array text.now in
@@ -53,6 +55,7 @@ pub fn last_address_at(arrays: &Arrays, text: &[u8]) -> Result<u64, ScriptFault>
 }
 
 /// A part of an array in brackets, and the text after it.
+#[inline(always)]
 #[tactic(auto, unfolding(crate::specs::Places::part_at))]
 fn part_at(array: Array, text: &[u8]) -> Result<(Section, &[u8]), ScriptFault>
     ensures { let read = part_at array text.now in

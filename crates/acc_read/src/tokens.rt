@@ -1,10 +1,10 @@
 //! Words, marks, numbers, names and bytes at the front of a text.
 
-ghost use Rattle.std.specs.Prelude.{◌≡◌, ◌≤◌, ◌<◌, ◌+◌, ◌*◌, true, Some, min, length, IfOk, IsOk, MatchResult};
+ghost use Rattle.std.specs.Prelude.{◌≡◌, ◌≤◌, ◌<◌, ◌+◌, ◌*◌, ◌==◌, not, true, Some, min, take, length, IfOk, IsOk, MatchResult};
 ghost use Rattle.std.specs.List.{list_all, prefix_len};
 ghost use Rattle.std.specs.Char.{is_ascii_digit, is_ascii_hexdigit};
 ghost use Rattle.std.specs.Str.{bytes_eq};
-ghost use Rattle.acc_read.specs.Tokens.{is_blank, is_word_byte, word_len, skip_blanks, is_at_end, word_at, keyword_at, is_word_next, is_mark_next, mark_at, skip_comma, is_word_before, number_said, number_at, is_name_byte, begins_lower, is_name, value_of, name_at};
+ghost use Rattle.acc_read.specs.Tokens.{is_blank, is_word_byte, word_len, skip_blanks, is_at_end, word_at, keyword_at, is_word_next, is_mark_next, mark_at, skip_comma, is_word_before, is_keyword, number_at, is_name_byte, begins_lower, is_name, value_of, name_at};
 ghost use Rattle.acc_read.specs.Bytes.{bytes_said};
 ghost use Rattle.hex.specs.Hex.{decode_of, hex_digit_value};
 
@@ -19,11 +19,22 @@ pub fn is_blank(b: u8) -> bool
     b == b' ' || b == b'\t'
 }
 
+// Each byte of a word stands at its own place, and a comma at every other place.
+static WORD_BYTES: [u8; 256] = *b"\
+    ,,,,,,,,,,,,,,,,,,,,,,,,,,,,,,,,\
+    ,,,,,,,,,,,,,,,,0123456789,,,,,,\
+    ,ABCDEFGHIJKLMNOPQRSTUVWXYZ,,,,_\
+    ,abcdefghijklmnopqrstuvwxyz,,,,,\
+    ,,,,,,,,,,,,,,,,,,,,,,,,,,,,,,,,\
+    ,,,,,,,,,,,,,,,,,,,,,,,,,,,,,,,,\
+    ,,,,,,,,,,,,,,,,,,,,,,,,,,,,,,,,\
+    ,,,,,,,,,,,,,,,,,,,,,,,,,,,,,,,,";
+
 /// The byte may stand in a word: a letter, a digit or `_`.
 pub fn is_word_byte(b: u8) -> bool
     ensures { result ≡ is_word_byte b }
 {
-    b.is_ascii_alphanumeric() || b == b'_'
+    WORD_BYTES[b as usize] != b','
 }
 
 /// How many blanks stand at the front.
@@ -106,21 +117,32 @@ pub fn long_word_at(text: &[u8]) -> Result<(&[u8], &[u8]), ScriptFault>
     Ok(token.split_at(len))
 }
 
+/// A byte of a word stands first.
+fn begins_word(text: &[u8]) -> bool
+    ensures { result ≡ not (word_len text.now == 0) }
+{
+    match text {
+        [] => false,
+        [first, ..] => is_word_byte(*first),
+    }
+}
+
 /// The text after this keyword, which has to stand next.
-#[tactic(auto, unfolding(crate::specs::Tokens::keyword_at))]
+#[inline(always)]
+#[tactic(auto, using(crate::proofs::Keywords::keyword_laws))]
 pub fn keyword_at<'a>(keyword: &str, text: &'a [u8]) -> Result<&'a [u8], ScriptFault>
+    requires { is_keyword keyword.now ≡ true }
     ensures { let read = keyword_at keyword.now text.now in
         MatchResult result (λ rest. read ≡ Ok rest.now) (λ fault. read ≡ Err fault) }
 {
-    let (word, rest) = word_at(text)?;
-    if is_text(word, keyword) {
-        Ok(rest)
-    } else {
-        Err(ScriptFault::Syntax)
+    match skip_blanks(text).strip_prefix(keyword.as_bytes()) {
+        Some(rest) if !begins_word(rest) => Ok(rest),
+        _ => Err(ScriptFault::Syntax),
     }
 }
 
 /// The next token is this word.
+#[inline(always)]
 pub fn is_word_next(word: &str, text: &[u8]) -> bool
     ensures { result ≡ is_word_next word.now text.now }
 {
@@ -141,6 +163,7 @@ pub fn is_mark_next(mark: u8, text: &[u8]) -> bool
 
 /// The text after this mark, which has to stand next.
 #[tactic(auto, unfolding(crate::specs::Tokens::mark_at))]
+#[inline(always)]
 pub fn mark_at(mark: u8, text: &[u8]) -> Result<&[u8], ScriptFault>
     ensures { let read = mark_at mark text.now in
         MatchResult result (λ rest. read ≡ Ok rest.now) (λ fault. read ≡ Err fault) }
@@ -170,49 +193,39 @@ pub fn is_word_before(mark: u8, text: &[u8]) -> bool
     is_mark_next(mark, rest)
 }
 
-/// The word has decimal digits alone.
-fn has_digits(word: &[u8]) -> bool
-    ensures { result ≡ list_all is_ascii_digit word.now }
-{
-    word.iter().all(|b| b.is_ascii_digit())
-}
-
-/// The number that digits say, or `limit + 1` where it is more.
-fn capped_value(limit: u32, digits: &[u8]) -> u64
-    ensures { result ≡ min (value_of digits.now) (limit + 1) }
+/// How many digits stand at the front, and the number that they say, or `limit + 1` where it is more.
+fn digits_at(limit: u32, text: &[u8]) -> (u64, usize)
+    ensures value { result.0 ≡ min (value_of (take result.1 text.now)) (limit + 1) }
+    ensures count { result.1 ≡ prefix_len is_ascii_digit text.now }
+    ensures bound { result.1 ≤ length text.now }
 {
     let mut value = 0u64;
-    for digit in digits {
-        value = (value * 10 + u64::from(digit.saturating_sub(b'0'))).min(u64::from(limit) + 1);
+    let mut len = 0;
+    while len < text.len() && text[len].is_ascii_digit() {
+        value = (value * 10 + u64::from(text[len] - b'0')).min(u64::from(limit) + 1);
+        len += 1;
     }
-    value
-}
-
-/// The number that a word says, up to a limit.
-#[tactic(auto, using(crate::proofs::Numbers::number_laws), unfolding(crate::specs::Tokens::number_said))]
-fn number_said(limit: u32, word: &[u8]) -> Result<u32, ScriptFault>
-    ensures read { result ≡ number_said limit word.now }
-    ensures bound { IfOk result (λ n. n ≤ limit) }
-{
-    if !has_digits(word) {
-        return Err(ScriptFault::Syntax);
-    }
-    let value = capped_value(limit, word);
-    if value > u64::from(limit) {
-        return Err(ScriptFault::Number);
-    }
-    Ok(value as u32)
+    (value, len)
 }
 
 /// The next word, which is a number up to a limit, and the text after it.
-#[tactic(auto, unfolding(crate::specs::Tokens::number_at))]
+#[inline(always)]
+#[tactic(auto, using(crate::proofs::Numbers::number_laws))]
 pub fn number_at(limit: u32, text: &[u8]) -> Result<(u32, &[u8]), ScriptFault>
     ensures read { let read = number_at limit text.now in
         MatchResult result (λ x. read ≡ Ok (x.0, x.1.now)) (λ fault. read ≡ Err fault) }
     ensures bound { IfOk result (λ x. x.0 ≤ limit) }
 {
-    let (word, rest) = word_at(text)?;
-    Ok((number_said(limit, word)?, rest))
+    let token = skip_blanks(text);
+    let (value, len) = digits_at(limit, token);
+    let (_, rest) = token.split_at(len);
+    if len == 0 || begins_word(rest) {
+        return Err(ScriptFault::Syntax);
+    }
+    if value > u64::from(limit) {
+        return Err(ScriptFault::Number);
+    }
+    Ok((value as u32, rest))
 }
 
 fn is_name_byte(b: u8) -> bool
@@ -245,6 +258,7 @@ fn is_name(word: &[u8]) -> bool
 }
 
 /// The next word, which may name an array, and the text after it.
+#[inline(always)]
 #[tactic(auto, unfolding(crate::specs::Tokens::name_at))]
 pub fn name_at(text: &[u8]) -> Result<(&[u8], &[u8]), ScriptFault>
     ensures { let read = name_at text.now in

@@ -1,9 +1,9 @@
 -- A keyword stands next where its bytes do, and no other byte of a word behind them.
-use Rattle.std.proofs.Common.{◌≡◌, ℕ, suc, ◌+◌, ◌<◌, Bool, true, false, cond, not, ◌&&◌, List, [], ◌∷◌, length, take, drop, Ok, Err, refl, sym, ap, true≢false, Result, ◌∙◌, arith, nat_eq, nat_lt}
+use Rattle.std.proofs.Common.{◌≡◌, ℕ, suc, ◌+◌, ◌<◌, Bool, true, false, cond, not, ◌&&◌, List, [], ◌∷◌, length, take, drop, Ok, Err, refl, sym, ap, true≢false, Result, ◌∙◌, arith, nat_eq}
 use Rattle.std.specs.Prelude.{◌==◌}
 use Rattle.std.specs.List.{list_all}
 use Rattle.std.specs.Str.{bytes_eq}
-use Rattle.std.proofs.lemmas.Bool.{and_parts, eqb-true, not-true, not-false, ltb-true, ne_eqb}
+use Rattle.std.proofs.lemmas.Bool.{and_parts, eqb-true, not-false, ltb-true, ne_eqb}
 use Rattle.acc_base.specs.declared.faults.ScriptFault.{ScriptFault}
 use Rattle.acc_base.specs.declared.faults.ScriptFault.TheVariants.{Syntax}
 use Rattle.acc_read.specs.Reading.{◌>>=◌}

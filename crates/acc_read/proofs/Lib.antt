@@ -4,7 +4,6 @@ pub mod Repeated
 pub mod Keeping
 pub mod Wanting
 pub mod ByteWords
-pub mod ShortNames
 pub mod NameEntries
 pub mod ByteRuns
 pub mod PlainLines

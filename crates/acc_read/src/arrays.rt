@@ -1,12 +1,11 @@
 //! The arrays of a script, and where they lie in host memory.
 
-ghost use Rattle.std.specs.Prelude.{◌≡◌, ◌+◌, ◌≤◌, true, OnOk, OnErr};
+ghost use Rattle.std.specs.Prelude.{◌≡◌, ◌+◌, ◌≤◌, OnOk, OnErr};
 ghost use Rattle.acc_read.specs.Layout.{no_arrays, array_of, next_array, with_array, whole, part_of, byte_of};
-ghost use Rattle.acc_read.specs.Naming.{is_short, number_of};
 
 use acc_base::{HOST_BASE, MEMORY_MAX, Section};
 use std::alloc::{AllocError, Global};
-use std::collections::BTreeMap;
+use std::collections::HashMap;
 use std::marker::Model;
 
 /// The host addresses from `start` up to `end`, which is not one of them.
@@ -47,34 +46,12 @@ impl Array {
     }
 }
 
-// Whether the bytes of a name fit a number. The number gives how many there are, since the first is not 0.
-fn is_short(name: &[u8]) -> bool
-    ensures { result ≡ is_short name.now }
-{
-    !name.is_empty() && name[0] != 0 && name.len() <= 8
-}
-
-// The number that the bytes of a short name say.
-fn number_of(name: &[u8]) -> u64
-    requires { is_short name.now ≡ true }
-    ensures { result ≡ number_of name.now }
-{
-    let mut number = 0;
-    for byte in name {
-        number = number * 256 + u64::from(*byte);
-    }
-    number
-}
-
 /// The arrays that a script has declared, by their names.
 ///
 /// Contracts see where each lies, where the last one ends, and where host memory ends.
 #[derive(Drop)]
 pub struct Arrays {
-    // Short names as numbers, which stand in the nodes themselves: a look-up follows no pointer to a name.
-    short: BTreeMap<u64, Array>,
-    // The other names.
-    long: BTreeMap<Vec<u8>, Array>,
+    by_name: HashMap<Vec<u8>, Array>,
     last_end: u32,
     limit: u32,
 }
@@ -89,7 +66,7 @@ impl Model for Arrays {
 
     ghost use Rattle.acc_read.specs.Naming.{names_of};
 
-    ghost view = { λ a. record { names = names_of a.short.entries a.long.entries; last_end = a.last_end; limit = a.limit } };
+    ghost view = { λ a. record { names = names_of a.by_name.entries; last_end = a.last_end; limit = a.limit } };
 }
 
 impl Arrays {
@@ -99,8 +76,7 @@ impl Arrays {
         ensures { result ≡ no_arrays host }
     {
         Arrays {
-            short: BTreeMap::new(alloc),
-            long: BTreeMap::new(alloc),
+            by_name: HashMap::new(alloc),
             last_end: HOST_BASE as u32,
             limit: HOST_BASE as u32 + host,
         }
@@ -111,11 +87,7 @@ impl Arrays {
     pub fn get(&self, name: &[u8]) -> Option<Array>
         ensures { result ≡ array_of name.now self.now }
     {
-        if is_short(name) {
-            self.short.get(&number_of(name)).copied()
-        } else {
-            self.long.get(name).copied()
-        }
+        self.by_name.get(name).copied()
     }
 
     /// The next array of `len` bytes: it starts at the least multiple of 16 at or after the end of the one before.
@@ -144,11 +116,7 @@ impl Arrays {
         ensures ok { OnOk result (self.new ≡ with_array name.now array self.old) }
         ensures err { OnErr result (self.new ≡ self.old) }
     {
-        if is_short(name) {
-            self.short.insert(number_of(name), array)?;
-        } else {
-            self.long.insert(Vec::from_slice(alloc, name)?, array)?;
-        }
+        self.by_name.insert(Vec::from_slice(alloc, name)?, array)?;
         self.last_end = array.end;
         Ok(())
     }

@@ -19,6 +19,8 @@ use Rattle.acc_clauses.specs.Lending.{IsLoanPlanned}
 use Rattle.acc_clauses.specs.Contents.{Contents}
 use Rattle.acc_clauses.specs.Planned.{Planned}
 use Rattle.acc_table.specs.declared.calls.Reply.{Reply}
+use Rattle.acc_table.specs.declared.making.Kind.{Kind}
+use Rattle.acc_table.specs.declared.making.Kind.TheVariants as kinds
 use Rattle.acc_table.specs.declared.calls.Reply.TheVariants as replies
 use Rattle.acc_table.specs.Calls.{reply_of, MayWantMemory}
 
@@ -33,6 +35,16 @@ number_told (Enter device items) s = s.register.next
 number_told (Wait device queue) s = length (steps_of queue s.records.queues)
 number_told (Step device queue) s = unwrap_or (option_map (λ t. t.block) (head_of queue s.records.queues)) 0
 number_told d s = 0
+
+-- the kind of a directive
+abbrev pub kind_of : Directive → Kind
+kind_of (Enter device items) = kinds.Enter
+kind_of (Exit number) = kinds.Exit
+kind_of (EnterData device items queue) = kinds.EnterData
+kind_of (ExitData device items finalize queue) = kinds.ExitData
+kind_of (Update device items if_present queue) = kinds.Update
+kind_of (Wait device queue) = kinds.Wait
+kind_of (Step device queue) = kinds.Step
 
 -- the event of a directive on a device, not idle, with this number, and whose items did this, in written order
 abbrev pub event_told : ℕ → Directive → ℕ → List Did → Event

@@ -1,6 +1,7 @@
 //! How a judged directive becomes an event. All growths come before the first change.
 
 ghost use Rattle.std.specs.Prelude.{◌≡◌, ◌+◌, ◌<◌, ◌≤◌, ◌^◌, ◌++◌, ◌∷◌, [], false, length, Ok, vec_len, vec_capacity, is_none, IsOk, IfOk, IfErr, OnOk, OnErr, IfSome};
+ghost use Rattle.acc_base.specs.declared.directives.Directive.{Directive};
 ghost use Rattle.acc_base.specs.declared.faults.Fault.TheVariants.{Memory};
 ghost use Rattle.acc_base.specs.Limits.{recorded};
 ghost use Rattle.acc_base.specs.Bytes.{host_after_write};
@@ -8,7 +9,7 @@ ghost use Rattle.acc_base.specs.Judge.{plan_of, written};
 ghost use Rattle.acc_clauses.specs.Acts.{CanWrite, HasPlanRoom, lens_born};
 ghost use Rattle.acc_clauses.specs.Overlays.{dids_in};
 ghost use Rattle.acc_clauses.specs.Planned.{IsPlanOf, in_written_order, state_by};
-ghost use Rattle.acc_table.specs.Making.{is_idle, number_told, event_told, reply_told, apart_of, planned_verdict, MayBeToldOf, IsCommitted, IsAsBefore};
+ghost use Rattle.acc_table.specs.Making.{is_idle, kind_of, number_told, event_told, reply_told, apart_of, planned_verdict, MayBeToldOf, IsCommitted, IsAsBefore};
 
 use crate::calls::Reply;
 use acc_base::{Did, Directive, Event, Fault, List};
@@ -38,73 +39,110 @@ fn number_told(store: &Store, directive: &Directive) -> u64
     }
 }
 
-/// The event of a directive on a device, with this number and what its items did, in written order.
+/// Which directive it is. A kind that was told before a call is known behind it, where what a reference leads to is read
+/// anew. So where the caller names the directive, its event and its reply are written without a question.
+#[derive(Clone, Copy)]
+pub(crate) enum Kind {
+    Enter,
+    Exit,
+    EnterData,
+    ExitData,
+    Update,
+    Wait,
+    Step,
+}
+
+/// The kind of a directive.
 #[inline(always)]
-fn event_told(device: u64, directive: Directive, number: u64, did: List<Did>) -> Event
-    ensures { result ≡ event_told device directive number did }
+fn kind_of(directive: &Directive) -> Kind
+    ensures { result ≡ kind_of directive.now }
 {
     match directive {
-        Directive::Enter { items, .. } => Event::Entered {
+        Directive::Enter { .. } => Kind::Enter,
+        Directive::Exit { .. } => Kind::Exit,
+        Directive::EnterData { .. } => Kind::EnterData,
+        Directive::ExitData { .. } => Kind::ExitData,
+        Directive::Update { .. } => Kind::Update,
+        Directive::Wait { .. } => Kind::Wait,
+        Directive::Step { .. } => Kind::Step,
+    }
+}
+
+/// The event of a directive of a kind on a device, with this number and what its items did, in written order.
+#[inline(always)]
+fn event_told(kind: Kind, device: u64, directive: Directive, number: u64, did: List<Did>) -> Event
+    requires { kind ≡ kind_of directive }
+    ensures { result ≡ event_told device directive number did }
+{
+    match (kind, directive) {
+        (Kind::Enter, Directive::Enter { items, .. }) => Event::Entered {
             device,
             number,
             items,
             did,
         },
-        Directive::Exit { number } => Event::Left {
+        (Kind::Exit, Directive::Exit { number }) => Event::Left {
             device,
             number,
             did,
         },
-        Directive::EnterData { items, queue, .. } => Event::EnteredData {
+        (Kind::EnterData, Directive::EnterData { items, queue, .. }) => Event::EnteredData {
             device,
             items,
             queue,
             did,
         },
-        Directive::ExitData {
+        (
+            Kind::ExitData,
+            Directive::ExitData {
+                items,
+                finalize,
+                queue,
+                ..
+            },
+        ) => Event::ExitedData {
+            device,
             items,
             finalize,
             queue,
-            ..
-        } => Event::ExitedData {
-            device,
-            items,
-            finalize,
-            queue,
             did,
         },
-        Directive::Update {
-            items,
-            if_present,
-            queue,
-            ..
-        } => Event::Updated {
+        (
+            Kind::Update,
+            Directive::Update {
+                items,
+                if_present,
+                queue,
+                ..
+            },
+        ) => Event::Updated {
             device,
             items,
             if_present,
             queue,
             did,
         },
-        Directive::Wait { queue, .. } => Event::Waited {
+        (Kind::Wait, Directive::Wait { queue, .. }) => Event::Waited {
             device,
             queue,
             count: number,
         },
-        Directive::Step { queue, .. } => Event::Stepped {
+        (Kind::Step, Directive::Step { queue, .. }) => Event::Stepped {
             device,
             queue,
             block: number,
         },
+        _ => unreachable!(),
     }
 }
 
-/// The reply to a directive whose event has this number.
-fn reply_told(directive: &Directive, number: u64) -> Reply
-    ensures { result ≡ reply_told directive.now number }
+/// The reply to a directive of a kind whose event has this number.
+fn reply_told(kind: Kind, number: u64) -> Reply
+    ensures { (directive : Directive) → kind ≡ kind_of directive → result ≡ reply_told directive number }
 {
-    match directive {
-        Directive::Enter { .. } => Reply::Entered { number },
-        Directive::Wait { .. } => Reply::Drained { count: number },
+    match kind {
+        Kind::Enter => Reply::Entered { number },
+        Kind::Wait => Reply::Drained { count: number },
         _ => Reply::Done,
     }
 }
@@ -250,11 +288,12 @@ pub fn carry_out(
     ensures refused { IfErr result (λ back. MayBeToldOf (plan_of store.old.limits directive store.old.state) back.1) }
     ensures same { OnErr result (IsAsBefore store.old store.new trace.old.items trace.new.items) }
 {
+    let kind = kind_of(&directive);
     match enact(store, trace, plan, &directive) {
         Ok(Some((number, apart))) => {
-            let reply = reply_told(&directive, number);
+            let reply = reply_told(kind, number);
             let did = list_of(&directive, plan.acts(), apart);
-            trace.push_reserved(event_told(store.number(), directive, number, did));
+            trace.push_reserved(event_told(kind, store.number(), directive, number, did));
             Ok(reply)
         }
         Ok(None) => Ok(Reply::Idle),

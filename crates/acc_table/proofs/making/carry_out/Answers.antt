@@ -23,7 +23,7 @@ returns-in-Ok-Some-clause-done c =
     let made : verdict_of k d s dids ≡ Makes (event_told k d (number_told d s) did) = told k d s dids busy ∙ ap (λ ds. Makes (event_told k d (number_told d s) ds)) (sym written) in
     let event : c.event_told.result ≡ event_told k d (number_told d s) did = c.event_told.ensures ∙ (ap (λ m. event_told m d c.in-Ok-Some.number did) own ∙ ap (λ n. event_told k d n did) number) in
     subst (λ (v : Verdict). IsCommitted v c.reply_told-reply.result c.args.store.now c.enact.new.store c.args.trace.now.items c.push_reserved.new.self.items) (sym made) (record {
-      reply = c.reply_told-reply.ensures ∙ (ap (reply_told d) number ∙ replied k d (number_told d s) did s);
+      reply = c.reply_told-reply.ensures d c.kind_of-kind.ensures ∙ (ap (reply_told d) number ∙ replied k d (number_told d s) did s);
       limits = e.limits;
       state = e.state ∙ ap (λ (v : Verdict). state_by c.args.store.now.limits.full v s) made;
       trace = c.push_reserved.ensures.items ∙ (ap (λ (es : List Event). es ++ c.event_told.result ∷ []) e.trace ∙ ap (λ (x : Event). c.args.trace.now.items ++ x ∷ []) event);

@@ -1,17 +1,32 @@
--- One more hexadecimal digit, in front of those before.
-use Rattle.std.proofs.Common.{◌≡◌, ℕ, suc, ◌+◌, ◌-◌, ◌/◌, ◌%◌, ◌<◌, ◌≤◌, true, false, List, [], ◌∷◌, length, drop, refl, sym, ap, ◌∙◌, arith, length-drop}
+-- The length of a number, and one more hexadecimal digit in front of those before.
+use Rattle.std.proofs.Common.{◌≡◌, ℕ, zero, suc, ◌+◌, ◌-◌, ◌/◌, ◌%◌, ◌^◌, ◌<◌, ◌≤◌, Bool, true, false, cond, List, [], ◌∷◌, ◌++◌, length, drop, refl, sym, ap, ◌∙◌, arith}
 use Rattle.std.specs.Prelude.{◌==◌, slice_set}
-use Rattle.std.specs.Fmt.{digits, digits_onto, digit_glyph}
-use Rattle.std.proofs.lemmas.List.{nil_from_length, drop-set}
+use Rattle.std.specs.Fmt.{decimal, digits, digits_onto, digit_glyph}
+use Rattle.std.proofs.lemmas.Fmt.{length-decimal-le}
+use Rattle.std.proofs.lemmas.List.{drop-set}
+
+-- a number has at most twenty digits
+pub short_number : (n : ℕ) → n < 2 ^ 64 → length (decimal n) ≤ 20
+short_number n lt = length-decimal-le 20 n (omega arith) (omega arith) lt
 
 -- the digits of what is left, in front of those behind
 unfoldable pub digits_left : ℕ → ℕ → List ℕ → List ℕ
 digits_left done left behind = digits_onto (64 - done) 16 false left behind
 
+-- digits in front of a text, with one more behind it
+onto_append : (k n : ℕ) (text behind : List ℕ) → digits_onto k 16 false n (text ++ behind) ≡ digits_onto k 16 false n text ++ behind
+onto_append zero n text behind = refl
+onto_append (suc k) n text behind =
+    by (n / 16 == 0) (digit_glyph false (n % 16) ∷ text) (digits_onto k 16 false (n / 16) (digit_glyph false (n % 16) ∷ text)) (digits_onto k 16 false (n / 16) (digit_glyph false (n % 16) ∷ (text ++ behind))) (onto_append k (n / 16) (digit_glyph false (n % 16) ∷ text) behind)
+  where
+    by : (t : Bool) (xs ys zs : List ℕ) → zs ≡ ys ++ behind → cond t (xs ++ behind) zs ≡ cond t xs ys ++ behind
+    by true xs ys zs h = refl
+    by false xs ys zs h = h
+
 -- all digits are left before the first is put
-pub none_yet : (n : ℕ) (buffer : List ℕ) → length buffer ≡ 64 → digits_left 0 n (drop 64 buffer) ≡ digits 16 false n
+pub none_yet : (n : ℕ) (behind : List ℕ) → digits_left 0 n behind ≡ digits 16 false n ++ behind
 unfolding digits_left digits
-none_yet n buffer len = let e : drop 64 buffer ≡ [] = nil_from_length _ (omega (arith, length-drop 64 buffer)) in ap (digits_onto 64 16 false n) e
+none_yet n behind = onto_append 64 n [] behind
 
 -- one digit more, in front of those behind, where more are left
 pub next_digit : (done left next : ℕ) (behind : List ℕ) → done < 64 → next ≡ left / 16 → (next == 0) ≡ false
@@ -25,31 +40,27 @@ pub last_digit : (done left next : ℕ) (behind : List ℕ) → done < 64 → ne
 unfolding digits_left
 last_digit done left next behind lt e h = let k : 64 - done ≡ suc (64 - (done + 1)) = omega arith in rw (k, ← e, h) refl
 
--- no digit is left once the buffer is full
+-- no digit is left once all places are full
 pub no_more : (done left : ℕ) (behind : List ℕ) → 64 ≤ done → digits_left done left behind ≡ behind
 unfolding digits_left
 no_more done left behind le = let k : 64 - done ≡ 0 = omega arith in rw k refl
 
--- a buffer after a digit was put at a place
-pub put_front : (done digit : ℕ) (buffer : List ℕ) → length buffer ≡ 64 → done < 64
-    → drop (63 - done) (slice_set buffer (63 - done) digit) ≡ digit ∷ drop (64 - done) buffer
-put_front done digit buffer len lt =
-    let k : (63 - done) + 1 ≡ 64 - done = omega arith in
-    drop-set buffer (63 - done) digit (omega arith) ∙ ap (λ (n : ℕ). digit ∷ drop n buffer) k
+module _ (end done left digit next : ℕ) (bytes text : List ℕ) (room : 64 ≤ end) (within : end ≤ length bytes) (lt : done < 64) (d : digit ≡ digit_glyph false (left % 16)) (e : next ≡ left / 16) (h : digits_left done left (drop (end - done) bytes) ≡ text) where
+  -- bytes after a digit was put at a place
+  put_front : drop (end - 1 - done) (slice_set bytes (end - 1 - done) digit) ≡ digit_glyph false (left % 16) ∷ drop (end - done) bytes
+  put_front =
+      let k : (end - 1 - done) + 1 ≡ end - done = omega arith in
+      drop-set bytes (end - 1 - done) digit (omega arith) ∙ ap (λ (n : ℕ). digit ∷ drop n bytes) k ∙ ap (λ (g : ℕ). g ∷ drop (end - done) bytes) d
 
--- a buffer with the first digit put holds all digits
-pub digit_put : (done left digit next n : ℕ) (buffer : List ℕ) → length buffer ≡ 64 → done < 64
-    → digit ≡ digit_glyph false (left % 16) → next ≡ left / 16
-    → digits_left done left (drop (64 - done) buffer) ≡ digits 16 false n → next ≡ 0
-    → drop (63 - done) (slice_set buffer (63 - done) digit) ≡ digits 16 false n
-digit_put done left digit next n buffer len lt d e h z = put_front done digit buffer len lt ∙ ap (λ (g : ℕ). g ∷ drop (64 - done) buffer) d ∙ sym (last_digit done left next (drop (64 - done) buffer) lt e (ap (λ (m : ℕ). m == 0) z)) ∙ h
+  -- with the first digit put they hold all digits
+  pub digit_put : next ≡ 0 → drop (end - 1 - done) (slice_set bytes (end - 1 - done) digit) ≡ text
+  digit_put z =
+      put_front ∙ sym (last_digit done left next (drop (end - done) bytes) lt e (ap (λ (m : ℕ). m == 0) z)) ∙ h
 
--- a buffer with one more digit put leaves the others to put
-pub digit_more : (done left digit next n : ℕ) (buffer : List ℕ) → length buffer ≡ 64 → done < 64
-    → digit ≡ digit_glyph false (left % 16) → next ≡ left / 16
-    → digits_left done left (drop (64 - done) buffer) ≡ digits 16 false n → (next == 0) ≡ false
-    → digits_left (done + 1) next (drop (64 - (done + 1)) (slice_set buffer (63 - done) digit)) ≡ digits 16 false n
-digit_more done left digit next n buffer len lt d e h z =
-    let k : 64 - (done + 1) ≡ 63 - done = omega arith in
-    let put : drop (64 - (done + 1)) (slice_set buffer (63 - done) digit) ≡ digit_glyph false (left % 16) ∷ drop (64 - done) buffer = rw k (put_front done digit buffer len lt ∙ ap (λ (g : ℕ). g ∷ drop (64 - done) buffer) d) in
-    ap (digits_left (done + 1) next) put ∙ sym (next_digit done left next (drop (64 - done) buffer) lt e z) ∙ h
+  -- with one more digit put the others are left to put
+  pub digit_more : (next == 0) ≡ false
+      → digits_left (done + 1) next (drop (end - (done + 1)) (slice_set bytes (end - 1 - done) digit)) ≡ text
+  digit_more z =
+      let k : end - (done + 1) ≡ end - 1 - done = omega arith in
+      let put : drop (end - (done + 1)) (slice_set bytes (end - 1 - done) digit) ≡ digit_glyph false (left % 16) ∷ drop (end - done) bytes = rw k put_front in
+      ap (digits_left (done + 1) next) put ∙ sym (next_digit done left next (drop (end - done) bytes) lt e z) ∙ h

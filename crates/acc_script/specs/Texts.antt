@@ -59,11 +59,6 @@ devices_text host device count =
 abbrev pub used_text : ℕ → ℕ → List ℕ
 used_text device used = codes "device " ++ (decimal device ++ (codes " used " ++ (decimal used ++ codes "\n")))
 
--- where a range is mapped to, and its counters
-abbrev pub mapping_text : ℕ → ℕ → ℕ → List ℕ
-mapping_text start len place =
-    codes "map " ++ (address start ++ (codes " " ++ (decimal len ++ (codes " at " ++ address place))))
-
 -- the end of the line of a mapped range, which shows whether its block is lent
 abbrev pub lent_text : Bool → List ℕ
 lent_text lent = if lent then codes " lent\n" else codes "\n"
@@ -73,9 +68,11 @@ abbrev pub counters_text : ℕ → ℕ → Bool → List ℕ
 counters_text structured dynamic lent =
     codes " structured " ++ (decimal structured ++ (codes " dynamic " ++ (decimal dynamic ++ lent_text lent)))
 
--- a mapped range
+-- a mapped range: where it is mapped to, and its counters
 unfoldable pub mapped_text : Mapped → List ℕ
-mapped_text m = mapping_text m.start m.len m.place ++ counters_text m.structured m.dynamic m.lent
+mapped_text m =
+    codes "map "
+    ++ (address m.start ++ (codes " " ++ (decimal m.len ++ (codes " at " ++ (address m.place ++ counters_text m.structured m.dynamic m.lent)))))
 
 -- how many regions are open, and how many events there were
 abbrev pub totals_text : ℕ → ℕ → List ℕ

@@ -6,8 +6,8 @@ ghost use Rattle.acc_script.specs.Ends.{Wrote};
 ghost use Rattle.acc_script.specs.Shown.{idle_text, bytes_text, read_text, presence_text, place_text};
 
 use crate::Sink;
-use crate::ends::whole::{write_all, write_pieces};
-use crate::print::addresses::AddressBuffer;
+use crate::ends::whole::write_all;
+use crate::print::lines::Line;
 
 /// How many bytes are turned into digits at a time.
 const PIECE: usize = 64;
@@ -92,9 +92,10 @@ pub fn write_place<W: Sink>(writer: &mut W, place: Option<u64>) -> bool
     match place {
         None => write_all(writer, b"none\n"),
         Some(place) => {
-            let mut buffer = AddressBuffer::new();
-            let digits = buffer.format(place);
-            write_pieces(writer, &[b"0x".as_slice(), digits, b"\n"])
+            let mut line = Line::new();
+            line.put(b"\n");
+            line.put_address(place);
+            line.write(writer)
         }
     }
 }

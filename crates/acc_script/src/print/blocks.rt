@@ -6,11 +6,9 @@ ghost use Rattle.acc_script.specs.Ends.{Wrote};
 ghost use Rattle.acc_script.specs.Texts.{ended_text, ended_texts};
 
 use crate::Sink;
-use crate::ends::whole::write_pieces;
-use crate::print::addresses::AddressBuffer;
+use crate::print::lines::Line;
 use acc_base::Ended;
 use acc_table::Table;
-use itoa::Buffer;
 
 /// Writes a line for each block of a device whose mapping has ended, by rising place; false where the sink failed.
 pub fn write_ended<W: Sink>(table: &Table, writer: &mut W, device: u64) -> bool
@@ -31,22 +29,13 @@ pub fn write_ended<W: Sink>(table: &Table, writer: &mut W, device: u64) -> bool
 fn write_block<W: Sink>(writer: &mut W, ended: Ended) -> bool
     ensures { Wrote (W.told writer.old) (W.told writer.new) (ended_text ended) result }
 {
-    let mut place_buffer = AddressBuffer::new();
-    let mut size_buffer = Buffer::new();
-    let mut pins_buffer = Buffer::new();
-    let place = place_buffer.format(ended.place);
-    let size = size_buffer.format(ended.size);
-    let pins = pins_buffer.format(ended.pins);
-    write_pieces(
-        writer,
-        &[
-            b"ended 0x".as_slice(),
-            place,
-            b" ",
-            size.as_bytes(),
-            b" pins ",
-            pins.as_bytes(),
-            b"\n",
-        ],
-    )
+    let mut line = Line::new();
+    line.put(b"\n");
+    line.put_number(ended.pins);
+    line.put(b" pins ");
+    line.put_number(ended.size);
+    line.put(b" ");
+    line.put_address(ended.place);
+    line.put(b"ended ");
+    line.write(writer)
 }

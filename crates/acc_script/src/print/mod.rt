@@ -1,10 +1,10 @@
-//! Writes what a line has to print, without allocation. Each text goes to its sink in pieces, so contracts know what a
-//! sink took before it failed. A new kind of answer is one more case in `effects`.
+//! Writes what a line has to print, without allocation. A line of a report goes to its sink in one piece, and contracts
+//! know what a sink took before it failed. A new kind of answer is one more case in `effects`.
 
-mod addresses;
 mod answers;
 mod blocks;
 pub mod effects;
+pub mod lines;
 mod pointers;
 mod queues;
 mod ranges;

@@ -6,11 +6,9 @@ ghost use Rattle.acc_script.specs.Ends.{Wrote};
 ghost use Rattle.acc_script.specs.Texts.{pointer_text, pointers_text};
 
 use crate::Sink;
-use crate::ends::whole::write_pieces;
-use crate::print::addresses::AddressBuffer;
+use crate::print::lines::Line;
 use acc_base::{Attachment, Section};
 use acc_table::Table;
-use itoa::Buffer;
 
 /// Writes a line for each attached pointer that begins in a section inside one mapped range, by rising address. False
 /// where the sink failed.
@@ -38,18 +36,11 @@ pub fn write_pointers<W: Sink>(table: &Table, writer: &mut W, device: u64, secti
 fn write_pointer<W: Sink>(writer: &mut W, attached: Attachment) -> bool
     ensures { Wrote (W.told writer.old) (W.told writer.new) (pointer_text attached) result }
 {
-    let mut pointer_buffer = AddressBuffer::new();
-    let mut count_buffer = Buffer::new();
-    let pointer = pointer_buffer.format(attached.pointer);
-    let count = count_buffer.format(attached.count);
-    write_pieces(
-        writer,
-        &[
-            b"pointer 0x".as_slice(),
-            pointer,
-            b" count ",
-            count.as_bytes(),
-            b"\n",
-        ],
-    )
+    let mut line = Line::new();
+    line.put(b"\n");
+    line.put_number(attached.count);
+    line.put(b" count ");
+    line.put_address(attached.pointer);
+    line.put(b"pointer ");
+    line.write(writer)
 }

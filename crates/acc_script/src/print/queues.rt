@@ -6,10 +6,9 @@ ghost use Rattle.acc_script.specs.Ends.{Wrote};
 ghost use Rattle.acc_script.specs.Texts.{queue_text, waiting_text, queues_text};
 
 use crate::Sink;
-use crate::ends::whole::write_pieces;
+use crate::print::lines::Line;
 use acc_base::QUEUE_COUNT;
 use acc_table::Table;
-use itoa::Buffer;
 
 /// Writes a line for each queue of a device that is not empty, by rising number; false where the sink failed.
 pub fn write_queues<W: Sink>(table: &Table, writer: &mut W, device: u64) -> bool
@@ -38,13 +37,11 @@ fn write_waiting<W: Sink>(writer: &mut W, q: u64, len: u64) -> bool
 fn write_queue<W: Sink>(writer: &mut W, q: u64, len: u64) -> bool
     ensures { Wrote (W.told writer.old) (W.told writer.new) (queue_text q len) result }
 {
-    let mut number_buffer = Buffer::new();
-    let mut len_buffer = Buffer::new();
-    let number = number_buffer.format(q);
-    let len = len_buffer.format(len);
-    let start: &[u8] = b"queue ";
-    write_pieces(
-        writer,
-        &[start, number.as_bytes(), b" length ", len.as_bytes(), b"\n"],
-    )
+    let mut line = Line::new();
+    line.put(b"\n");
+    line.put_number(len);
+    line.put(b" length ");
+    line.put_number(q);
+    line.put(b"queue ");
+    line.write(writer)
 }

@@ -1,17 +1,15 @@
 //! The mapped ranges of a device, written without allocation.
 
-ghost use Rattle.std.specs.Prelude.{◌≡◌, ◌+◌, ◌<◌, ◌^◌};
+ghost use Rattle.std.specs.Prelude.{◌≡◌, ◌+◌, ◌<◌, ◌≤◌, ◌^◌, [], length};
 ghost use Rattle.acc_base.specs.Devices.{view};
 ghost use Rattle.acc_script.specs.Ends.{Wrote};
-ghost use Rattle.acc_script.specs.Texts.{mapped_text, range_text, ranges_text, mapping_text, lent_text, counters_text};
+ghost use Rattle.acc_script.specs.Texts.{mapped_text, range_text, ranges_text, counters_text, lent_text};
 
 use crate::Sink;
-use crate::ends::whole::write_pieces;
-use crate::print::addresses::AddressBuffer;
+use crate::print::lines::Line;
 use crate::print::pointers::write_pointers;
 use acc_base::Section;
-use acc_table::{Mapped, Table};
-use itoa::Buffer;
+use acc_table::{Mapped, Place, Table};
 
 /// Writes a line for each mapped range of a device and each attached pointer in it; false where the sink failed.
 pub fn write_ranges<W: Sink>(table: &Table, writer: &mut W, device: u64) -> bool
@@ -20,11 +18,13 @@ pub fn write_ranges<W: Sink>(table: &Table, writer: &mut W, device: u64) -> bool
 {
     table.laws();
     let mut from = 0u64;
-    'each: while let Some(mapped) = table.mapped(device, from) {
+    let mut near = Place::default();
+    'each: while let Some((mapped, place)) = table.mapped_near(device, from, near) {
         if !write_range(table, writer, device, mapped) {
             return false;
         }
         from = mapped.start + 1;
+        near = place;
     }
     true
 }
@@ -45,60 +45,45 @@ fn write_range<W: Sink>(table: &Table, writer: &mut W, device: u64, mapped: Mapp
     write_pointers(table, writer, device, section)
 }
 
+#[tactic(auto, unfolding(crate::specs::Texts::mapped_text))]
 fn write_mapped<W: Sink>(writer: &mut W, mapped: Mapped) -> bool
     ensures { Wrote (W.told writer.old) (W.told writer.new) (mapped_text mapped) result }
 {
-    if !write_mapping(writer, mapped.start, mapped.len, mapped.place) {
-        return false;
+    let mut line = Line::new();
+    put_counters(&mut line, mapped);
+    line.put_address(mapped.place);
+    line.put(b" at ");
+    line.put_number(mapped.len);
+    line.put(b" ");
+    line.put_address(mapped.start);
+    line.put(b"map ");
+    line.write(writer)
+}
+
+/// Puts the two reference counters of a mapped range, up to the end of its line.
+#[inline(always)]
+fn put_counters(line: &mut Line, mapped: Mapped)
+    requires none { line.old ≡ [] }
+    ensures text { line.new ≡ counters_text mapped.structured mapped.dynamic mapped.lent }
+    ensures length { length line.new ≤ 67 }
+{
+    put_end(line, mapped.lent);
+    line.put_number(mapped.dynamic);
+    line.put(b" dynamic ");
+    line.put_number(mapped.structured);
+    line.put(b" structured ");
+}
+
+/// Puts the end of the line of a mapped range, which shows whether its block is lent.
+#[inline(always)]
+fn put_end(line: &mut Line, lent: bool)
+    requires none { line.old ≡ [] }
+    ensures text { line.new ≡ lent_text lent }
+    ensures length { length line.new ≤ 6 }
+{
+    if lent {
+        line.put(b" lent\n");
+    } else {
+        line.put(b"\n");
     }
-    write_counters(writer, mapped.structured, mapped.dynamic, mapped.lent)
-}
-
-fn write_mapping<W: Sink>(writer: &mut W, start: u64, len: u64, place: u64) -> bool
-    ensures { Wrote (W.told writer.old) (W.told writer.new) (mapping_text start len place) result }
-{
-    let mut start_buffer = AddressBuffer::new();
-    let mut len_buffer = Buffer::new();
-    let mut place_buffer = AddressBuffer::new();
-    let start = start_buffer.format(start);
-    let len = len_buffer.format(len);
-    let place = place_buffer.format(place);
-    write_pieces(
-        writer,
-        &[
-            b"map 0x".as_slice(),
-            start,
-            b" ",
-            len.as_bytes(),
-            b" at 0x",
-            place,
-        ],
-    )
-}
-
-fn write_counters<W: Sink>(writer: &mut W, structured: u64, dynamic: u64, lent: bool) -> bool
-    ensures { Wrote (W.told writer.old) (W.told writer.new) (counters_text structured dynamic lent) result }
-{
-    let mut structured_buffer = Buffer::new();
-    let mut dynamic_buffer = Buffer::new();
-    let structured = structured_buffer.format(structured);
-    let dynamic = dynamic_buffer.format(dynamic);
-    let start: &[u8] = b" structured ";
-    write_pieces(
-        writer,
-        &[
-            start,
-            structured.as_bytes(),
-            b" dynamic ",
-            dynamic.as_bytes(),
-            lent_end(lent),
-        ],
-    )
-}
-
-/// The end of the line of a mapped range, which shows whether its block is lent.
-fn lent_end(lent: bool) -> &'static [u8]
-    ensures { result.now ≡ lent_text lent }
-{
-    if lent { b" lent\n" } else { b"\n" }
 }

@@ -7,13 +7,12 @@ ghost use Rattle.acc_script.specs.Texts.{device_text, only_text, one_text, each_
 ghost use Rattle.acc_script.specs.Runs.{Printed};
 
 use crate::Sink;
-use crate::ends::whole::write_pieces;
 use crate::print::blocks::write_ended;
+use crate::print::lines::Line;
 use crate::print::queues::write_queues;
 use crate::print::ranges::write_ranges;
 use acc_base::Fault;
 use acc_table::Table;
-use itoa::Buffer;
 
 /// Writes the report of a table, without allocation. It shows the sizes of the memories in bytes, what each device has,
 /// and how many regions are open and how many events there were. Several devices stand in the order of their numbers.
@@ -123,83 +122,51 @@ fn write_device<W: Sink>(table: &Table, writer: &mut W, device: u64) -> bool
 fn write_sizes<W: Sink>(writer: &mut W, host: u64, device: u64, used: u64) -> bool
     ensures { Wrote (W.told writer.old) (W.told writer.new) (sizes_text host device used) result }
 {
-    let mut host_buffer = Buffer::new();
-    let mut device_buffer = Buffer::new();
-    let mut used_buffer = Buffer::new();
-    let host = host_buffer.format(host);
-    let device = device_buffer.format(device);
-    let used = used_buffer.format(used);
-    write_pieces(
-        writer,
-        &[
-            b"host ".as_slice(),
-            host.as_bytes(),
-            b" device ",
-            device.as_bytes(),
-            b" used ",
-            used.as_bytes(),
-            b"\n",
-        ],
-    )
+    let mut line = Line::new();
+    line.put(b"\n");
+    line.put_number(used);
+    line.put(b" used ");
+    line.put_number(device);
+    line.put(b" device ");
+    line.put_number(host);
+    line.put(b"host ");
+    line.write(writer)
 }
 
 fn write_devices<W: Sink>(writer: &mut W, host: u64, device: u64, count: u64) -> bool
     ensures { Wrote (W.told writer.old) (W.told writer.new) (devices_text host device count) result }
 {
-    let mut host_buffer = Buffer::new();
-    let mut device_buffer = Buffer::new();
-    let mut count_buffer = Buffer::new();
-    let host = host_buffer.format(host);
-    let device = device_buffer.format(device);
-    let count = count_buffer.format(count);
-    write_pieces(
-        writer,
-        &[
-            b"host ".as_slice(),
-            host.as_bytes(),
-            b" device ",
-            device.as_bytes(),
-            b" devices ",
-            count.as_bytes(),
-            b"\n",
-        ],
-    )
+    let mut line = Line::new();
+    line.put(b"\n");
+    line.put_number(count);
+    line.put(b" devices ");
+    line.put_number(device);
+    line.put(b" device ");
+    line.put_number(host);
+    line.put(b"host ");
+    line.write(writer)
 }
 
 fn write_used<W: Sink>(writer: &mut W, device: u64, used: u64) -> bool
     ensures { Wrote (W.told writer.old) (W.told writer.new) (used_text device used) result }
 {
-    let mut device_buffer = Buffer::new();
-    let mut used_buffer = Buffer::new();
-    let device = device_buffer.format(device);
-    let used = used_buffer.format(used);
-    write_pieces(
-        writer,
-        &[
-            b"device ".as_slice(),
-            device.as_bytes(),
-            b" used ",
-            used.as_bytes(),
-            b"\n",
-        ],
-    )
+    let mut line = Line::new();
+    line.put(b"\n");
+    line.put_number(used);
+    line.put(b" used ");
+    line.put_number(device);
+    line.put(b"device ");
+    line.write(writer)
 }
 
 fn write_totals<W: Sink>(writer: &mut W, regions: u64, events: u64) -> bool
     ensures { Wrote (W.told writer.old) (W.told writer.new) (totals_text regions events) result }
 {
-    let mut regions_buffer = Buffer::new();
-    let mut events_buffer = Buffer::new();
-    let regions = regions_buffer.format(regions);
-    let events = events_buffer.format(events);
-    write_pieces(
-        writer,
-        &[
-            b"regions ".as_slice(),
-            regions.as_bytes(),
-            b" events ",
-            events.as_bytes(),
-            b"\n",
-        ],
-    )
+    let mut line = Line::new();
+    line.put(b"\n");
+    line.put_number(events);
+    line.put(b" events ");
+    line.put_number(regions);
+    line.put(b"regions ");
+    line.write(writer)
 }

@@ -92,7 +92,6 @@ impl Line {
 }
 
 /// Puts the decimal digits of a number in front of the bytes from a place on, and returns where they begin.
-#[inline(always)]
 fn put_decimal(n: u64, bytes: &mut [u8], end: usize) -> usize
     requires room { 20 ≤ end }
     requires end { end ≤ length bytes.old }

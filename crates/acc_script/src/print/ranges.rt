@@ -3,7 +3,7 @@
 ghost use Rattle.std.specs.Prelude.{◌≡◌, ◌+◌, ◌<◌, ◌≤◌, ◌^◌, [], length};
 ghost use Rattle.acc_base.specs.Devices.{view};
 ghost use Rattle.acc_script.specs.Ends.{Wrote};
-ghost use Rattle.acc_script.specs.Texts.{mapped_text, range_text, ranges_text, counters_text, lent_text};
+ghost use Rattle.acc_script.specs.Texts.{mapped_text, range_text, ranges_text, counters_text};
 
 use crate::Sink;
 use crate::print::lines::Line;
@@ -60,30 +60,20 @@ fn write_mapped<W: Sink>(writer: &mut W, mapped: Mapped) -> bool
     line.write(writer)
 }
 
-/// Puts the two reference counters of a mapped range, up to the end of its line.
+/// Puts the two reference counters of a mapped range, and the end of its line, which shows whether its block is lent.
 #[inline(always)]
 fn put_counters(line: &mut Line, mapped: Mapped)
     requires none { line.old ≡ [] }
     ensures text { line.new ≡ counters_text mapped.structured mapped.dynamic mapped.lent }
     ensures length { length line.new ≤ 67 }
 {
-    put_end(line, mapped.lent);
-    line.put_number(mapped.dynamic);
-    line.put(b" dynamic ");
-    line.put_number(mapped.structured);
-    line.put(b" structured ");
-}
-
-/// Puts the end of the line of a mapped range, which shows whether its block is lent.
-#[inline(always)]
-fn put_end(line: &mut Line, lent: bool)
-    requires none { line.old ≡ [] }
-    ensures text { line.new ≡ lent_text lent }
-    ensures length { length line.new ≤ 6 }
-{
-    if lent {
+    if mapped.lent {
         line.put(b" lent\n");
     } else {
         line.put(b"\n");
     }
+    line.put_number(mapped.dynamic);
+    line.put(b" dynamic ");
+    line.put_number(mapped.structured);
+    line.put(b" structured ");
 }

@@ -1,0 +1,4 @@
+pub mod Events
+pub mod Known
+pub mod Marks
+pub mod Told

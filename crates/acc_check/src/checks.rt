@@ -1,0 +1,268 @@
+//! The check of a script: what its lines read is told where it is stale.
+
+use crate::accounts::{Account, Held};
+use crate::findings::{Finding, Kind, Note, put_finding, put_leak};
+use acc_base::{Config, Fault, Found, Section};
+use acc_read::{Names, Page, ScriptKernel, Statement};
+use acc_stale::{Known, Mark, Placed, Run};
+use acc_table::Table;
+use std::alloc::Global;
+
+/// A kernel that is about to run.
+#[derive(Drop)]
+pub(crate) struct Kernel {
+    /// What it does.
+    pub kernel: ScriptKernel,
+    /// The section that is lent to it.
+    pub section: Section,
+    /// The bytes that the device has of the section before.
+    pub before: Vec<u8>,
+}
+
+/// Checks the lines of a script, each when it has run.
+#[derive(Drop)]
+pub struct Check {
+    pub(crate) alloc: Global,
+    pub(crate) known: Known,
+    pub(crate) account: Account,
+    /// The number of the line that ran.
+    pub(crate) line: u64,
+    /// The kernel of that line.
+    pub(crate) kernel: Option<Kernel>,
+    /// What was found in the line.
+    findings: Vec<Finding>,
+    /// How many events of the trace were seen.
+    seen: usize,
+    /// How many findings there were.
+    count: u64,
+}
+
+/// Where a finding is told: in the script of a file, or of standard input.
+#[derive(Clone, Copy)]
+pub struct Line<'a> {
+    /// The file of the script, if it has one.
+    pub file: Option<&'a str>,
+    /// The number of the line.
+    pub number: u64,
+    /// Its text.
+    pub text: &'a [u8],
+}
+
+impl Check {
+    /// Returns the check of a script that is yet to run on a table of these limits.
+    ///
+    /// # Errors
+    ///
+    /// [`Fault::Memory`] alone.
+    pub fn new(alloc: Global, config: Config) -> Result<Check, Fault> {
+        let (host, device) = (config.host() as u32, config.device() as u32);
+        Ok(Check {
+            alloc,
+            known: Known::new(alloc, host, config.devices() as usize, device)?,
+            account: Account::new(alloc),
+            line: 0,
+            kernel: None,
+            findings: Vec::new(alloc),
+            seen: 0,
+            count: 0,
+        })
+    }
+
+    /// How many findings there were so far.
+    pub fn count(&self) -> u64 {
+        self.count
+    }
+
+    /// Sees a statement before it runs.
+    ///
+    /// # Errors
+    ///
+    /// [`Fault::Memory`] alone.
+    pub fn before(&mut self, statement: &Statement<'_>, table: &Table) -> Result<(), Fault> {
+        self.kernel = None;
+        if let Statement::Kernel {
+            region,
+            kernel,
+            section,
+        } = statement
+        {
+            let device = table.device_of_region(*region);
+            if let Some(bytes) = table.device_read(device, *section) {
+                self.kernel = Some(Kernel {
+                    kernel: *kernel,
+                    section: *section,
+                    before: Vec::from_slice(self.alloc, bytes)?,
+                });
+            }
+        }
+        Ok(())
+    }
+
+    /// Sees a line after it ran, and puts what it read that is stale. `shown` is the section of host memory that it
+    /// shows, if it shows one.
+    ///
+    /// # Errors
+    ///
+    /// [`Fault::Memory`] alone.
+    pub fn after(
+        &mut self,
+        page: &mut Page,
+        names: &Names,
+        line: Line<'_>,
+        table: &Table,
+        shown: Option<Section>,
+    ) -> Result<(), Fault> {
+        self.line = line.number;
+        let trace = table.trace();
+        for at in self.seen..trace.len() {
+            if let Some(event) = trace.get(at) {
+                self.see_event(table, at, event)?;
+            }
+        }
+        self.seen = trace.len();
+        if let Some(section) = shown {
+            self.find_in_host(table, section, 0)?;
+        }
+        for finding in self.findings.iter() {
+            put_finding(page, names, line, *finding);
+        }
+        self.count = self.count.saturating_add(self.findings.len() as u64);
+        self.findings.clear();
+        Ok(())
+    }
+
+    /// Puts what is mapped still at the end.
+    pub fn end(&mut self, page: &mut Page, names: &Names, file: Option<&str>, table: &Table) {
+        for device in 0..table.config().devices() {
+            let mut from = 0;
+            for _ in 0..=table.events() {
+                let Some(range) = table.mapped(device, from) else {
+                    break;
+                };
+                let section = Section {
+                    start: range.start,
+                    len: range.len,
+                };
+                let line = match self.placed(table, device, section) {
+                    Some(held) => held.line,
+                    None => 0,
+                };
+                put_leak(page, names, file, line, range);
+                self.count = self.count.saturating_add(1);
+                from = range.start.saturating_add(range.len);
+            }
+        }
+    }
+
+    /// The block that a section is mapped to.
+    fn placed(&self, table: &Table, device: u64, section: Section) -> Option<Held> {
+        match table.find(device, section) {
+            Found::Inside { block, .. } => self.account.block(device, block),
+            _ => None,
+        }
+    }
+
+    /// Finds what a kernel reads that is stale, when its block is lent.
+    pub(crate) fn find_in_kernel(&mut self, table: &Table, device: u64) -> Result<(), Fault> {
+        let Some(kernel) = &self.kernel else {
+            return Ok(());
+        };
+        let (reads, source) = match kernel.kernel {
+            ScriptKernel::Add(_) | ScriptKernel::Xor(_) => (kernel.section.len, None),
+            ScriptKernel::Number(_) => (0, None),
+            ScriptKernel::Plus(source) => (kernel.section.len.min(source.len), Some(source)),
+        };
+        let section = Section {
+            start: kernel.section.start,
+            len: reads,
+        };
+        if let Some(source) = source {
+            self.find_in_host(table, source, 1)?;
+        }
+        if let Some(held) = self.placed(table, device, section) {
+            self.find_on_device(held.placed, section)?;
+        }
+        Ok(())
+    }
+
+    /// Finds what of a section of host memory is stale; the line names it by its last reference but so many.
+    fn find_in_host(&mut self, table: &Table, section: Section, nth: usize) -> Result<(), Fault> {
+        let mut rest = section;
+        for _ in 0..section.len {
+            let Some(run) = self.known.stale_host(rest) else {
+                break;
+            };
+            let section = part_of(rest, run);
+            let (kind, note) = match run.mark {
+                Mark::Behind => (Kind::StaleHost, self.note_of_host(table, section)),
+                _ => (Kind::Unfilled, Note::None),
+            };
+            self.findings.push(Finding {
+                kind,
+                section,
+                nth,
+                note,
+            })?;
+            rest = rest_of(rest, run);
+        }
+        Ok(())
+    }
+
+    fn note_of_host(&self, table: &Table, section: Section) -> Note {
+        if let Some(queue) = self.account.queue_with(section.start, true) {
+            return Note::Wait(queue);
+        }
+        for device in 0..table.config().devices() {
+            if let Some(held) = self.placed(table, device, section) {
+                if self.known.stale_device(held.placed, section).is_none() {
+                    return Note::UpdateSelf;
+                }
+            }
+        }
+        Note::Copyout
+    }
+
+    /// Finds what of a section is stale as a device has it.
+    fn find_on_device(&mut self, placed: Placed, section: Section) -> Result<(), Fault> {
+        let mut rest = section;
+        for _ in 0..section.len {
+            let Some(run) = self.known.stale_device(placed, rest) else {
+                break;
+            };
+            let section = part_of(rest, run);
+            let (kind, note) = match run.mark {
+                Mark::Behind => (Kind::StaleDevice, Note::UpdateDevice),
+                _ => (Kind::Unfilled, Note::Copyin),
+            };
+            let note = match self.account.queue_with(section.start, false) {
+                Some(queue) => Note::Wait(queue),
+                None => note,
+            };
+            self.findings.push(Finding {
+                kind,
+                section,
+                nth: 0,
+                note,
+            })?;
+            rest = rest_of(rest, run);
+        }
+        Ok(())
+    }
+}
+
+/// The addresses of a run in a section.
+fn part_of(section: Section, run: Run) -> Section {
+    Section {
+        start: section.start.saturating_add(run.at as u64),
+        len: run.len as u64,
+    }
+}
+
+/// What of a section lies behind a run in it.
+fn rest_of(section: Section, run: Run) -> Section {
+    let done = (run.at as u64).saturating_add(run.len as u64);
+    Section {
+        start: section.start.saturating_add(done),
+        len: section.len.saturating_sub(done),
+    }
+}

@@ -1,0 +1,10 @@
+//! Tells reads of stale bytes while a script runs: bytes of which another memory has had newer ones, and bytes that
+//! nothing ever filled. What is stale is kept by `acc_stale`.
+#![tactic(auto)]
+
+mod accounts;
+mod checks;
+mod events;
+mod findings;
+
+pub use checks::{Check, Line};

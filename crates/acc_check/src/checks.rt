@@ -208,18 +208,21 @@ impl Check {
         Ok(())
     }
 
+    /// What to write where the host reads a section. Where a device has it and is behind too, its newer bytes are lost.
     fn note_of_host(&self, table: &Table, section: Section) -> Note {
         if let Some(queue) = self.account.queue_with(section.start, true) {
             return Note::Wait(queue);
         }
+        let mut note = Note::Copyout;
         for device in 0..table.config().devices() {
             if let Some(held) = self.placed(table, device, section) {
                 if self.known.stale_device(held.placed, section).is_none() {
                     return Note::UpdateSelf;
                 }
+                note = Note::None;
             }
         }
-        Note::Copyout
+        note
     }
 
     /// Finds what of a section is stale as a device has it.

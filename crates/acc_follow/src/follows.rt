@@ -8,6 +8,7 @@ use crate::picture_sinks::{Frame, PictureSink, Stop};
 use crate::ran_lines::{RanLine, picture_of};
 use crate::timelines::Timeline;
 use acc_base::{Config, Event, Fault, ScriptFault};
+use acc_check::{Check, Line};
 use acc_explain::fault_column;
 use acc_log::Log;
 use acc_picture::Caption;
@@ -36,12 +37,16 @@ pub struct Views {
     pub page: bool,
     /// Which line printed what ([`Beside::lines`]).
     pub lines: bool,
+    /// Which bytes a line reads that are stale, and what is mapped still at the end.
+    pub check: bool,
+    /// Whether such a finding makes the status that of a refused line.
+    pub check_fails: bool,
 }
 
 impl Views {
     /// Whether any of it names arrays.
     fn name_arrays(self) -> bool {
-        self.log || self.picture || self.pictures || self.explain_faults()
+        self.log || self.check || self.picture || self.pictures || self.explain_faults()
     }
 
     /// Whether any of it explains faults.
@@ -153,6 +158,8 @@ pub struct Follower<'a, E, G> {
     pub is_silent: bool,
     names: Names,
     log: Log,
+    /// What is known of stale bytes, from the first line on, where that is asked for.
+    check: Option<Check>,
     /// The lines whose data regions are open, the innermost last.
     entries: Vec<u64>,
     /// What the page shows of the lines so far.
@@ -178,6 +185,7 @@ impl<'a, E, G> Follower<'a, E, G> {
             is_silent: false,
             names: Names::new(alloc),
             log: Log::new(alloc),
+            check: None,
             entries: Vec::new(alloc),
             timeline: Timeline::new(alloc),
             drawn: 0,
@@ -189,6 +197,7 @@ impl<'a, E, G> Follower<'a, E, G> {
     pub fn forget(&mut self) {
         self.names = Names::new(self.alloc);
         self.log = Log::new(self.alloc);
+        self.check = None;
         self.entries.clear();
         self.timeline = Timeline::new(self.alloc);
         self.drawn = 0;
@@ -196,13 +205,10 @@ impl<'a, E, G> Follower<'a, E, G> {
 }
 
 impl<O: Sink, E: Sink, G: PictureSink> Watcher<O> for Follower<'_, E, G> {
-    fn before(
-        &mut self,
-        _number: u64,
-        _line: &[u8],
-        statement: &Statement<'_>,
-        _session: &Session,
-    ) {
+    fn before(&mut self, _number: u64, _line: &[u8], statement: &Statement<'_>, session: &Session) {
+        if self.check_before(statement, session).is_err() {
+            self.halt(Stop::Fault(Fault::Memory));
+        }
         if let (true, Statement::Declare { name, array }) = (self.views.name_arrays(), statement) {
             if self.names.insert(self.alloc, name, *array).is_err() {
                 self.halt(Stop::Fault(Fault::Memory));
@@ -238,7 +244,10 @@ impl<O: Sink, E: Sink, G: PictureSink> Watcher<O> for Follower<'_, E, G> {
             session,
         };
         match ending {
-            Ok(_) => self.draw_last(session),
+            Ok(_) => {
+                self.check_end(session);
+                self.draw_last(session);
+            }
             Err(Fault::Script { kind, .. }) => self.give_reason(ran, kind),
             Err(_) => {}
         }
@@ -288,6 +297,7 @@ impl<E: Sink, G: PictureSink> Follower<'_, E, G> {
                 effect,
             );
         }
+        self.check_after(ran, effect)?;
         if self.views.page {
             self.timeline.add_line(&self.names, ran, effect)?;
         }
@@ -295,6 +305,52 @@ impl<E: Sink, G: PictureSink> Follower<'_, E, G> {
             self.note_region(number, table.regions())?;
         }
         Ok(())
+    }
+
+    /// Lets the check see a statement before it runs. It begins with the first one.
+    fn check_before(&mut self, statement: &Statement<'_>, session: &Session) -> Result<(), Fault> {
+        if self.views.check && self.check.is_none() {
+            self.check = Some(Check::new(self.alloc, session.table.config())?);
+        }
+        match &mut self.check {
+            Some(check) => check.before(statement, &session.table),
+            None => Ok(()),
+        }
+    }
+
+    /// Puts what a line read that is stale.
+    fn check_after(&mut self, ran: RanLine<'_>, effect: Effect) -> Result<(), Fault> {
+        let Some(check) = &mut self.check else {
+            return Ok(());
+        };
+        let line = Line {
+            file: self.file,
+            number: ran.number,
+            text: ran.line,
+        };
+        let shown = match effect {
+            Effect::HostBytes(section) => Some(section),
+            _ => None,
+        };
+        check.after(
+            &mut self.log.page,
+            &self.names,
+            line,
+            &ran.session.table,
+            shown,
+        )
+    }
+
+    /// Puts what is mapped still at the end.
+    fn check_end(&mut self, session: &Session) {
+        if let Some(check) = &mut self.check {
+            check.end(&mut self.log.page, &self.names, self.file, &session.table);
+        }
+    }
+
+    /// Whether a finding makes the status that of a refused line.
+    fn has_failed_check(&self) -> bool {
+        self.views.check_fails && self.check.as_ref().map_or(0, Check::count) > 0
     }
 
     /// Keeps the number of a line that entered a region, until it is exited.
@@ -394,7 +450,7 @@ impl<E: Sink, G: PictureSink> Follower<'_, E, G> {
     }
 
     /// Writes the last lines. Returns why something could not be shown; else how the run ended, if by a fault; else
-    /// whether the last lines were written.
+    /// whether the last lines were written, with a status that heeds what was found.
     ///
     /// # Errors
     ///
@@ -410,6 +466,9 @@ impl<E: Sink, G: PictureSink> Follower<'_, E, G> {
         }
         let status = ending?;
         told?;
+        if self.has_failed_check() {
+            return Ok(Status::Refused);
+        }
         Ok(status)
     }
 }

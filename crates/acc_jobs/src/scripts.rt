@@ -21,6 +21,8 @@ pub const PLAIN: Views = Views {
     pictures: false,
     page: false,
     lines: false,
+    check: false,
+    check_fails: false,
 };
 
 /// Shows what each call did, and why lines are refused.

@@ -99,6 +99,7 @@ const OF_LINES: &[Row] = &[
     ("json", "", "Write the report as JSON"),
     ("log", "", "Tell what each call did"),
     ("explain", "WHEN", "Tell why a line is at fault or refused"),
+    ("check", "HOW", "Tell reads of stale bytes"),
 ];
 
 /// The other options.
@@ -132,6 +133,9 @@ const TRACES: &[&str] = &["counts", "full"];
 /// When a script is explained.
 const TIMES: &[&str] = &["auto", "always", "never"];
 
+/// Whether stale bytes are warned of, or make the status 1 too.
+const CHECKS: &[&str] = &["warn", "error"];
+
 /// The languages that a script can be emitted in.
 const LANGUAGES: &[&str] = &["c", "fortran"];
 
@@ -143,6 +147,7 @@ const OF_RUNS: &[&str] = &[
     "explain",
     "line",
     "keep-going",
+    "check",
     "svg",
     "svg-every",
     "html",
@@ -188,6 +193,7 @@ fn option<'a>(alloc: Global, row: Row) -> Arg<'a> {
         "drill" => number(option, 1_000),
         "random" => option.value_parser(value_parser!(u64)),
         "explain" => optional(option.value_parser(TIMES), "always"),
+        "check" => optional(option.value_parser(CHECKS), "warn"),
         "trace" => option.value_parser(TRACES).default_value("counts"),
         "emit" => option.value_parser(LANGUAGES),
         "rows" | "test" => option.num_args(1..),
@@ -318,6 +324,8 @@ impl<'a> Options<'a> {
                 echo: self.shown.echo || line.shown.echo,
                 json: self.shown.json || line.shown.json,
                 log: self.shown.log || line.shown.log,
+                check: self.shown.check || line.shown.check,
+                check_fails: self.shown.check_fails || line.shown.check_fails,
                 ..self.shown
             },
             explain: self.explain.or(line.explain),
@@ -474,6 +482,8 @@ fn shown_by(matches: &ArgMatches<'_>) -> Views {
         pictures: matches.get_str("svg-every").is_some(),
         lines: matches.contains_id("test"),
         page: matches.get_str("html").is_some(),
+        check: matches.contains_id("check"),
+        check_fails: matches.get_str("check") == Some("error"),
     }
 }
 
@@ -551,7 +561,9 @@ regions; behind a line at fault it goes on.
 Each FILE has a table of its own, and the status is that of the worst. If the
 first line of FILE is '# options: ..', it says what the command line leaves
 open. WHEN is always, never, or auto, as without --explain: only where standard
-error is a terminal. With --expect the status is 1 where the output differs, and
+error is a terminal. With --check a read of bytes that are stale is told behind
+its line, and what is mapped still at the end; with --check=error the status is
+1 then. With --expect the status is 1 where the output differs, and
 0 else, whatever was refused. The pictures of --svg-every have the number of the
 line in their names, as life.000007.svg. In the page of --html arrow keys step
 through the script.

@@ -133,7 +133,8 @@ static void *bytes_at(uintptr_t address, size_t len, bool *open)
     return block->bytes + (at - block->at);
 }
 
-/* Copies bytes to the device, or from it. What waits in the queue is made before. */
+/* Copies bytes to the device, or from it. What waits in the queue is made before. The program's bytes are not looked at
+   before: to ask the system for them takes longer than to copy a few. */
 static void copy(const char *name, void *from, void *to, void *at, size_t len, int async, bool out)
 {
     bool open = false;
@@ -145,7 +146,6 @@ static void copy(const char *name, void *from, void *to, void *at, size_t len, i
     if (len != 0) {
         if (lwa_is_for_table()) {
             *(out ? &at : &to) = bytes_at((uintptr_t)(out ? at : to), len, &open);
-            lwa_want_memory((uintptr_t)(out ? to : at), len);
         }
         if (lwa_shadow && out && lwa_is_for_table()) {
             lwa_expect((uintptr_t)to, len, open ? NULL : at);

@@ -65,6 +65,8 @@ typedef struct lwa_block {
     size_t waiting; /* the copies that wait */
     size_t kernels; /* the kernels that have it; while there are some it is lent */
     uint64_t lease;
+    uint64_t region;                     /* the region of a loan that the table is not told of */
+    struct lwa_block *next_loan, **loan; /* and its place among those; no such: NULL */
     lwa_pointer *pointers; /* by rising address */
     size_t pointer_count, pointer_room;
     uint64_t queue; /* that a copy was put into last */
@@ -347,6 +349,9 @@ void lwa_item_text(const lwa_item *item, char text[LWA_ITEM]);
 /* Runs a function in a region: one that was compiled, which gets the device addresses; or with what is given. */
 void lwa_kernel(void (*run)(void *), void *given, const lwa_maps *maps, const lwa_region *region);
 
+/* Tells the table of the loans that it was not told of. It stands where what is done next may meet one. */
+void lwa_tell_loans(void);
+
 /* Writes to the table what its device has of a pointer. */
 void lwa_write_on_device(const lwa_block *block, uintptr_t at, uint64_t value);
 
@@ -364,6 +369,7 @@ void lwa_forget_script(void);
 /* The lines of a script: items that are done at once, or are the program's last; and the other statements. */
 void lwa_script_items(const lwa_directive *directive, size_t first, size_t end, bool done);
 void lwa_script_write(uint64_t told, const uint8_t bytes[LWA_POINTER]);
+bool lwa_has_script(void);
 void lwa_script_kernel(const lwa_block *block);
 void lwa_script_copies(const char *statement, uint64_t queue);
 

@@ -4,6 +4,9 @@
  * The blocks of a kernel's maps are lent before it, and brought back behind it: what else needs one waits so long.
  * Kernels that run at a time share what is lent, and the last one brings it back. The compiled function finds the bytes
  * at their device addresses, which stay as they are between kernels.
+ *
+ * Nobody meets a loan as long as no other thread calls. So the table is told of it then, or at once where the log or a
+ * script has it; and not at all where the kernel has ended before.
  */
 #include <string.h>
 
@@ -12,16 +15,59 @@
 
 /* ---- Loans ---- */
 
-static void lend(lwa_block *block, uint64_t region)
+/* The loans of each device that the table is not told of. */
+static lwa_block *untold[LWA_DEVICES];
+
+static void tell_loan(lwa_block *block, uint64_t region)
 {
     lw_fault fault;
 
+    lwa_script_kernel(block);
+    lwa_room();
+    lwa_must(lw_lend(lwa_table(), region, block->told, block->len, &block->lease, &fault), &fault);
+    lwa_log_loan("lent", block);
+}
+
+static void put_off(lwa_block *block, uint64_t region)
+{
+    block->region = region;
+    block->loan = &untold[lwa_on];
+    block->next_loan = *block->loan;
+    if (block->next_loan != NULL) {
+        block->next_loan->loan = &block->next_loan;
+    }
+    *block->loan = block;
+}
+
+static void forget_loan(lwa_block *block)
+{
+    *block->loan = block->next_loan;
+    if (block->next_loan != NULL) {
+        block->next_loan->loan = block->loan;
+    }
+    block->loan = NULL;
+}
+
+void lwa_tell_loans(void)
+{
+    while (untold[lwa_on] != NULL) {
+        lwa_block *block = untold[lwa_on];
+
+        forget_loan(block);
+        tell_loan(block, block->region);
+    }
+}
+
+static void lend(lwa_block *block, uint64_t region)
+{
     block->open |= lwa_shadow;
-    if (block->kernels++ == 0) {
-        lwa_script_kernel(block);
-        lwa_room();
-        lwa_must(lw_lend(lwa_table(), region, block->told, block->len, &block->lease, &fault), &fault);
-        lwa_log_loan("lent", block);
+    if (block->kernels++ != 0) {
+        return;
+    }
+    if (lwa_logged || lwa_has_script()) {
+        tell_loan(block, region);
+    } else {
+        put_off(block, region);
     }
 }
 
@@ -29,11 +75,16 @@ static void bring_back(lwa_block *block)
 {
     lw_fault fault;
 
-    if (block->kernels != 0 && --block->kernels == 0) {
-        lwa_room();
-        lwa_must(lw_gather(lwa_table(), block->lease, &fault), &fault);
-        lwa_log_loan("gathered", block);
+    if (block->kernels == 0 || --block->kernels != 0) {
+        return;
     }
+    if (block->loan != NULL) {
+        forget_loan(block);
+        return;
+    }
+    lwa_room();
+    lwa_must(lw_gather(lwa_table(), block->lease, &fault), &fault);
+    lwa_log_loan("gathered", block);
 }
 
 static void gather(lwa_block *block)
@@ -145,6 +196,7 @@ void lwa_kernel(void (*run)(void *), void *given, const lwa_maps *maps, const lw
     for (size_t i = 0; i < count; i++) {
         bring_back(blocks[i]);
     }
+    lwa_tell_loans();
     rattle_dealloc(device);
 }
 
@@ -159,7 +211,8 @@ void lwa_write_on_device(const lwa_block *block, uintptr_t at, uint64_t value)
     pointer.told += at - block->at;
     pointer.at = at;
     pointer.len = LWA_POINTER;
-    lend(&pointer, region->directive.items.at[0].region);
+    pointer.kernels = 1;
+    tell_loan(&pointer, region->directive.items.at[0].region);
     lwa_must(lw_lease_write(lwa_table(), pointer.lease, (const uint8_t *)&value, LWA_POINTER, &fault), &fault);
     bring_back(&pointer);
     lwa_exit(region);

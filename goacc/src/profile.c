@@ -180,6 +180,9 @@ void lwa_tell_notes(int construct)
     acc_data_event_info *list = notes;
     const size_t all = count;
 
+    if (all == 0) {
+        return;
+    }
     notes = NULL;
     count = room = 0;
     for (size_t i = 0; i < all; i++) {

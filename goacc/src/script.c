@@ -179,6 +179,11 @@ void lwa_script_kernel(const lwa_block *block)
     }
 }
 
+bool lwa_has_script(void)
+{
+    return OWN.script != NULL;
+}
+
 void lwa_script_copies(const char *statement, uint64_t queue)
 {
     if (OWN.script == NULL) {
@@ -210,6 +215,7 @@ static void write_report_file(void)
 {
     FILE *report = open_file("LAMWIEST_REPORT");
 
+    lwa_tell_loans();
     if (report != NULL) {
         write_report(report);
         fclose(report);

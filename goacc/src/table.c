@@ -88,6 +88,7 @@ void lwa_go_to(unsigned device)
     if (!has_table()) {
         start_table();
     }
+    lwa_tell_loans();
 }
 
 void lwa_each_device(void (*act)(void))
@@ -199,6 +200,7 @@ bool lwa_is_lent(uint32_t status)
     if (!has_table()) {
         sleep_for_good();
     }
+    lwa_tell_loans();
     return true;
 }
 

@@ -216,10 +216,12 @@ void lwa_set_innermost(lwa_region *region)
     pthread_setspecific(regions_key, region);
 }
 
+/* The thread has its regions no more, and gets them back, so that they are its own while the program ends. */
 static void end_thread(void *innermost)
 {
     size_t open = 0;
 
+    lwa_set_innermost(innermost);
     for (const lwa_region *region = innermost; region != NULL; region = region->below) {
         open++;
     }

@@ -319,6 +319,7 @@ static void drop(lwa_block *block)
         free(block->bytes);
     }
     free(block->pointers);
+    free(block->before);
     rattle_dealloc(block);
 }
 

@@ -16,6 +16,7 @@
 #include <stdbool.h>
 #include <stddef.h>
 #include <stdint.h>
+#include <stdio.h>
 
 #include "lamwiest.h"
 
@@ -65,8 +66,9 @@ typedef struct lwa_block {
     size_t waiting; /* the copies that wait */
     size_t kernels; /* the kernels that have it; while there are some it is lent */
     uint64_t lease;
-    uint64_t region;                     /* the region of a loan that the table is not told of */
+    uint64_t region;                    /* the region of a loan that the table is not told of */
     struct lwa_block *next_loan, **loan; /* and its place among those; no such: NULL */
+    uint8_t *before;                     /* for the script: its bytes before the kernel */
     lwa_pointer *pointers; /* by rising address */
     size_t pointer_count, pointer_room;
     uint64_t queue; /* that a copy was put into last */
@@ -201,6 +203,9 @@ void *lwa_grown(void *list, size_t count, size_t *room, size_t size);
    libdw was not there when this library was built. */
 bool lwa_line_of(const void *from, char text[LWA_NAME]);
 bool lwa_variable_at(uintptr_t at, size_t len, char text[LWA_NAME]);
+
+/* The whole variable that has a byte: where it begins, its bytes and its name. */
+bool lwa_object_at(uintptr_t at, uintptr_t *from, size_t *len, char name[LWA_NAME]);
 
 /* ---- environment.c: the variables of the environment ---- */
 
@@ -366,12 +371,16 @@ void lwa_start_script(void);
 extern bool lwa_is_child;
 void lwa_forget_script(void);
 
-/* The lines of a script: items that are done at once, or are the program's last; and the other statements. */
+/* The lines of a script: items that are done at once, or are the program's last; the pointer of an item at its target;
+   and copies. */
 void lwa_script_items(const lwa_directive *directive, size_t first, size_t end, bool done);
-void lwa_script_write(uint64_t told, const uint8_t bytes[LWA_POINTER]);
-bool lwa_has_script(void);
-void lwa_script_kernel(const lwa_block *block);
+void lwa_script_point(const lwa_item *item, uintptr_t pointer, uintptr_t target);
 void lwa_script_copies(const char *statement, uint64_t queue);
+
+/* Around a kernel: the block keeps its bytes, so that the script has what the kernel changed. */
+void lwa_script_lent(lwa_block *block);
+void lwa_script_gathered(lwa_block *block);
+bool lwa_has_script(void);
 
 /* With LAMWIEST_REPORT: lets a signal ask for the reports; and writes them where one has asked. */
 void lwa_start_report(void);
@@ -383,6 +392,19 @@ void lwa_finish_script(void);
 /* The name of a directive, and of a clause, as a script and the log have them. */
 const char *lwa_name_of(lwa_way way);
 const char *lwa_clause_name(uint32_t clause);
+
+/* ---- arrays.c: the arrays of a script ---- */
+
+/* The bytes of a script's host memory, which is as large as it may be. */
+#define LWA_SCRIPT_HOST 67108864
+
+/* The name and the offset of a section as "a[8", behind the line that declares its array where none had it. No: no
+   array can have it. The other one is of bytes that the program does not have. */
+#define LWA_ARRAY 64
+#define LWA_NO_ARRAY "nowhere"
+bool lwa_array_at(FILE *script, uintptr_t at, size_t len, char text[LWA_ARRAY]);
+void lwa_no_array(FILE *script, uint64_t offset, char text[LWA_ARRAY]);
+void lwa_forget_arrays(void);
 
 /* ---- profile.c: what tools are told ---- */
 

@@ -22,7 +22,7 @@ static void tell_loan(lwa_block *block, uint64_t region)
 {
     lw_fault fault;
 
-    lwa_script_kernel(block);
+    lwa_script_lent(block);
     lwa_room();
     lwa_must(lw_lend(lwa_table(), region, block->told, block->len, &block->lease, &fault), &fault);
     lwa_log_loan("lent", block);
@@ -82,6 +82,7 @@ static void bring_back(lwa_block *block)
         forget_loan(block);
         return;
     }
+    lwa_script_gathered(block);
     lwa_room();
     lwa_must(lw_gather(lwa_table(), block->lease, &fault), &fault);
     lwa_log_loan("gathered", block);
@@ -209,6 +210,7 @@ void lwa_write_on_device(const lwa_block *block, uintptr_t at, uint64_t value)
     lw_fault fault;
 
     pointer.told += at - block->at;
+    pointer.bytes += at - block->at;
     pointer.at = at;
     pointer.len = LWA_POINTER;
     pointer.kernels = 1;

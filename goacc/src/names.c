@@ -23,6 +23,13 @@ bool lwa_variable_at(uintptr_t at, size_t len, char text[LWA_NAME])
     return false;
 }
 
+bool lwa_object_at(uintptr_t at, uintptr_t *from, size_t *len, char name[LWA_NAME])
+{
+    (void)at, (void)from, (void)len;
+    name[0] = '\0';
+    return false;
+}
+
 #else
 #include <dlfcn.h>
 #include <dwarf.h>
@@ -404,5 +411,17 @@ bool lwa_variable_at(uintptr_t at, size_t len, char text[LWA_NAME])
         add(text, " + %zu bytes", (size_t)(at - v->at));
     }
     return true;
+}
+
+bool lwa_object_at(uintptr_t at, uintptr_t *from, size_t *len, char name[LWA_NAME])
+{
+    const variable *v = variable_at(at);
+
+    if (v != NULL) {
+        *from = v->at;
+        *len = v->len;
+        snprintf(name, LWA_NAME, "%s", v->name);
+    }
+    return v != NULL;
 }
 #endif

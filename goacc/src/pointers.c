@@ -97,7 +97,6 @@ static void write_target(uint64_t told, uint64_t target)
     lw_fault fault;
 
     memcpy(bytes, &target, LWA_POINTER);
-    lwa_script_write(told, bytes);
     lwa_room();
     lwa_must(lw_host_write(lwa_table(), told, bytes, LWA_POINTER, &fault), &fault);
 }
@@ -124,6 +123,7 @@ void lwa_aim(const lwa_item *item)
         tell_left(block, p);
     }
     if (told != 0 && lwa_is_memory(at, LWA_POINTER)) {
+        lwa_script_point(item, at, value_at(at) + item->bias);
         write_target(told, told_of(item, value_at(at) + item->bias, 1));
     }
 }

@@ -2,7 +2,8 @@
  * What a run leaves to look at: a script for accrun (LAMWIEST_SCRIPT=FILE), and the table's report at the end or on a
  * signal (LAMWIEST_REPORT=FILE). The files of the second table of a process are FILE.2, and so on.
  *
- * The script has one array, m, which is all of host memory: so each table address is a place in it.
+ * The script has the program's objects as its arrays (arrays.c). Its host memory lies otherwise than the table's, and the
+ * device's memory as the table's.
  */
 #define _GNU_SOURCE
 #include <inttypes.h>
@@ -78,8 +79,8 @@ void lwa_start_script(void)
     OWN.script = open_file("LAMWIEST_SCRIPT");
     if (OWN.script != NULL) {
         setvbuf(OWN.script, NULL, _IOLBF, BUFSIZ);
-        fprintf(OWN.script, "# options: --host %" PRIu64 " --device %" PRIu64 "\n", lwa_limits.host, lwa_limits.device);
-        fprintf(OWN.script, "array m %" PRIu64 "\n", lwa_limits.host);
+        fprintf(OWN.script, "# options: --host %d --device %" PRIu64 "\n", LWA_SCRIPT_HOST, lwa_limits.device);
+        lwa_forget_arrays();
     }
 }
 
@@ -96,25 +97,92 @@ static void stop_script(const char *why)
     OWN.script = NULL;
 }
 
-static uint64_t offset(uint64_t told)
+/* A line, which stands behind those of the arrays that are declared for it; and whether no array can have a section. */
+static FILE *line;
+static char *line_text;
+static size_t line_len;
+static bool is_lost;
+
+static void start_line(void)
 {
-    return told - LW_HOST_BASE;
+    line = open_memstream(&line_text, &line_len);
+    if (line == NULL) {
+        lwa_unserved("no memory for the library's own lists");
+    }
+    is_lost = false;
 }
 
-/* Writes the clause of an item, with places in m. */
+static void end_line(void)
+{
+    fclose(line);
+    if (is_lost) {
+        stop_script("a section meets an array that it begins before, or there is no room for its array");
+    } else {
+        fprintf(OWN.script, "%s\n", line_text);
+    }
+    free(line_text);
+}
+
+/* The array and the offset of a section. */
+static void write_array(uintptr_t at, size_t len)
+{
+    char array[LWA_ARRAY] = "";
+
+    is_lost |= !lwa_array_at(OWN.script, at, len, array);
+    fputs(array, line);
+}
+
+static void write_section(uintptr_t at, size_t len)
+{
+    write_array(at, len);
+    fprintf(line, ":%zu]", len);
+}
+
+static void write_place(uintptr_t at, size_t len)
+{
+    write_array(at, len);
+    fputc(']', line);
+}
+
+/* What is in no memory of the program is behind the host memory. */
+static void write_pointer(uintptr_t at, uint64_t told)
+{
+    char array[LWA_ARRAY];
+
+    if (told >= lwa_outside()) {
+        lwa_no_array(OWN.script, LWA_SCRIPT_HOST + at % LWA_POINTER, array);
+        fprintf(line, "%s]", array);
+    } else {
+        write_place(at, LWA_POINTER);
+    }
+}
+
+/* A section that is not mapped may be larger than all of host memory. */
+static bool is_too_large(const lwa_item *item)
+{
+    return item->told.start == LWA_NOWHERE && item->len > LWA_SCRIPT_HOST / 2;
+}
+
 static void write_item(const lwa_item *item)
 {
-    const lw_item *told = &item->told;
+    const bool is_outside = item->told.start >= lwa_outside();
+    const size_t len = item->told.start == LWA_NOWHERE ? item->told.len : item->len;
+    char array[LWA_ARRAY];
 
-    fprintf(OWN.script, " %s(m[%" PRIu64, lwa_clause_name(item->clause), offset(told->start));
-    if (item->clause != LW_ATTACH && item->clause != LW_DETACH) {
-        fprintf(OWN.script, ":%" PRIu64, told->len);
+    fprintf(line, " %s(", lwa_clause_name(item->clause));
+    if (lwa_is_pointer(item)) {
+        write_pointer(item->at, item->told.start);
+    } else if (is_outside || item->len == 0 || is_too_large(item)) {
+        lwa_no_array(OWN.script, is_outside ? LWA_SCRIPT_HOST : 0, array);
+        fprintf(line, "%s:%zu]", array, len < LWA_SCRIPT_HOST ? len : LWA_SCRIPT_HOST);
+    } else {
+        write_section(item->at, item->len);
     }
-    fputc(']', OWN.script);
-    if (told->pointer != 0) {
-        fprintf(OWN.script, " via m[%" PRIu64 "]", offset(told->pointer));
+    if (item->told.pointer != 0) {
+        fputs(" via ", line);
+        write_pointer(item->pointer, item->told.pointer);
     }
-    fputc(')', OWN.script);
+    fputc(')', line);
 }
 
 static void open_region(uint64_t region)
@@ -143,41 +211,93 @@ void lwa_script_items(const lwa_directive *d, size_t first, size_t end, bool don
         close_region(d->items.at[first].region);
         return;
     }
-    fputs(lwa_name_of(d->way), OWN.script);
+    start_line();
+    fputs(lwa_name_of(d->way), line);
     for (size_t i = first; i < end; i++) {
         write_item(&d->items.at[i]);
     }
     if (d->option) {
-        fputs(d->way == LWA_UPDATE ? " if_present" : " finalize", OWN.script);
+        fputs(d->way == LWA_UPDATE ? " if_present" : " finalize", line);
     }
     if (d->queue != LW_NO_QUEUE_GIVEN) {
-        fprintf(OWN.script, " async(%" PRIu64 ")", d->queue);
+        fprintf(line, " async(%" PRIu64 ")", d->queue);
     }
-    fputc('\n', OWN.script);
-    if (d->way == LWA_DATA && done) {
+    end_line();
+    if (d->way == LWA_DATA && done && OWN.script != NULL) {
         open_region(d->items.at[first].region);
     }
 }
 
-void lwa_script_write(uint64_t told, const uint8_t bytes[LWA_POINTER])
+/* The array of the item's section is there first, since the pointer may point into it. */
+void lwa_script_point(const lwa_item *item, uintptr_t pointer, uintptr_t target)
 {
+    char array[LWA_ARRAY];
+
     if (OWN.script == NULL) {
         return;
     }
-    fprintf(OWN.script, "write m[%" PRIu64 "] ", offset(told));
-    for (size_t i = 0; i < LWA_POINTER; i++) {
-        fprintf(OWN.script, "%02x", bytes[i]);
+    if (item->len != 0) {
+        lwa_array_at(OWN.script, item->at, item->len, array);
     }
-    fputc('\n', OWN.script);
+    start_line();
+    fputs(target != 0 ? "point " : "write ", line);
+    write_place(pointer, LWA_POINTER);
+    if (target != 0) {
+        fputs(" to ", line);
+        write_place(target, 1);
+    } else {
+        fprintf(line, " %0*d", 2 * LWA_POINTER, 0);
+    }
+    end_line();
 }
 
-/* A script knows nothing of what was compiled, so its kernel changes nothing. */
-void lwa_script_kernel(const lwa_block *block)
+/* ---- Kernels ---- */
+
+void lwa_script_lent(lwa_block *block)
 {
     if (OWN.script != NULL) {
-        fprintf(OWN.script, "kernel add 0 m[%" PRIu64 ":%zu]\n", offset(block->told), block->len);
+        block->before = memcpy(lwa_memory(NULL, block->len), block->bytes, block->len);
     }
 }
+
+/* The bytes that a kernel has changed, from the first to the last one, but for those from an attached pointer on. Answers
+   how many there are. */
+static size_t changed(const lwa_block *block, size_t *from)
+{
+    size_t low = 0, high = block->len, pointer;
+
+    while (low < high && block->before[low] == block->bytes[low]) {
+        low++;
+    }
+    while (low < high && block->before[high - 1] == block->bytes[high - 1]) {
+        high--;
+    }
+    pointer = lwa_first_pointer(block, block->at + low);
+    if (pointer < block->pointer_count && block->pointers[pointer].at < block->at + high) {
+        high = block->pointers[pointer].at > block->at + low ? block->pointers[pointer].at - block->at : low;
+    }
+    *from = low;
+    return high - low;
+}
+
+/* The bytes have other values in the script, so it writes some of its own where the kernel has changed some. */
+void lwa_script_gathered(lwa_block *block)
+{
+    static unsigned number;
+    size_t from = 0, len = 0;
+
+    if (OWN.script != NULL && block->before != NULL) {
+        len = changed(block, &from);
+        start_line();
+        fprintf(line, len != 0 ? "kernel number %u " : "kernel add 0 ", number++ % 256);
+        write_section(len != 0 ? block->at + from : block->at, len != 0 ? len : block->len);
+        end_line();
+    }
+    free(block->before);
+    block->before = NULL;
+}
+
+/* ---- Copies, and the end ---- */
 
 bool lwa_has_script(void)
 {

@@ -183,6 +183,7 @@ LWA_EXPORT size_t acc_get_property(int number, acc_device_t type, acc_device_pro
     return answer;
 }
 
+/* Of the host they are those that libgomp has. */
 LWA_EXPORT const char *acc_get_property_string(int number, acc_device_t type, acc_device_property_t property)
 {
     LWA_PASS(lwa_shadow, acc_get_property_string, number, type, property)
@@ -190,9 +191,9 @@ LWA_EXPORT const char *acc_get_property_string(int number, acc_device_t type, ac
         return NULL;
     }
     switch (property) {
-    case acc_property_name: return is_table_type(type) ? "Lamwiest's table" : "the host";
-    case acc_property_vendor: return "Lamwiest";
-    case acc_property_driver: return "liblamwiest_acc";
+    case acc_property_name: return is_table_type(type) ? "Lamwiest's table" : "GOMP";
+    case acc_property_vendor: return is_table_type(type) ? "Lamwiest" : "GNU";
+    case acc_property_driver: return is_table_type(type) ? "liblamwiest_acc" : "1.0";
     default: return NULL;
     }
 }

@@ -34,5 +34,8 @@ int main(void)
     numbers("host", a, 2);
     printf("free %d\n", acc_get_property(0, acc_device_not_host, acc_property_free_memory)
                             == acc_get_property(0, acc_device_not_host, acc_property_memory));
+    printf("the host: %s %s %s\n", acc_get_property_string(0, acc_device_host, acc_property_vendor),
+           acc_get_property_string(0, acc_device_host, acc_property_name),
+           acc_get_property_string(0, acc_device_host, acc_property_driver));
     return 0;
 }

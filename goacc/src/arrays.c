@@ -3,8 +3,8 @@
  * declared when a directive names some of it first.
  *
  * Of a variable the program's debug data tells where it begins and ends. Of another object an array has what was named
- * first, and as much before and behind it, up to a limit, so that what is named beside it later lies in the same array.
- * An object of which nothing is mapped may be gone, and then its bytes may be of another one.
+ * first, and as much before and behind it, up to a limit. So a section that goes beyond it later lies in the same
+ * array, as a program of C needs it. An object of which nothing is mapped may be gone, and its bytes another one's.
  */
 #define _GNU_SOURCE
 #include <ctype.h>

@@ -2,8 +2,8 @@
  * What a run leaves to look at: a script for accrun (LAMWIEST_SCRIPT=FILE), and the table's report at the end or on a
  * signal (LAMWIEST_REPORT=FILE). The files of the second table of a process are FILE.2, and so on.
  *
- * The script has the program's objects as its arrays (arrays.c). Its host memory lies otherwise than the table's, and the
- * device's memory as the table's.
+ * The script has the program's objects as its arrays (arrays.c). So its host memory lies otherwise than the table's; its
+ * device memory lies as that.
  */
 #define _GNU_SOURCE
 #include <inttypes.h>
@@ -260,8 +260,8 @@ void lwa_script_lent(lwa_block *block)
     }
 }
 
-/* The bytes that a kernel has changed, from the first to the last one, but for those from an attached pointer on. Answers
-   how many there are. */
+/* The bytes that a kernel has changed, from the first to the last one, but for those from an attached pointer on.
+   Answers how many there are. */
 static size_t changed(const lwa_block *block, size_t *from)
 {
     size_t low = 0, high = block->len, pointer;

@@ -18,7 +18,7 @@ int main(void)
 #pragma acc enter data copyin(a)
     script = fopen(getenv("LAMWIEST_SCRIPT"), "r");
     while (fgets(line, sizeof line, script) != NULL) {
-        entered += strncmp(line, "enter data copyin(a[0:16])", 26) == 0;
+        entered += strncmp(line, "enter data copyin(", 18) == 0;
     }
     fclose(script);
     if (name == NULL) {

@@ -450,6 +450,7 @@ impl Device {
     /// Takes a block of the device, which is not lent, away: its addresses are free again, and its bytes are gone.
     ///
     /// Here and below, `near` is where the index has the block. It is looked for there first, and found in any case.
+    #[inline(always)]
     fn give_back(&mut self, block: u64, near: usize)
         requires there { HasBlock self.old block }
         requires free { is_lent block self.old.loans ≡ false }
@@ -469,6 +470,7 @@ impl Device {
 
     /// How many queued transfers name a block of the device, and whether its mapping has ended, as that of no lent
     /// block has.
+    #[inline(always)]
     fn mark_of(&self, block: u64, near: usize) -> (u64, bool)
         requires { HasBlock self.now block }
         ensures pins { result.0 ≡ pins_at block self.now.marks }
@@ -517,6 +519,7 @@ impl Device {
     }
 
     /// As `stored`, but the index is looked at in a place first, which it told.
+    #[inline(always)]
     fn stored_near(&self, block: u64, near: usize) -> &Stored
         requires { HasBlock self.now block }
         ensures { IsStoredOf self.now block result.now }

@@ -15,3 +15,4 @@ pub mod Paired
 pub mod Written
 pub mod HalfFull
 pub mod Listed
+mod Inserted

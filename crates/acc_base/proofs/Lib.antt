@@ -22,6 +22,7 @@ pub mod Recounted
 pub mod SameMapping
 pub mod Used
 pub mod Walked
+pub mod Undone
 pub mod Memories
 pub mod KeptMemories
 pub mod Aimed

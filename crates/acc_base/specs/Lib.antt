@@ -24,6 +24,7 @@ pub mod Bytes
 pub mod Leases
 pub mod Waits
 pub mod Walk
+pub mod Items
 pub mod Pointers
 pub mod Acting
 pub mod Replay

@@ -1,5 +1,8 @@
 //! The attachment counters of pointers on the device.
 
+ghost use Rattle.std.specs.Prelude.{◌≡◌};
+ghost use Rattle.acc_base.specs.Walk.{pointer_attached};
+
 /// The attachment counter of a pointer, which is above zero (OpenACC 3.3, section 2.6.8).
 #[derive(Clone, Copy, Debug, PartialEq, Eq)]
 pub struct Attachment {
@@ -49,4 +52,17 @@ pub enum Aim {
         /// The number of the block that holds it.
         block: u64,
     },
+}
+
+impl Aim {
+    /// The pointer that was attached, and the block that holds it, if one was.
+    pub fn pointer_attached(self) -> Option<(u64, u64)>
+        ensures { result ≡ pointer_attached self }
+    {
+        match self {
+            Aim::New { pointer, block, .. } => Some((pointer, block)),
+            Aim::Again { pointer, block } => Some((pointer, block)),
+            _ => None,
+        }
+    }
 }

@@ -1,9 +1,11 @@
 //! What a program asks of the data environment.
 
-ghost use Rattle.std.specs.Prelude.{◌≡◌};
-ghost use Rattle.acc_base.specs.Judge.{item_count};
+ghost use Rattle.std.specs.Prelude.{◌≡◌, []};
+ghost use Rattle.std.specs.List.{slice_get};
+ghost use Rattle.acc_base.specs.Judge.{item_count, tasks_with};
 
-use crate::{EnterClause, ExitClause, Item, List, RegionClause, UpdateClause};
+use crate::tasks::{enter_data_at, entry_at, exit_data_at, update_at};
+use crate::{EnterClause, ExitClause, Item, List, RegionClause, Task, UpdateClause};
 
 /// A directive, with the items of its data clauses in written order. They act in that order, and on a region's exit in
 /// reverse. A directive names the device on which it acts, as `acc_set_device_num` chooses it (OpenACC 3.3, section
@@ -84,6 +86,32 @@ impl Directive {
             Directive::ExitData { items, .. } => items.as_slice().len(),
             Directive::Update { items, .. } => items.as_slice().len(),
             _ => 0,
+        }
+    }
+    /// What its item of a place asks, from 0 on in written order. The exit from a region names no item.
+    pub fn task(&self, place: usize) -> Option<Task>
+        ensures { result ≡ slice_get (tasks_with self.now []) place }
+    {
+        match self {
+            Directive::Enter { items, .. } => entry_at(items.as_slice(), place),
+            Directive::EnterData { items, queue, .. } => enter_data_at(
+                items.as_slice(),
+                *queue,
+                place,
+            ),
+            Directive::ExitData {
+                items,
+                finalize,
+                queue,
+                ..
+            } => exit_data_at(items.as_slice(), *finalize, *queue, place),
+            Directive::Update {
+                items,
+                if_present,
+                queue,
+                ..
+            } => update_at(items.as_slice(), *if_present, *queue, place),
+            _ => None,
         }
     }
 }

@@ -1,10 +1,15 @@
 //! What an accepted call did, as it is kept in the trace of a table.
 
-ghost use Rattle.std.specs.Prelude.{◌≡◌};
+ghost use Rattle.std.specs.Prelude.{◌≡◌, map};
+ghost use Rattle.std.specs.List.{slice_get};
 ghost use Rattle.acc_base.specs.Devices.{device_in};
-ghost use Rattle.acc_base.specs.Walk.{did_in};
+ghost use Rattle.acc_base.specs.Items.{tasks_named, tasks_undone, undone_by};
+ghost use Rattle.acc_base.specs.Walk.{did_in, block_counted, holdings_of};
 
-use crate::{Aim, EnterClause, ExitClause, Item, List, RegionClause, Section, UpdateClause};
+use crate::tasks::{enter_data_at, entry_at, exit_data_at, update_at};
+use crate::{
+    Aim, EnterClause, ExitClause, Holding, Item, List, RegionClause, Section, Task, UpdateClause,
+};
 
 /// What an item of a data clause did to mappings, counters and bytes.
 #[derive(Clone, Copy, Debug, Default, PartialEq, Eq)]
@@ -36,6 +41,19 @@ pub enum Step {
         /// The number of the block from which or to which it copies.
         block: u64,
     },
+}
+
+impl Step {
+    /// The block that it counted, if it counted one.
+    pub fn block_counted(self) -> Option<u64>
+        ensures { result ≡ block_counted self }
+    {
+        match self {
+            Step::Counted { block } => Some(block),
+            Step::Born { block, .. } => Some(block),
+            _ => None,
+        }
+    }
 }
 
 /// What an item of a data clause did.
@@ -193,4 +211,64 @@ impl Event {
             Event::Lent { .. } | Event::Gathered { .. } => &[],
         }
     }
+
+    /// What its item of a place asked, from 0 on in written order. An exit from a region names no item: its entry tells
+    /// what it asks ([`Event::exit_task`]).
+    pub fn task(&self, place: usize) -> Option<Task>
+        ensures { result ≡ slice_get (tasks_named self.now) place }
+    {
+        match self {
+            Event::Entered { items, .. } => entry_at(items.as_slice(), place),
+            Event::EnteredData { items, queue, .. } => enter_data_at(
+                items.as_slice(),
+                *queue,
+                place,
+            ),
+            Event::ExitedData {
+                items,
+                finalize,
+                queue,
+                ..
+            } => exit_data_at(items.as_slice(), *finalize, *queue, place),
+            Event::Updated {
+                items,
+                if_present,
+                queue,
+                ..
+            } => update_at(items.as_slice(), *if_present, *queue, place),
+            _ => None,
+        }
+    }
+
+    /// What the exit from a region asks of the item of a place, if this is the entry to the region: to undo what the
+    /// item counted and attached.
+    pub fn exit_task(&self, place: usize) -> Option<Task>
+        ensures { result ≡ slice_get (tasks_undone self.now) place }
+    {
+        match self {
+            Event::Entered { items, did, .. } => undone_at(items.as_slice(), did.as_slice(), place),
+            _ => None,
+        }
+    }
+}
+
+/// What the exit from a region asks of the item of a place, whose entry named these items, and did this.
+fn undone_at(items: &[Item<RegionClause>], did: &[Did], place: usize) -> Option<Task>
+    ensures { result ≡ slice_get (map Task.ExitRegion (holdings_of items.now did.now)) place }
+{
+    undone_by(items.get(place).copied(), did.get(place).copied())
+}
+
+/// What the exit from a region asks of an item whose entry did this.
+fn undone_by(item: Option<Item<RegionClause>>, did: Option<Did>) -> Option<Task>
+    ensures { result ≡ undone_by item did }
+{
+    let (item, did) = (item?, did?);
+    Some(Task::ExitRegion {
+        holding: Holding {
+            item,
+            block: did.step.block_counted(),
+            aim: did.aim.pointer_attached(),
+        },
+    })
 }

@@ -1,8 +1,9 @@
 //! Sections of host memory, and the items of data clauses.
 
 ghost use Rattle.std.specs.Prelude.{◌≡◌};
+ghost use Rattle.acc_base.specs.Items.{region_word, exit_word, update_word};
 ghost use Rattle.acc_base.specs.Section.{end_of, is_within, is_apart};
-ghost use Rattle.acc_base.specs.Clauses.{as_region, copies_in, copies_out, is_copyout, is_to_self, is_zeroed, is_attach, is_detach};
+ghost use Rattle.acc_base.specs.Clauses.{as_region, section_named, copies_in, copies_out, is_copyout, is_to_self, is_zeroed, is_attach, is_detach};
 
 /// The host addresses from `start` to `start + len - 1`, in bytes (OpenACC 3.3, section 2.6, data environment).
 ///
@@ -35,6 +36,16 @@ impl Section {
         ensures { result ≡ is_apart self other }
     {
         self.end() <= u128::from(other.start) || other.end() <= u128::from(self.start)
+    }
+
+    /// What an item names of it: nothing at its start, where the item names a pointer alone.
+    pub fn named(self, is_pointer: bool) -> Section
+        ensures { result ≡ section_named is_pointer self }
+    {
+        Section {
+            start: self.start,
+            len: if is_pointer { 0 } else { self.len },
+        }
     }
 }
 
@@ -79,6 +90,21 @@ pub enum RegionClause {
 }
 
 impl RegionClause {
+    /// The word of the clause, as in OpenACC; that of `attach` is one of scripts.
+    pub fn word(self) -> &'static str
+        ensures { result.now ≡ region_word self }
+    {
+        match self {
+            RegionClause::Copy => "copy",
+            RegionClause::Copyin => "copyin",
+            RegionClause::Copyout { .. } => "copyout",
+            RegionClause::Create { .. } => "create",
+            RegionClause::NoCreate => "no_create",
+            RegionClause::Present => "present",
+            RegionClause::Attach => "attach",
+        }
+    }
+
     /// Whether a new block gets the bytes of the section.
     pub fn copies_in(self) -> bool
         ensures { result ≡ copies_in self }
@@ -153,6 +179,17 @@ pub enum ExitClause {
 }
 
 impl ExitClause {
+    /// The word of the clause, as in OpenACC.
+    pub fn word(self) -> &'static str
+        ensures { result.now ≡ exit_word self }
+    {
+        match self {
+            ExitClause::Delete => "delete",
+            ExitClause::Copyout => "copyout",
+            ExitClause::Detach => "detach",
+        }
+    }
+
     /// Whether host memory gets the bytes of the section just before the mapping ends.
     pub fn copies_out(self) -> bool
         ensures { result ≡ is_copyout self }
@@ -178,6 +215,16 @@ pub enum UpdateClause {
 }
 
 impl UpdateClause {
+    /// The word of the clause, as in OpenACC.
+    pub fn word(self) -> &'static str
+        ensures { result.now ≡ update_word self }
+    {
+        match self {
+            UpdateClause::ToSelf => "self",
+            UpdateClause::ToDevice => "device",
+        }
+    }
+
     /// Whether it copies to host memory, and not to the device.
     pub fn copies_out(self) -> bool
         ensures { result ≡ is_to_self self }

@@ -1,7 +1,7 @@
 //! Directives with data clauses.
 
 use crate::faults::EmitFault;
-use crate::items::{Words, Written, fit_one_directive, written_items};
+use crate::items::{Written, fit_one_directive};
 use crate::pointers::pointer_section;
 use crate::sheets::Sheet;
 use acc_base::{Did, Directive, Fault};
@@ -71,13 +71,13 @@ pub fn written_directive(
         ),
         _ => return Ok(None),
     };
-    let items = match directive {
-        Directive::Enter { items, .. } => written_items(alloc, items.as_slice(), did)?,
-        Directive::EnterData { items, .. } => written_items(alloc, items.as_slice(), did)?,
-        Directive::ExitData { items, .. } => written_items(alloc, items.as_slice(), did)?,
-        Directive::Update { items, .. } => written_items(alloc, items.as_slice(), did)?,
-        _ => return Ok(None),
-    };
+    let mut items = Vec::new(alloc);
+    for place in 0..directive.item_count() {
+        if let Some(task) = directive.task(place) {
+            let did = did.get(place).copied().unwrap_or_default();
+            items.push(Written::new(task, did))?;
+        }
+    }
     Ok(Some(WrittenDirective { frame, items }))
 }
 
@@ -141,7 +141,7 @@ fn put_item(sheet: &mut Sheet, frame: DirectiveFrame, item: Written) -> Result<(
 
 /// Puts a comment for an item without a section, and opens its block all the same.
 fn put_passed_over(sheet: &mut Sheet, frame: DirectiveFrame, item: Written) {
-    if !item.words.word.is_empty() {
+    if !item.task.names_pointer() {
         sheet.remark("an empty section: no action");
     } else if item.pointer().is_none() {
         sheet.remark("the pointer stays as it is: no action");
@@ -154,7 +154,7 @@ fn put_clause_alone(
     frame: DirectiveFrame,
     item: Written,
 ) -> Result<(), EmitFault> {
-    if item.words.zero {
+    if item.zero {
         put_with_zero(sheet, frame, item)
     } else {
         put_clauses(sheet, frame, &[item])
@@ -168,10 +168,7 @@ fn put_with_zero(sheet: &mut Sheet, frame: DirectiveFrame, item: Written) -> Res
         ..frame
     };
     let without_zero = Written {
-        words: Words {
-            zero: false,
-            ..item.words
-        },
+        zero: false,
         ..item
     };
     sheet.body.text("#if KNOWS_ZERO\n");
@@ -187,10 +184,10 @@ fn put_fill(sheet: &mut Sheet, item: Written) -> Result<(), EmitFault> {
     if !item.is_born() {
         return Ok(());
     }
-    sheet.need(item.section.len);
+    sheet.need(item.section().len);
     sheet.body.text("#if !KNOWS_ZERO\n");
     sheet.start_call("fill_with_zero");
-    sheet.put_argument(item.section)?;
+    sheet.put_argument(item.section())?;
     sheet.end_call();
     sheet.body.text("#endif\n");
     Ok(())
@@ -221,11 +218,9 @@ fn put_opening(sheet: &mut Sheet, frame: DirectiveFrame) {
 
 fn put_clause(sheet: &mut Sheet, item: Written) -> Result<(), EmitFault> {
     sheet.body.text(" ");
-    sheet.body.text(item.words.word);
-    sheet
-        .body
-        .text(if item.words.zero { "(zero: " } else { "(" });
-    sheet.put_section(item.section)?;
+    sheet.body.text(item.task.word());
+    sheet.body.text(if item.zero { "(zero: " } else { "(" });
+    sheet.put_section(item.section())?;
     sheet.body.text(")");
     Ok(())
 }

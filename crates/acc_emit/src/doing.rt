@@ -50,7 +50,8 @@ pub fn emit_directive(
 pub fn put_all(emitter: &mut Emitter, written: WrittenDirective) -> Result<(), EmitFault> {
     put_directive(&mut emitter.sheet, written.frame, &written.items)?;
     if written.frame.opens {
-        let region = NestedRegion::new(&emitter.sheet, written.items);
+        let entry = emitter.own.table.trace().len().saturating_sub(1);
+        let region = NestedRegion::new(&emitter.sheet, entry, written.items);
         emitter.regions.push(region)?;
     }
     Ok(())
@@ -60,7 +61,9 @@ fn emit_end(emitter: &mut Emitter, did: &[Did]) -> Result<(), EmitFault> {
     let Some(mut region) = emitter.regions.pop() else {
         return Ok(());
     };
-    region.undo(did);
+    if let Some(entry) = emitter.own.table.trace().get(region.entry) {
+        region.undo(entry, did);
+    }
     note_all(emitter, None, &region.items)?;
     region.put_end(&mut emitter.sheet)
 }
@@ -68,7 +71,7 @@ fn emit_end(emitter: &mut Emitter, did: &[Did]) -> Result<(), EmitFault> {
 /// Notes what the items of a directive did, in a queue or at once; fails where a program cannot have it.
 fn note_all(emitter: &mut Emitter, queue: Option<u64>, items: &[Written]) -> Result<(), EmitFault> {
     for (nth, item) in items.iter().enumerate() {
-        if item.copied_block().is_some() && has_attached(emitter, items, nth, item.section) {
+        if item.copied_block().is_some() && has_attached(emitter, items, nth, item.section()) {
             return Err(emitter.sheet.unfit(Reason::AttachedCopied));
         }
         check_ended(emitter, queue, *item)?;
@@ -130,14 +133,14 @@ fn note(emitter: &mut Emitter, queue: Option<u64>, item: Written) -> Result<(), 
         emitter.marks.touch(pointer_section(place), None);
     }
     if item.is_left_open() {
-        emitter.births.push(item.section)?;
+        emitter.births.push(item.section())?;
     }
     let Some(block) = item.copied_block() else {
         return Ok(());
     };
-    emitter.marks.copy(item.section, queue);
+    emitter.marks.copy(item.section(), queue);
     if let Some(queue) = queue {
-        emitter.marks.waits.put(queue, block, item.section)?;
+        emitter.marks.waits.put(queue, block, item.section())?;
     }
     Ok(())
 }

@@ -3,7 +3,7 @@
 use crate::sources::put_cause;
 use acc_base::{Directive, Fault, Found, Free, HOST_BASE, Item, List, QUEUE_COUNT, Section};
 use acc_read::{Names, Page, ScriptKernel, Statement};
-use acc_table::{Mapped, Table};
+use acc_table::{Mapped, Place, Table};
 use std::fmt::Write;
 
 /// How many ranges that a section meets are shown at most.
@@ -215,8 +215,9 @@ fn put_meetings(
 fn put_ranges(page: &mut Page, view: DeviceView<'_>, names: &Names, section: Section) -> u64 {
     let mut told = 0;
     let mut from = first_from(view, section);
+    let mut near = Place::default();
     for _ in 0..u64::MAX {
-        let Some(mapped) = view.table.mapped(view.device, from) else {
+        let Some((mapped, place)) = view.table.mapped_near(view.device, from, near) else {
             break;
         };
         if section.end() <= u128::from(mapped.start) {
@@ -229,6 +230,7 @@ fn put_ranges(page: &mut Page, view: DeviceView<'_>, names: &Names, section: Sec
             }
         }
         from = mapped.start.saturating_add(1);
+        near = place;
     }
     put_others(page, told);
     told

@@ -1,72 +1,98 @@
 //! What the log prints of one item.
 
 use crate::accounts::{Copied, Placed};
-use crate::log_items::{Drops, LogItem};
+use crate::log_items::LogItem;
 use crate::log_lines::{
     put_copy, put_item, put_name, put_place, put_pointer, put_queue, put_range, put_section,
     put_skipped, put_spot,
 };
 use crate::logs::Log;
-use acc_base::{Aim, Counter, Did, Section, Step};
+use acc_base::{Aim, Did, Holding, Range, Section, Step, Task};
 use acc_read::Names;
 
 impl Log {
-    /// Puts the lines of an item that enters: its mapping, its copy, its pointer.
-    pub(crate) fn tell_enter(&mut self, names: &Names, told: LogItem, counter: Counter, did: Did) {
+    /// Puts the lines of an item: its pointer, its copy, its mapping, in the order in which it did something to them.
+    pub(crate) fn tell_item(&mut self, names: &Names, told: LogItem, did: Did) {
+        match told.task {
+            Task::Enter { .. } => self.tell_enter(names, told, did),
+            Task::ExitRegion { holding } => self.tell_holding(names, told, holding, did),
+            Task::ExitData { .. } => {
+                self.tell_aim(names, told, did.aim);
+                self.tell_drop(names, told, did.step);
+            }
+            Task::Move { .. } => self.tell_move(names, told, did.step),
+        }
+    }
+
+    fn tell_enter(&mut self, names: &Names, told: LogItem, did: Did) {
         match did.step {
             Step::Born { block, place } => {
-                let placed = told.born(counter, block, place);
+                let bare = Range {
+                    section: told.section(),
+                    block,
+                    structured: 0,
+                    dynamic: 0,
+                };
+                let placed = Placed { range: bare, place };
                 self.totals.mapped = self.totals.mapped.saturating_add(1);
                 self.reach_item(told, "absent");
                 self.tell_range(names, told, "mapped", placed);
-                self.tell_copy(names, told, placed);
+                self.tell_copy(names, told, did.step, placed);
             }
-            Step::Counted { .. } => self.tell_counted(names, told, counter),
+            Step::Counted { .. } => self.tell_counted(names, told),
             _ => self.tell_nothing(names, told),
         }
         self.tell_aim(names, told, did.aim);
     }
 
-    fn tell_counted(&mut self, names: &Names, told: LogItem, counter: Counter) {
-        let Some(found) = self.account.inside(told.section) else {
+    fn tell_counted(&mut self, names: &Names, told: LogItem) {
+        let Some(found) = self.account.inside(told.section()) else {
             return;
         };
-        let placed = found.raised(counter);
         self.reach_item(told, "inside");
-        self.tell_range(names, told, "counted", placed);
-        if told.copies {
+        self.tell_range(names, told, "counted", found);
+        if told.task.gets_bytes() {
             put_skipped(&mut self.page, names, told, "present");
         }
     }
 
-    /// Puts the lines of an item that leaves: its pointer, its copy, its mapping.
-    pub(crate) fn tell_leave(&mut self, names: &Names, told: LogItem, drops: Drops, did: Did) {
-        self.tell_aim(names, told, did.aim);
-        match did.step {
-            Step::Dropped { .. } => self.tell_drop(names, told, drops, did.step),
-            _ => self.tell_nothing(names, told),
+    /// Puts what became of an item that a region held; nothing where its entry did nothing.
+    fn tell_holding(&mut self, names: &Names, told: LogItem, holding: Holding, did: Did) {
+        if holding.aim.is_some() {
+            self.tell_aim(names, told, did.aim);
+            if matches!(did.aim, Aim::None) {
+                self.reach_pointer(told, "gone");
+            }
+        }
+        if holding.block.is_none() {
+            self.reach_item(told, "nothing");
+        } else {
+            self.tell_drop(names, told, did.step);
         }
     }
 
-    /// Puts the lines of a mapping that was counted once less.
-    pub(crate) fn tell_drop(&mut self, names: &Names, told: LogItem, drops: Drops, step: Step) {
-        let (Some(found), Step::Dropped { ended, .. }) = (self.account.inside(told.section), step)
-        else {
+    /// Puts the lines of an item that leaves: its copy, and its mapping, which ended or was counted once less.
+    fn tell_drop(&mut self, names: &Names, told: LogItem, step: Step) {
+        let Step::Dropped { ended, .. } = step else {
+            self.tell_nothing(names, told);
             return;
         };
-        self.reach_item(told, way_out(drops, ended));
+        let Some(found) = self.account.inside(told.section()) else {
+            return;
+        };
+        self.reach_item(told, way_out(told.task, ended));
         if ended {
-            self.tell_end(names, told, found);
+            self.tell_end(names, told, step, found);
             return;
         }
-        if told.copies {
+        if told.task.gives_bytes() {
             put_skipped(&mut self.page, names, told, "held");
         }
-        self.tell_range(names, told, "dropped", found.lowered(drops));
+        self.tell_range(names, told, "dropped", found);
     }
 
-    fn tell_end(&mut self, names: &Names, told: LogItem, found: Placed) {
-        self.tell_copy(names, told, found);
+    fn tell_end(&mut self, names: &Names, told: LogItem, step: Step, found: Placed) {
+        self.tell_copy(names, told, step, found);
         self.totals.ended = self.totals.ended.saturating_add(1);
         self.account.remove(found);
         put_section(&mut self.page, told, "ended", found.range.section);
@@ -75,11 +101,11 @@ impl Log {
     }
 
     /// Puts the lines of an item of `update`.
-    pub(crate) fn tell_move(&mut self, names: &Names, told: LogItem, step: Step) {
-        match (step, self.account.inside(told.section)) {
+    fn tell_move(&mut self, names: &Names, told: LogItem, step: Step) {
+        match (step, self.account.inside(told.section())) {
             (Step::Moved { .. }, Some(found)) => {
                 self.reach_item(told, "inside");
-                self.tell_copy(names, told, found);
+                self.tell_copy(names, told, step, found);
             }
             _ => self.tell_nothing(names, told),
         }
@@ -88,45 +114,51 @@ impl Log {
     /// Puts the line of an item that did nothing. The section is empty or absent, or nothing of `enter data` counts it.
     /// An item of `attach` or `detach` names none, and gets no line.
     fn tell_nothing(&mut self, names: &Names, told: LogItem) {
-        if told.is_pointer {
+        if told.task.names_pointer() {
             return;
         }
         self.reach_pointer(told, "nothing");
-        if told.section.len == 0 {
+        if told.section().len == 0 {
             self.reach_item(told, "empty");
             put_item(&mut self.page, told, "empty");
             self.page.text("\n");
             return;
         }
-        match self.account.inside(told.section) {
+        match self.account.inside(told.section()) {
             Some(found) => {
                 self.reach_item(told, "inside, uncounted");
                 put_range(&mut self.page, names, told, "kept", found);
             }
             None => {
                 self.reach_item(told, "absent");
-                put_section(&mut self.page, told, "absent", told.section);
-                put_name(&mut self.page, names, told.section);
+                put_section(&mut self.page, told, "absent", told.section());
+                put_name(&mut self.page, names, told.section());
             }
         }
     }
 
-    fn tell_range(&mut self, names: &Names, told: LogItem, word: &str, placed: Placed) {
+    /// Puts the line of a range that an item counted or dropped, with the counters that it left.
+    fn tell_range(&mut self, names: &Names, told: LogItem, word: &str, found: Placed) {
+        let placed = Placed {
+            range: told.task.recounted(found.range),
+            place: found.place,
+        };
         self.account.set(placed);
         put_range(&mut self.page, names, told, word, placed);
     }
 
-    /// Puts the line of an item's copy, if it makes one: made at once, or put into its queue.
-    fn tell_copy(&mut self, names: &Names, told: LogItem, placed: Placed) {
-        if !told.copies {
+    /// Puts the line of an item's copy, if its step has one: made at once, or put into its queue.
+    fn tell_copy(&mut self, names: &Names, told: LogItem, step: Step, placed: Placed) {
+        if !told.task.copies(step) {
             return;
         }
+        let section = told.section();
         let copied = Copied {
-            section: told.section,
-            place: placed.place_of(told.section.start),
-            out: told.out,
+            section,
+            place: placed.place_of(section.start),
+            out: told.task.goes_out(),
         };
-        match told.queue {
+        match told.task.queue() {
             Some(queue) => self.tell_put(names, told, queue, copied),
             None => {
                 self.totals.copied(copied.out, copied.section.len);
@@ -146,13 +178,14 @@ impl Log {
     }
 
     /// Puts what an item did to its pointer, and keeps how often that is attached now.
-    pub(crate) fn tell_aim(&mut self, names: &Names, told: LogItem, aim: Aim) {
+    fn tell_aim(&mut self, names: &Names, told: LogItem, aim: Aim) {
         match aim {
             Aim::None => {
-                if told.is_pointer {
+                if told.task.names_pointer() {
                     self.reach_no_aim(told);
-                    put_pointer(&mut self.page, told, "unattached", told.section.start);
-                    put_spot(&mut self.page, names, told.section.start);
+                    let pointer = told.section().start;
+                    put_pointer(&mut self.page, told, "unattached", pointer);
+                    put_spot(&mut self.page, names, pointer);
                 }
             }
             Aim::New {
@@ -191,11 +224,11 @@ impl Log {
     /// Counts the row of a clause that is of pointers alone, where its item did nothing.
     fn reach_no_aim(&mut self, told: LogItem) {
         let pointer = Section {
-            start: told.section.start,
+            start: told.section().start,
             len: 8,
         };
         let is_there = self.account.inside(pointer).is_some();
-        let outcome = match (is_there, told.out) {
+        let outcome = match (is_there, told.task.goes_out()) {
             (false, _) => "no pointer",
             (true, false) => "no target",
             (true, true) => "unattached",
@@ -212,10 +245,10 @@ impl Log {
 }
 
 /// What became of a mapping that an item counted down, as the rows name it.
-fn way_out(drops: Drops, ended: bool) -> &'static str {
-    match (drops, ended) {
-        (Drops::Structured, true) => "ends",
-        (Drops::Structured, false) => "stays",
+fn way_out(task: Task, ended: bool) -> &'static str {
+    match (task, ended) {
+        (Task::ExitRegion { .. }, true) => "ends",
+        (Task::ExitRegion { .. }, false) => "stays",
         (_, true) => "inside, ends",
         (_, false) => "inside, stays",
     }

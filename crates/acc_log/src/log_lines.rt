@@ -116,11 +116,12 @@ pub fn put_range(page: &mut Page, names: &Names, told: LogItem, word: &str, plac
 /// Puts the line of a copy that was not made, and why.
 pub fn put_skipped(page: &mut Page, names: &Names, told: LogItem, why: &str) {
     put_item(page, told, "skipped");
-    page.text(way(told.out));
-    put_addresses(page, told.section);
+    let section = told.section();
+    page.text(way(told.task.goes_out()));
+    put_addresses(page, section);
     page.text(" ");
     page.text(why);
-    put_name(page, names, told.section);
+    put_name(page, names, section);
 }
 
 /// Puts the direction of a copy, its host address, its length in bytes and its device address.

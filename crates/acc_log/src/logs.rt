@@ -2,16 +2,13 @@
 //! Bytes are copied in to the device and copied out to host memory, in the words of OpenACC.
 
 use crate::accounts::{Account, Copied};
-use crate::log_items::{Drops, LogItem};
+use crate::log_items::LogItem;
 use crate::log_lines::{
     put_copied, put_device, put_head, put_inner, put_loan, put_refused, put_region, put_written,
 };
-use crate::rows::{RowCounts, has_readonly};
+use crate::rows::{RowCounts, RuleName, has_readonly};
 use crate::totals::{Totals, put_total};
-use acc_base::{
-    Aim, Counter, Did, EnterClause, Event, ExitClause, Fault, Item, RegionClause, Section, Step,
-    UpdateClause,
-};
+use acc_base::{Event, Fault, Section, Task};
 use acc_read::{Names, Page, Statement};
 use acc_script::Effect;
 use acc_table::Table;
@@ -91,54 +88,60 @@ impl Log {
             Fault::PartlyPresent { item } => (item, "partly present"),
             Fault::NotPresent { item } => (item, "absent"),
             _ => {
-                self.reach("refused", "", fault.name());
+                self.reach("refused", fault.name());
                 return;
             }
         };
         match statement {
             Statement::Direct(directive) => {
-                if let Some(told) = LogItem::of_directive(directive, place as usize) {
-                    self.reach_item(told, outcome);
+                let place = place as usize;
+                if let Some(task) = directive.task(place) {
+                    self.reach_item(LogItem { place, task }, outcome);
                 }
             }
-            Statement::Kernel { section, .. } if section.len == 0 => {
-                self.reach("kernel", "", "empty")
-            }
-            _ => self.reach("kernel", "", outcome),
+            Statement::Kernel { section, .. } if section.len == 0 => self.reach("kernel", "empty"),
+            _ => self.reach("kernel", outcome),
         }
     }
 
     /// Counts the row of what became of an item.
     pub(crate) fn reach_item(&mut self, told: LogItem, outcome: &'static str) {
-        if told.queue.is_some() {
-            self.reach(told.words, "async", outcome);
+        let (directive, clause) = (told.directive(), told.task.word());
+        let is_queued = told.task.queue().is_some();
+        if is_queued {
+            self.reach_clause((directive, clause, "async"), outcome);
         }
-        if self.readonly && told.words.ends_with("copyin") {
-            self.reach(told.words, "readonly", outcome);
-        } else if told.queue.is_none() || !told.modifier.is_empty() {
-            self.reach(told.words, told.modifier, outcome);
+        if self.readonly && clause == "copyin" {
+            self.reach_clause((directive, clause, "readonly"), outcome);
+        } else if !is_queued || !told.modifier().is_empty() {
+            self.reach_clause((directive, clause, told.modifier()), outcome);
         }
     }
 
     /// Counts the row of what became of the pointer of an item.
     pub(crate) fn reach_pointer(&mut self, told: LogItem, outcome: &'static str) {
-        if told.is_pointer {
-            self.reach(told.words, told.modifier, outcome);
-        } else if told.pointer.is_some() {
-            let is_end = told.words.starts_with("end");
-            let words = if is_end { "end data" } else { told.words };
-            let is_final = told.modifier == "finalize";
-            self.reach(
-                words,
-                if is_final { "via finalize" } else { "via" },
-                outcome,
-            );
+        let (directive, clause) = (told.directive(), told.task.word());
+        if told.task.names_pointer() {
+            self.reach_clause((directive, clause, told.modifier()), outcome);
+        } else if told.has_pointer() {
+            let clause = match told.task {
+                Task::ExitRegion { .. } => "",
+                _ => clause,
+            };
+            let is_final = told.modifier() == "finalize";
+            let via = if is_final { "via finalize" } else { "via" };
+            self.reach_clause((directive, clause, via), outcome);
         }
     }
 
-    fn reach(&mut self, directive: &'static str, modifier: &'static str, outcome: &'static str) {
+    /// Counts the row of a directive without a clause.
+    fn reach(&mut self, directive: &'static str, outcome: &'static str) {
+        self.reach_clause((directive, "", ""), outcome);
+    }
+
+    fn reach_clause(&mut self, rule: RuleName, outcome: &'static str) {
         if let Some(rows) = &mut self.rows {
-            rows.reach(directive, modifier, outcome);
+            rows.reach(rule, outcome);
         }
     }
 
@@ -163,7 +166,7 @@ impl Log {
     fn put_outcome(&mut self, effect: Effect) {
         match effect {
             Effect::EmptyQueue => {
-                self.reach("step", "", "none");
+                self.reach("step", "none");
                 put_inner(&mut self.page, "idle");
             }
             Effect::Refused(fault) => {
@@ -177,40 +180,18 @@ impl Log {
     fn tell_event(&mut self, names: &Names, trace: &[Event], at: usize, event: &Event) {
         self.account.device = event.device();
         match event {
-            Event::Entered {
-                number,
-                items,
-                did,
-                ..
-            } => {
-                self.tell_entry(names, items.as_slice(), did.as_slice());
+            Event::Entered { number, .. } => {
+                self.tell_items(names, event);
                 self.account.open(at);
                 put_region(&mut self.page, "entered region ", *number);
             }
-            Event::Left { number, did, .. } => {
-                self.tell_exit(names, trace, did.as_slice());
+            Event::Left { number, .. } => {
+                self.tell_exit(names, trace, event);
                 put_region(&mut self.page, "exited region ", *number);
             }
-            Event::EnteredData {
-                items,
-                queue,
-                did,
-                ..
-            } => { self.tell_entered(names, items.as_slice(), *queue, did.as_slice()) }
-            Event::ExitedData {
-                items,
-                finalize,
-                queue,
-                did,
-                ..
-            } => self.tell_exited(names, items.as_slice(), *finalize, *queue, did.as_slice()),
-            Event::Updated {
-                items,
-                if_present,
-                queue,
-                did,
-                ..
-            } => self.tell_updated(names, items.as_slice(), *if_present, *queue, did.as_slice()),
+            Event::EnteredData { .. } | Event::ExitedData { .. } | Event::Updated { .. } => {
+                self.tell_items(names, event)
+            }
             _ => self.tell_short(names, event),
         }
     }
@@ -220,7 +201,7 @@ impl Log {
         match event {
             Event::Waited { queue, count, .. } => self.tell_waited(names, *queue, *count),
             Event::Stepped { queue, .. } => {
-                self.reach("step", "", "some");
+                self.reach("step", "some");
                 self.tell_made(names, *queue);
             }
             Event::HostWritten { addr, len, .. } => {
@@ -240,106 +221,24 @@ impl Log {
         }
     }
 
-    fn tell_entry(&mut self, names: &Names, items: &[Item<RegionClause>], did: &[Did]) {
-        for (place, (item, did)) in items.iter().zip(did).enumerate() {
-            let told = LogItem::of_region(place, *item);
-            self.tell_enter(names, told, Counter::Structured, *did);
-        }
-    }
-
-    fn tell_entered(
-        &mut self,
-        names: &Names,
-        items: &[Item<EnterClause>],
-        queue: Option<u64>,
-        did: &[Did],
-    ) {
-        for (place, (item, did)) in items.iter().zip(did).enumerate() {
-            let told = LogItem::of_enter(place, *item, queue);
-            self.tell_enter(names, told, Counter::Dynamic, *did);
-        }
-    }
-
-    fn tell_exited(
-        &mut self,
-        names: &Names,
-        items: &[Item<ExitClause>],
-        finalize: bool,
-        queue: Option<u64>,
-        did: &[Did],
-    ) {
-        let drops = if finalize {
-            Drops::AllDynamic
-        } else {
-            Drops::Dynamic
-        };
-        for (place, (item, did)) in items.iter().zip(did).enumerate() {
-            let told = LogItem::of_exit(place, *item, finalize, queue);
-            self.tell_leave(names, told, drops, *did);
+    /// Puts the lines of the items that an event names.
+    fn tell_items(&mut self, names: &Names, event: &Event) {
+        for (place, did) in event.did().iter().enumerate() {
+            if let Some(task) = event.task(place) {
+                self.tell_item(names, LogItem { place, task }, *did);
+            }
         }
     }
 
     /// Puts the lines of the items of `end data`, the last one first.
-    fn tell_exit(&mut self, names: &Names, trace: &[Event], did: &[Did]) {
-        let Some(at) = self.account.close() else {
+    fn tell_exit(&mut self, names: &Names, trace: &[Event], event: &Event) {
+        let Some(entry) = self.account.close().and_then(|at| trace.get(at)) else {
             return;
         };
-        if let Some(
-            Event::Entered {
-                items,
-                did: held,
-                ..
-            },
-        ) = trace.get(at)
-        {
-            self.tell_holdings(names, items.as_slice(), held.as_slice(), did);
-        }
-    }
-
-    fn tell_holdings(
-        &mut self,
-        names: &Names,
-        items: &[Item<RegionClause>],
-        held: &[Did],
-        did: &[Did],
-    ) {
-        for place in (0..items.len()).rev() {
-            if let (Some(item), Some(held), Some(did)) = (
-                items.get(place),
-                held.get(place),
-                did.get(place),
-            ) {
-                self.tell_holding(names, LogItem::left_by(place, *item), *held, *did);
+        for (place, did) in event.did().iter().enumerate().rev() {
+            if let Some(task) = entry.exit_task(place) {
+                self.tell_item(names, LogItem { place, task }, *did);
             }
-        }
-    }
-
-    /// Puts what became of an item that a region held; nothing where its entry did nothing.
-    fn tell_holding(&mut self, names: &Names, told: LogItem, held: Did, did: Did) {
-        if !matches!(held.aim, Aim::None) {
-            self.tell_aim(names, told, did.aim);
-            if matches!(did.aim, Aim::None) {
-                self.reach_pointer(told, "gone");
-            }
-        }
-        if matches!(held.step, Step::Nothing) {
-            self.reach_item(told, "nothing");
-        } else {
-            self.tell_drop(names, told, Drops::Structured, did.step);
-        }
-    }
-
-    fn tell_updated(
-        &mut self,
-        names: &Names,
-        items: &[Item<UpdateClause>],
-        if_present: bool,
-        queue: Option<u64>,
-        did: &[Did],
-    ) {
-        for (place, (item, did)) in items.iter().zip(did).enumerate() {
-            let told = LogItem::of_update(place, *item, if_present, queue);
-            self.tell_move(names, told, did.step);
         }
     }
 
@@ -350,7 +249,7 @@ impl Log {
         } else {
             "wait"
         };
-        self.reach(directive, "", if count > 0 { "some" } else { "none" });
+        self.reach(directive, if count > 0 { "some" } else { "none" });
         if count == 0 {
             put_inner(&mut self.page, "idle");
         }
@@ -376,7 +275,7 @@ impl Log {
                 out: false,
             };
             self.lent = Some(copied);
-            self.reach("kernel", "", "inside");
+            self.reach("kernel", "inside");
             put_loan(&mut self.page, names, "lent", copied, serial);
         }
     }

@@ -4,11 +4,11 @@ use acc_read::Page;
 use std::alloc::Global;
 use std::collections::BTreeMap;
 
-/// A directive with its clause, a modifier of it or an empty text, and what can become of an item.
-type Rule = (&'static str, &'static str, &'static [&'static str]);
+/// A directive, its clause, and a modifier of that; empty texts where it has none.
+pub(crate) type RuleName = (&'static str, &'static str, &'static str);
 
-/// A row: the first two of its rule, and what became of the item.
-type ClauseRow = (&'static str, &'static str, &'static str);
+/// A rule: its name, and what can become of an item.
+type Rule = (RuleName, &'static [&'static str]);
 
 /// Where a section lies.
 const SECTION: &[&str] = &["empty", "inside", "absent", "partly present"];
@@ -43,76 +43,74 @@ const REFUSALS: &[&str] = &[
 
 /// All rows. Those of data clauses and of `update` are those of the tables in docs/MODEL.md.
 const RULES: &[Rule] = &[
-    ("data copy", "", SECTION),
-    ("data copyin", "", SECTION),
-    ("data copyin", "readonly", &["absent"]),
-    ("data copyout", "", SECTION),
-    ("data copyout", "zero", &["inside", "absent"]),
-    ("data create", "", SECTION),
-    ("data create", "zero", &["inside", "absent"]),
-    ("data no_create", "", SECTION),
-    ("data present", "", SECTION),
-    ("enter data copyin", "", SECTION),
-    ("enter data copyin", "readonly", &["absent"]),
-    ("enter data copyin", "async", &["inside", "absent"]),
-    ("enter data create", "", SECTION),
-    ("enter data create", "zero", &["inside", "absent"]),
-    ("enter data create", "async", &["absent"]),
-    ("end data copy", "", END),
-    ("end data copyin", "", END),
-    ("end data copyout", "", END),
-    ("end data create", "", END),
-    ("end data no_create", "", END),
-    ("end data present", "", END),
-    ("exit data copyout", "", EXIT),
-    ("exit data copyout", "finalize", EXIT),
+    (("data", "copy", ""), SECTION),
+    (("data", "copyin", ""), SECTION),
+    (("data", "copyin", "readonly"), &["absent"]),
+    (("data", "copyout", ""), SECTION),
+    (("data", "copyout", "zero"), &["inside", "absent"]),
+    (("data", "create", ""), SECTION),
+    (("data", "create", "zero"), &["inside", "absent"]),
+    (("data", "no_create", ""), SECTION),
+    (("data", "present", ""), SECTION),
+    (("enter data", "copyin", ""), SECTION),
+    (("enter data", "copyin", "readonly"), &["absent"]),
+    (("enter data", "copyin", "async"), &["inside", "absent"]),
+    (("enter data", "create", ""), SECTION),
+    (("enter data", "create", "zero"), &["inside", "absent"]),
+    (("enter data", "create", "async"), &["absent"]),
+    (("end data", "copy", ""), END),
+    (("end data", "copyin", ""), END),
+    (("end data", "copyout", ""), END),
+    (("end data", "create", ""), END),
+    (("end data", "no_create", ""), END),
+    (("end data", "present", ""), END),
+    (("exit data", "copyout", ""), EXIT),
+    (("exit data", "copyout", "finalize"), EXIT),
     (
-        "exit data copyout",
-        "async",
+        ("exit data", "copyout", "async"),
         &["inside, stays", "inside, ends"],
     ),
-    ("exit data delete", "", EXIT),
-    ("exit data delete", "finalize", EXIT),
-    ("exit data delete", "async", &["inside, ends"]),
-    ("update self", "", SECTION),
-    ("update self", "if_present", SECTION),
-    ("update self", "async", &["inside"]),
-    ("update device", "", SECTION),
-    ("update device", "if_present", SECTION),
-    ("update device", "async", &["inside"]),
-    ("wait", "", &["some", "none"]),
-    ("wait queue", "", &["some", "none"]),
-    ("step", "", &["some", "none"]),
-    ("data attach", "", ATTACH),
-    ("enter data attach", "", ATTACH),
-    ("data copy", "via", &["new"]),
-    ("data copyin", "via", &["new", "again"]),
-    ("data copyout", "via", &["new"]),
-    ("data create", "via", &["new"]),
-    ("data no_create", "via", &["new", "nothing"]),
-    ("data present", "via", &["new"]),
-    ("enter data copyin", "via", &["new", "again"]),
-    ("enter data create", "via", &["new"]),
-    ("end data attach", "", &["last", "one of more"]),
-    ("end data", "via", &["last", "one of more", "gone"]),
+    (("exit data", "delete", ""), EXIT),
+    (("exit data", "delete", "finalize"), EXIT),
+    (("exit data", "delete", "async"), &["inside, ends"]),
+    (("update", "self", ""), SECTION),
+    (("update", "self", "if_present"), SECTION),
+    (("update", "self", "async"), &["inside"]),
+    (("update", "device", ""), SECTION),
+    (("update", "device", "if_present"), SECTION),
+    (("update", "device", "async"), &["inside"]),
+    (("wait", "", ""), &["some", "none"]),
+    (("wait queue", "", ""), &["some", "none"]),
+    (("step", "", ""), &["some", "none"]),
+    (("data", "attach", ""), ATTACH),
+    (("enter data", "attach", ""), ATTACH),
+    (("data", "copy", "via"), &["new"]),
+    (("data", "copyin", "via"), &["new", "again"]),
+    (("data", "copyout", "via"), &["new"]),
+    (("data", "create", "via"), &["new"]),
+    (("data", "no_create", "via"), &["new", "nothing"]),
+    (("data", "present", "via"), &["new"]),
+    (("enter data", "copyin", "via"), &["new", "again"]),
+    (("enter data", "create", "via"), &["new"]),
+    (("end data", "attach", ""), &["last", "one of more"]),
+    (("end data", "", "via"), &["last", "one of more", "gone"]),
     (
-        "exit data detach",
-        "",
+        ("exit data", "detach", ""),
         &["one of more", "last", "unattached", "no pointer"],
     ),
-    ("exit data detach", "finalize", &["several"]),
-    ("exit data copyout", "via", &["last"]),
-    ("exit data copyout", "via finalize", &["several"]),
-    ("exit data delete", "via", &["one of more", "last"]),
-    ("exit data delete", "via finalize", &["several"]),
-    ("kernel", "", SECTION),
-    ("refused", "", REFUSALS),
+    (("exit data", "detach", "finalize"), &["several"]),
+    (("exit data", "copyout", "via"), &["last"]),
+    (("exit data", "copyout", "via finalize"), &["several"]),
+    (("exit data", "delete", "via"), &["one of more", "last"]),
+    (("exit data", "delete", "via finalize"), &["several"]),
+    (("kernel", "", ""), SECTION),
+    (("refused", "", ""), REFUSALS),
 ];
 
 /// How often scripts reached each row of the clause tables.
 #[derive(Drop)]
 pub struct RowCounts {
-    counts: BTreeMap<ClauseRow, u64>,
+    counts: BTreeMap<(RuleName, &'static str), u64>,
     wants: bool,
 }
 
@@ -131,51 +129,43 @@ impl RowCounts {
     }
 
     /// Counts a row once more. What is no row is counted in vain.
-    pub(crate) fn reach(
-        &mut self,
-        directive: &'static str,
-        modifier: &'static str,
-        outcome: &'static str,
-    ) {
-        let row = (directive, modifier, outcome);
-        let count = self.count(row).saturating_add(1);
-        if self.counts.insert(row, count).is_err() {
+    pub(crate) fn reach(&mut self, rule: RuleName, outcome: &'static str) {
+        let count = self.count(rule, outcome).saturating_add(1);
+        if self.counts.insert((rule, outcome), count).is_err() {
             self.wants = true;
         }
     }
 
-    fn count(&self, row: ClauseRow) -> u64 {
-        self.counts.get(&row).copied().unwrap_or(0)
+    fn count(&self, rule: RuleName, outcome: &'static str) -> u64 {
+        self.counts.get(&(rule, outcome)).copied().unwrap_or(0)
     }
 
     /// Puts a line for each row, its name and how often it was reached with a tab between, and returns whether none is
     /// at zero.
     pub fn put(&self, page: &mut Page) -> bool {
         let mut all = true;
-        for (directive, modifier, outcomes) in RULES {
+        for (rule, outcomes) in RULES {
             for outcome in *outcomes {
-                all &= self.put_row(page, (directive, modifier, outcome));
+                let count = self.count(*rule, outcome);
+                put_name(page, *rule, outcome);
+                page.text("\t");
+                page.number(count);
+                page.text("\n");
+                all &= 0 < count;
             }
         }
         all
     }
-
-    fn put_row(&self, page: &mut Page, row: ClauseRow) -> bool {
-        let count = self.count(row);
-        put_name(page, row);
-        page.text("\t");
-        page.number(count);
-        page.text("\n");
-        0 < count
-    }
 }
 
-fn put_name(page: &mut Page, row: ClauseRow) {
-    let (directive, modifier, outcome) = row;
+fn put_name(page: &mut Page, rule: RuleName, outcome: &str) {
+    let (directive, clause, modifier) = rule;
     page.text(directive);
-    if !modifier.is_empty() {
-        page.text(" ");
-        page.text(modifier);
+    for word in [clause, modifier] {
+        if !word.is_empty() {
+            page.text(" ");
+            page.text(word);
+        }
     }
     page.text(", ");
     page.text(outcome);

@@ -20,6 +20,9 @@ const DEFAULT_DEVICES: u64 = 1;
 /// The default of `--threads`, of `--jobs` too.
 pub const DEFAULT_THREADS: u64 = 1;
 
+/// The default of `--events`.
+const DEFAULT_EVENTS: u64 = 262_144;
+
 /// The default of `--lines`.
 const DEFAULT_LINES: u64 = 40;
 
@@ -77,6 +80,8 @@ pub struct Options<'a> {
     pub device: Option<u64>,
     /// How many devices there are.
     pub devices: Option<u64>,
+    /// How many events the trace may have.
+    pub events: Option<u64>,
     /// Whether the trace also keeps bytes.
     pub full: Option<bool>,
     /// In how many threads each kernel works at most; of a drill, how many threads it has.
@@ -95,6 +100,7 @@ const OF_LINES: &[Row] = &[
     ("devices", "N", "How many devices there are"),
     ("threads", "N", "Threads of a kernel, or of the drill"),
     ("trace", "WHAT", "What the trace keeps"),
+    ("events", "N", "How many events it may have"),
     ("echo", "", "Write each statement before its output"),
     ("json", "", "Write the report as JSON"),
     ("log", "", "Tell what each call did"),
@@ -133,8 +139,8 @@ const TRACES: &[&str] = &["counts", "full"];
 /// When a script is explained.
 const TIMES: &[&str] = &["auto", "always", "never"];
 
-/// Whether stale bytes are warned of, or make the status 1 too.
-const CHECKS: &[&str] = &["warn", "error"];
+/// Whether stale bytes are warned of, make the status 1 too, or are told with what may be meant.
+const CHECKS: &[&str] = &["warn", "error", "all"];
 
 /// The languages that a script can be emitted in.
 const LANGUAGES: &[&str] = &["c", "fortran"];
@@ -190,6 +196,7 @@ fn option<'a>(alloc: Global, row: Row) -> Arg<'a> {
         "devices" => number(option, 4).default_value("1"),
         "threads" | "jobs" => number(option, 64).default_value("1"),
         "lines" => number(option, 10_000).default_value("40"),
+        "events" => number(option, 16_777_216).default_value("262144"),
         "drill" => number(option, 1_000),
         "random" => option.value_parser(value_parser!(u64)),
         "explain" => optional(option.value_parser(TIMES), "always"),
@@ -295,6 +302,11 @@ impl<'a> Options<'a> {
         }
     }
 
+    /// How many events the trace may have.
+    pub fn event_limit(self) -> u64 {
+        self.events.unwrap_or(DEFAULT_EVENTS)
+    }
+
     /// What is shown beside what the script prints.
     pub fn views(self) -> Views {
         Views {
@@ -318,6 +330,7 @@ impl<'a> Options<'a> {
             host: self.host.or(line.host),
             device: self.device.or(line.device),
             devices: self.devices.or(line.devices),
+            events: self.events.or(line.events),
             full: self.full.or(line.full),
             threads: self.threads.or(line.threads),
             shown: Views {
@@ -326,6 +339,7 @@ impl<'a> Options<'a> {
                 log: self.shown.log || line.shown.log,
                 check: self.shown.check || line.shown.check,
                 check_fails: self.shown.check_fails || line.shown.check_fails,
+                check_all: self.shown.check_all || line.shown.check_all,
                 ..self.shown
             },
             explain: self.explain.or(line.explain),
@@ -484,6 +498,7 @@ fn shown_by(matches: &ArgMatches<'_>) -> Views {
         page: matches.get_str("html").is_some(),
         check: matches.contains_id("check"),
         check_fails: matches.get_str("check") == Some("error"),
+        check_all: matches.get_str("check") == Some("all"),
     }
 }
 
@@ -519,6 +534,7 @@ pub fn options_of<'a>(matches: &'a ArgMatches<'_>, terminals: Terminals) -> Opti
         devices: given(matches, "devices").and_then(bytes_of),
         threads: given(matches, "threads").and_then(bytes_of),
         drill: matches.get_one::<u64>("drill"),
+        events: given(matches, "events").and_then(bytes_of),
         full: given(matches, "trace").map(|what| what == "full"),
     }
 }
@@ -563,10 +579,10 @@ first line of FILE is '# options: ..', it says what the command line leaves
 open. WHEN is always, never, or auto, as without --explain: only where standard
 error is a terminal. With --check a read of bytes that are stale is told behind
 its line, and what is mapped still at the end; with --check=error the status is
-1 then. With --expect the status is 1 where the output differs, and
-0 else, whatever was refused. The pictures of --svg-every have the number of the
-line in their names, as life.000007.svg. In the page of --html arrow keys step
-through the script.
+1 then, and --check=all tells what may be meant too. With --expect the status is
+1 where the output differs, and 0 else, whatever was refused. The pictures of
+--svg-every have the number of the line in their names, as life.000007.svg. In
+the page of --html arrow keys step through the script.
 
 A script of --test has to print what stands in its lines '#> ..', or else in
 NAME.out beside NAME.acc; what standard error gets stands behind the output.

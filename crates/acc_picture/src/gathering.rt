@@ -4,7 +4,7 @@ use crate::births::add_births;
 use crate::places::Addressed;
 use acc_base::{Attachment, HOST_BASE, Section};
 use acc_read::Names;
-use acc_table::{Mapped, Table};
+use acc_table::{Mapped, Place, Table};
 use std::alloc::{AllocError, Global};
 use std::collections::BTreeMap;
 
@@ -84,8 +84,14 @@ pub fn add_parts(
     parts: &mut Vec<Part>,
 ) -> Result<(), AllocError> {
     let mut from = HOST_BASE;
+    let mut near = Place::default();
     for _ in 0..u64::MAX {
-        let Some(part) = part_at(names, from, table.mapped(device, from)) else {
+        let mut next = None;
+        if let Some((mapped, place)) = table.mapped_near(device, from, near) {
+            next = Some(mapped);
+            near = place;
+        }
+        let Some(part) = part_at(names, from, next) else {
             break;
         };
         parts.push(part)?;

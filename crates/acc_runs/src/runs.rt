@@ -20,7 +20,7 @@ use std::thread::Threads;
 /// How many data regions may be open at a time.
 const REGIONS: u64 = 64;
 
-/// How many events there may be.
+/// How many events there may be, unless the trace may have more.
 const TICKETS: u64 = 1_048_576;
 
 /// The greatest value of a counter.
@@ -28,9 +28,6 @@ const COUNTER_MAX: u64 = 4_294_967_295;
 
 /// How many transfers may wait in one queue.
 const QUEUE_CAP: u64 = 256;
-
-/// How many events the trace may have.
-const TRACE_CAP: u64 = 262_144;
 
 /// What a run tells beside its output, for whoever ends it.
 #[derive(Drop)]
@@ -191,14 +188,15 @@ pub fn options_for<'a>(
 /// [`Fault::BadConfig`] where a size is no multiple of 16.
 pub fn limits(options: Options<'_>) -> Result<Config, Fault> {
     let machine = options.machine();
+    let events = options.event_limit();
     let config = Config::new(
         machine.host,
         machine.device,
         REGIONS,
-        TICKETS,
+        events.max(TICKETS),
         COUNTER_MAX,
         QUEUE_CAP,
-        TRACE_CAP,
+        events,
     )?
     .with_devices(machine.devices)?;
     Ok(match options.full {

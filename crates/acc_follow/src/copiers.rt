@@ -11,8 +11,9 @@ use std::alloc::Global;
 /// Copies what a run prints into memory to another sink, behind each line, for a watcher of that sink.
 #[derive(Drop)]
 pub struct Copier<'a, O, X> {
-    alloc: Global,
     views: Views,
+    /// What is copied behind the line that runs.
+    page: Page,
     out: &'a mut O,
     watcher: &'a mut X,
     lines: &'a mut Vec<u64>,
@@ -23,8 +24,8 @@ pub struct Copier<'a, O, X> {
 }
 
 impl<'a, O, X> Copier<'a, O, X> {
-    /// A copier to a sink, for its watcher, with these views. `lines` gets for each line that is copied the number of
-    /// the line that printed it.
+    /// A copier to a sink, for its watcher, with these views. Where they ask for lines, `lines` gets for each line that
+    /// is copied the number of the line that printed it.
     pub fn new(
         alloc: Global,
         views: Views,
@@ -33,8 +34,8 @@ impl<'a, O, X> Copier<'a, O, X> {
         lines: &'a mut Vec<u64>,
     ) -> Copier<'a, O, X> {
         Copier {
-            alloc,
             views,
+            page: Page::new(alloc),
             out,
             watcher,
             lines,
@@ -67,30 +68,24 @@ impl<O: Sink, X: Watcher<O>> Copier<'_, O, X> {
         effect: Effect,
         printed: &[u8],
     ) -> Result<(), Fault> {
-        let mut page = Page::new(self.alloc);
+        self.page.clear();
         if self.views.echo {
-            put_echo(&mut page, statement_text(line));
+            put_echo(&mut self.page, statement_text(line));
         }
         if self.views.json && matches!(effect, Effect::Reported) {
-            put_report(&mut page, table);
+            put_report(&mut self.page, table);
         } else {
-            page.bytes(printed.get(self.copied..).unwrap_or(&[]));
+            self.page.bytes(printed.get(self.copied..).unwrap_or(&[]));
         }
         self.copied = printed.len();
-        self.note(number, page.as_slice())?;
-        if write_all(self.out, page.whole()?) {
+        if self.views.lines {
+            note(self.lines, number, self.page.as_slice())?;
+        }
+        if write_all(self.out, self.page.whole()?) {
             Ok(())
         } else {
             Err(Fault::Write)
         }
-    }
-
-    /// Keeps the number of the line that printed some lines, for each of these.
-    fn note(&mut self, number: u64, printed: &[u8]) -> Result<(), Fault> {
-        for _ in printed.iter().filter(|byte| **byte == b'\n') {
-            self.lines.push(number)?;
-        }
-        Ok(())
     }
 }
 
@@ -120,6 +115,14 @@ impl<O: Sink, X: Watcher<O>> Watcher<MemorySink> for Copier<'_, O, X> {
     fn end(&mut self, number: u64, line: &[u8], session: &Session, ending: Result<Status, Fault>) {
         self.watcher.end(number, line, session, ending);
     }
+}
+
+/// Keeps the number of the line that printed some lines, for each of these.
+fn note(lines: &mut Vec<u64>, number: u64, printed: &[u8]) -> Result<(), Fault> {
+    for _ in printed.iter().filter(|byte| **byte == b'\n') {
+        lines.push(number)?;
+    }
+    Ok(())
 }
 
 fn put_echo(page: &mut Page, text: &[u8]) {

@@ -41,9 +41,18 @@ pub struct Views {
     pub check: bool,
     /// Whether such a finding makes the status that of a refused line.
     pub check_fails: bool,
+    /// Whether a check also tells what may be meant.
+    pub check_all: bool,
 }
 
 impl Views {
+    /// Whether any of it is shown.
+    fn show_any(self) -> bool {
+        let lines = self.echo || self.json || self.lines;
+        let pictures = self.picture || self.pictures || self.page;
+        lines || pictures || self.log || self.explain || self.check
+    }
+
     /// Whether any of it names arrays.
     fn name_arrays(self) -> bool {
         self.log || self.check || self.picture || self.pictures || self.explain_faults()
@@ -98,19 +107,23 @@ pub fn follow<R: Threads + Wait + Sync + AllocGlobal, S: Source, O: Sink, E: Sin
 ) -> Result<Status, Stop>
     requires { (1 ≤ setting.parts) × (setting.parts ≤ 64) }
 {
+    let (config, parts) = (setting.config, setting.parts);
+    if !setting.views.show_any() {
+        beside.lines.clear();
+        let mut watcher = FaultWatcher {
+            alloc: rt.alloc(),
+            column: *beside.column,
+        };
+        let ending = run(rt, reader, out, config, parts, &mut watcher);
+        *beside.column = watcher.column;
+        return Ok(ending?);
+    }
     let mut follower = Follower::new(rt.alloc(), setting.views, beside);
     let mut lines = Vec::new(rt.alloc());
     let ending = if setting.views.echo || setting.views.json || setting.views.lines {
         run_copied(rt, setting, reader, out, &mut lines, &mut follower)
     } else {
-        run(
-            rt,
-            reader,
-            out,
-            setting.config,
-            setting.parts,
-            &mut follower,
-        )
+        run(rt, reader, out, config, parts, &mut follower)
     };
     *follower.lines = lines;
     follower.ended(out, ending)
@@ -138,6 +151,22 @@ fn run_copied<R: Threads + Wait + Sync + AllocGlobal, S: Source, O: Sink, X: Wat
         &mut copier,
     );
     copier.ended(ending)
+}
+
+/// Sees where a line is at fault. No line meets it before.
+#[derive(Drop)]
+struct FaultWatcher {
+    alloc: Global,
+    /// As in [`Beside`].
+    column: u64,
+}
+
+impl<O: Sink> Watcher<O> for FaultWatcher {
+    fn end(&mut self, _number: u64, line: &[u8], session: &Session, ending: Result<Status, Fault>) {
+        if let Err(Fault::Script { kind, .. }) = ending {
+            self.column = fault_column(self.alloc, &session.arrays, line, kind);
+        }
+    }
 }
 
 /// Watches a run, and shows more of it.
@@ -310,7 +339,8 @@ impl<E: Sink, G: PictureSink> Follower<'_, E, G> {
     /// Lets the check see a statement before it runs. It begins with the first one.
     fn check_before(&mut self, statement: &Statement<'_>, session: &Session) -> Result<(), Fault> {
         if self.views.check && self.check.is_none() {
-            self.check = Some(Check::new(self.alloc, session.table.config())?);
+            let config = session.table.config();
+            self.check = Some(Check::new(self.alloc, config, self.views.check_all)?);
         }
         match &mut self.check {
             Some(check) => check.before(statement, &session.table),

@@ -1,9 +1,11 @@
 //! The report as an object of JSON, on one line.
 
+ghost use Rattle.std.specs.Prelude.{◌≡◌, ◌≤◌, [], length};
+
 use acc_base::{Ended, QUEUE_COUNT, Section};
 use acc_read::Page;
-use acc_table::{Mapped, Table};
-use std::fmt::Write;
+use acc_script::Line;
+use acc_table::{Mapped, Place, Table};
 
 /// Puts the report of a table as one JSON object on one line: what the report's lines say, in their order. Addresses
 /// are decimal numbers.
@@ -31,7 +33,7 @@ fn put_devices(page: &mut Page, table: &Table) {
 }
 
 fn put_device(page: &mut Page, table: &Table, device: u64) {
-    put_used(page, table.used(device));
+    put_field(page, "\"used\":", table.used(device));
     page.text(",\"ranges\":[");
     put_ranges(page, table, device);
     page.text("],\"ended\":[");
@@ -48,62 +50,73 @@ fn put_comma(page: &mut Page, is_first: bool) {
 }
 
 fn put_sizes(page: &mut Page, host: u64, device: u64) {
-    let _ = write!(page, "{{\"host\":{host},\"device\":{device}");
-}
-
-fn put_used(page: &mut Page, used: u64) {
-    let _ = write!(page, "\"used\":{used}");
+    put_field(page, "{\"host\":", host);
+    put_field(page, ",\"device\":", device);
 }
 
 fn put_totals(page: &mut Page, regions: u64, events: u64) {
-    let _ = write!(page, ",\"regions\":{regions},\"events\":{events}}}\n");
+    put_field(page, ",\"regions\":", regions);
+    put_field(page, ",\"events\":", events);
+    page.text("}\n");
+}
+
+/// Puts what stands before a number, with its name, and the number.
+fn put_field(page: &mut Page, name: &str, number: u64) {
+    page.text(name);
+    page.number(number);
 }
 
 /// The mapped ranges by rising start, each with the attached pointers in it.
 fn put_ranges(page: &mut Page, table: &Table, device: u64) {
     let mut from = 0;
+    let mut near = Place::default();
     for nth in 0..u64::MAX {
-        let Some(mapped) = table.mapped(device, from) else {
+        let Some((mapped, place)) = table.mapped_near(device, from, near) else {
             return;
         };
-        put_comma(page, nth == 0);
-        put_range(page, table, device, mapped);
+        put_range(page, table, device, mapped, nth == 0);
         from = mapped.start.saturating_add(1);
+        near = place;
     }
 }
 
-fn put_range(page: &mut Page, table: &Table, device: u64, mapped: Mapped) {
-    put_mapping(page, mapped);
-    put_counters(page, mapped);
-    page.text(",\"pointers\":[");
+fn put_range(page: &mut Page, table: &Table, device: u64, mapped: Mapped, is_first: bool) {
+    put_mapped(page, mapped, is_first);
     put_pointers(page, table, device, mapped);
     page.text("]}");
 }
 
-fn put_mapping(page: &mut Page, mapped: Mapped) {
-    let Mapped {
-        start,
-        len,
-        place,
-        ..
-    } = mapped;
-    let _ = write!(
-        page,
-        "{{\"start\":{start},\"length\":{len},\"place\":{place}"
-    );
+/// Puts a mapped range up to its pointers, in one piece that is put together from its end.
+fn put_mapped(page: &mut Page, mapped: Mapped, is_first: bool) {
+    let mut line = Line::new();
+    put_lent(&mut line, mapped.lent);
+    line.put_number(mapped.dynamic);
+    line.put(b",\"dynamic\":");
+    line.put_number(mapped.structured);
+    line.put(b",\"structured\":");
+    line.put_number(mapped.place);
+    line.put(b",\"place\":");
+    line.put_number(mapped.len);
+    line.put(b",\"length\":");
+    line.put_number(mapped.start);
+    line.put(b"{\"start\":");
+    if !is_first {
+        line.put(b",");
+    }
+    page.bytes(line.as_slice());
 }
 
-fn put_counters(page: &mut Page, mapped: Mapped) {
-    let Mapped {
-        structured,
-        dynamic,
-        lent,
-        ..
-    } = mapped;
-    let _ = write!(
-        page,
-        ",\"structured\":{structured},\"dynamic\":{dynamic},\"lent\":{lent}"
-    );
+/// Puts whether the block of a range is lent, and where its pointers begin.
+#[inline(always)]
+fn put_lent(line: &mut Line, is_lent: bool)
+    requires none { line.old ≡ [] }
+    ensures length { length line.new ≤ 26 }
+{
+    if is_lent {
+        line.put(b",\"lent\":true,\"pointers\":[");
+    } else {
+        line.put(b",\"lent\":false,\"pointers\":[");
+    }
 }
 
 /// The attached pointers of a mapped range, by rising address.
@@ -122,7 +135,9 @@ fn put_pointers(page: &mut Page, table: &Table, device: u64, mapped: Mapped) {
 }
 
 fn put_pointer(page: &mut Page, address: u64, count: u64) {
-    let _ = write!(page, "{{\"address\":{address},\"count\":{count}}}");
+    put_field(page, "{\"address\":", address);
+    put_field(page, ",\"count\":", count);
+    page.text("}");
 }
 
 /// The blocks whose mapping has ended, by rising place.
@@ -139,11 +154,10 @@ fn put_all_ended(page: &mut Page, table: &Table, device: u64) {
 }
 
 fn put_ended(page: &mut Page, ended: Ended) {
-    let Ended { place, size, pins } = ended;
-    let _ = write!(
-        page,
-        "{{\"place\":{place},\"size\":{size},\"pins\":{pins}}}"
-    );
+    put_field(page, "{\"place\":", ended.place);
+    put_field(page, ",\"size\":", ended.size);
+    put_field(page, ",\"pins\":", ended.pins);
+    page.text("}");
 }
 
 /// The queues that are not empty, by rising number.
@@ -160,5 +174,7 @@ fn put_queues(page: &mut Page, table: &Table, device: u64) {
 }
 
 fn put_queue(page: &mut Page, queue: u64, length: u64) {
-    let _ = write!(page, "{{\"queue\":{queue},\"length\":{length}}}");
+    put_field(page, "{\"queue\":", queue);
+    put_field(page, ",\"length\":", length);
+    page.text("}");
 }

@@ -1,5 +1,5 @@
 -- A keyword stands next where its bytes do, and no other byte of a word behind them.
-use Rattle.std.proofs.Common.{◌≡◌, ℕ, suc, ◌+◌, ◌<◌, Bool, true, false, cond, not, ◌&&◌, List, [], ◌∷◌, length, take, drop, Ok, Err, refl, sym, ap, true≢false, Result, ◌∙◌, arith, nat_eq}
+use Rattle.std.proofs.Common.{◌≡◌, ℕ, suc, ◌+◌, ◌<◌, Bool, true, false, cond, not, ◌&&◌, List, [], ◌∷◌, length, take, take_all, drop, Ok, Err, refl, sym, ap, true≢false, Result, ◌∙◌, arith, nat_eq}
 use Rattle.std.specs.Prelude.{◌==◌}
 use Rattle.std.specs.List.{list_all}
 use Rattle.std.specs.Str.{bytes_eq}
@@ -8,6 +8,17 @@ use Rattle.acc_base.specs.declared.faults.ScriptFault.{ScriptFault}
 use Rattle.acc_base.specs.declared.faults.ScriptFault.TheVariants.{Syntax}
 use Rattle.acc_read.specs.Reading.{◌>>=◌}
 use Rattle.acc_read.specs.Tokens.{is_word_byte, word_len, skip_blanks, is_keyword, keyword_at, word_at}
+
+-- texts of one length are the same where one begins with the other
+pub same_text : (word text : List ℕ) → length word ≡ length text → bytes_eq (take (length text) word) text ≡ true → true ≡ bytes_eq word text
+same_text word text long same = sym same ∙ ap (λ w. bytes_eq w text) (take_all (length text) word (omega (arith, long)))
+
+-- and are not where it begins otherwise
+pub other_text : (word text : List ℕ) → length word ≡ length text → bytes_eq (take (length text) word) text ≡ false → false ≡ bytes_eq word text
+other_text word text long other = sym other ∙ ap (λ w. bytes_eq w text) (take_all (length text) word (omega (arith, long)))
+
+-- what is known of texts of one length
+pub ruleset text_laws = (same_text, other_text)
 
 -- no byte is a word where none of a word stands first
 no_word : (w : Bool) (n b : ℕ) (text : List ℕ) → bytes_eq (take (cond w (1 + n) 0) (b ∷ text)) [] ≡ (cond w (1 + n) 0 == 0)

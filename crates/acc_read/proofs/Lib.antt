@@ -8,3 +8,4 @@ pub mod NameEntries
 pub mod ByteRuns
 pub mod PlainLines
 pub mod Keywords
+pub mod WordFronts

@@ -1,5 +1,5 @@
 -- Numbers up to a limit.
-use Rattle.std.proofs.Common.{◌≡◌, ◌≢◌, ℕ, suc, ◌+◌, ◌<◌, ◌≤◌, Bool, true, false, cond, not, List, [], ◌∷◌, take, drop, min, Result, refl, ap, ◌∙◌, arith, Ok, Err}
+use Rattle.std.proofs.Common.{◌≡◌, ◌≢◌, ℕ, ◌+◌, ◌<◌, ◌≤◌, Bool, true, false, cond, not, List, take, drop, min, Result, refl, ap, ◌∙◌, arith, Ok, Err}
 use Rattle.std.specs.Prelude.{◌==◌}
 use Rattle.std.specs.List.{list_all, prefix_len}
 use Rattle.std.specs.Char.{is_ascii_digit}
@@ -8,6 +8,7 @@ use Rattle.acc_base.specs.declared.faults.ScriptFault.{ScriptFault}
 use Rattle.acc_base.specs.declared.faults.ScriptFault.TheVariants.{Syntax, Number}
 use Rattle.acc_read.specs.Reading.{◌>>=◌}
 use Rattle.acc_read.specs.Tokens.{is_word_byte, word_len, word_at, skip_blanks, number_said, number_at, value_of}
+use Rattle.acc_read.proofs.WordFronts.{all_of_word, part_of_word, front_passes}
 
 -- how many digits stand at the front
 abbrev digits_len : List ℕ → ℕ
@@ -16,45 +17,6 @@ digits_len text = prefix_len is_ascii_digit text
 -- a digit is a byte of a word
 digit_in_word : (b : ℕ) → is_ascii_digit b ≡ true → is_word_byte b ≡ true
 digit_in_word b digit = rw digit cc
-
--- digits with no word behind them are a word
-all_of_word : (text : List ℕ) → word_len (drop (digits_len text) text) ≡ 0 → word_len text ≡ digits_len text
-all_of_word [] behind = refl
-all_of_word (b ∷ text) behind =
-    elim (is_ascii_digit b) as (λ d. is_ascii_digit b ≡ d → word_len (drop (cond d (1 + digits_len text) 0) (b ∷ text)) ≡ 0 → word_len (b ∷ text) ≡ cond d (1 + digits_len text) 0) [
-      | true ↦ λ digit none.
-          let e : 1 + digits_len text ≡ suc (digits_len text) = omega arith in
-          let left : word_len (drop (suc (digits_len text)) (b ∷ text)) ≡ 0 = ap (λ n. word_len (drop n (b ∷ text))) (let back : suc (digits_len text) ≡ 1 + digits_len text = omega arith in back) ∙ none in
-          let rest = all_of_word text left in
-          ap (λ w. cond w (1 + word_len text) 0) (digit_in_word b digit) ∙ omega (arith, rest)
-      | false ↦ λ digit none. none
-    ] refl behind
-
--- digits with a word behind them are none
-part_of_word : (text : List ℕ) → word_len (drop (digits_len text) text) ≢ 0 → list_all is_ascii_digit (take (word_len text) text) ≡ false
-part_of_word [] more = absurd (more refl)
-part_of_word (b ∷ text) more =
-    elim (is_ascii_digit b) as (λ d. is_ascii_digit b ≡ d → word_len (drop (cond d (1 + digits_len text) 0) (b ∷ text)) ≢ 0 → list_all is_ascii_digit (take (word_len (b ∷ text)) (b ∷ text)) ≡ false) [
-      | true ↦ λ digit some.
-          let e : 1 + digits_len text ≡ suc (digits_len text) = omega arith in
-          let n : word_len (b ∷ text) ≡ suc (word_len text) = ap (λ w. cond w (1 + word_len text) 0) (digit_in_word b digit) ∙ omega arith in
-          rw (n, digit) (part_of_word text (λ none. some (ap (λ n. word_len (drop n (b ∷ text))) e ∙ none)))
-      | false ↦ λ digit some. by (is_word_byte b) digit some
-    ] refl more
-  where
-    by : (w : Bool) → is_ascii_digit b ≡ false → cond w (1 + word_len text) 0 ≢ 0 → list_all is_ascii_digit (take (cond w (1 + word_len text) 0) (b ∷ text)) ≡ false
-    by true digit some = let e : 1 + word_len text ≡ suc (word_len text) = omega arith in rw (e, digit) refl
-    by false digit some = absurd (some refl)
-
--- a front of digits has digits alone
-front_digits : (text : List ℕ) → list_all is_ascii_digit (take (digits_len text) text) ≡ true
-front_digits [] = refl
-front_digits (b ∷ text) = by (is_ascii_digit b) (front_digits text) refl
-  where
-    by : (d : Bool) → list_all is_ascii_digit (take (digits_len text) text) ≡ true → is_ascii_digit b ≡ d
-        → list_all is_ascii_digit (take (cond d (1 + digits_len text) 0) (b ∷ text)) ≡ true
-    by true rest digit = let e : 1 + digits_len text ≡ suc (digits_len text) = omega arith in rw (e, digit) rest
-    by false rest digit = refl
 
 -- a word that has other bytes than digits, or none, is at fault
 not_digits : (limit : ℕ) (text : List ℕ) → (word_len (skip_blanks text) ≢ 0 → list_all is_ascii_digit (take (word_len (skip_blanks text)) (skip_blanks text)) ≡ false)
@@ -73,30 +35,30 @@ not_digits limit text other = by (word_len (skip_blanks text) == 0) refl
 pub lacks_digits : (limit : ℕ) (text : List ℕ) → digits_len (skip_blanks text) ≡ 0 → number_at limit text ≡ Err Syntax
 lacks_digits limit text none =
     let zero : 0 ≡ digits_len (skip_blanks text) = omega (arith, none) in
-    not_digits limit text (λ some. part_of_word (skip_blanks text) (λ behind. some (ap (λ n. word_len (drop n (skip_blanks text))) zero ∙ behind)))
+    not_digits limit text (λ some. part_of_word is_ascii_digit digit_in_word (skip_blanks text) (λ behind. some (ap (λ n. word_len (drop n (skip_blanks text))) zero ∙ behind)))
 
 -- a word goes on behind digits
 pub digits_go_on : (limit : ℕ) (text : List ℕ) → not (word_len (drop (digits_len (skip_blanks text)) (skip_blanks text)) == 0) ≡ true
     → number_at limit text ≡ Err Syntax
-digits_go_on limit text more = not_digits limit text (λ some. part_of_word (skip_blanks text) (λ none. absurd cc))
+digits_go_on limit text more = not_digits limit text (λ some. part_of_word is_ascii_digit digit_in_word (skip_blanks text) (λ none. absurd cc))
 
 module _ (limit value : ℕ) (text : List ℕ) (some : digits_len (skip_blanks text) ≢ 0)
     (behind : not (word_len (drop (digits_len (skip_blanks text)) (skip_blanks text)) == 0) ≡ false)
     (said : value ≡ min (value_of (take (digits_len (skip_blanks text)) (skip_blanks text))) (limit + 1)) where
   whole : word_len (skip_blanks text) ≡ digits_len (skip_blanks text)
-  whole = all_of_word (skip_blanks text) (eqb-true _ 0 (not-false _ behind))
+  whole = all_of_word is_ascii_digit digit_in_word (skip_blanks text) (eqb-true _ 0 (not-false _ behind))
 
   -- digits above the limit are at fault
   pub is_above : limit < value → number_at limit text ≡ Err Number
   unfolding number_at word_at number_said
-  is_above above = rw (whole, ne_eqb (digits_len (skip_blanks text)) 0 some, front_digits (skip_blanks text), lt-leb (value_of (take (digits_len (skip_blanks text)) (skip_blanks text))) limit (omega arith)) refl
+  is_above above = rw (whole, ne_eqb (digits_len (skip_blanks text)) 0 some, front_passes is_ascii_digit (skip_blanks text), lt-leb (value_of (take (digits_len (skip_blanks text)) (skip_blanks text))) limit (omega arith)) refl
 
   -- digits up to the limit are their number
   pub is_number : value ≤ limit → number_at limit text ≡ Ok (value, drop (digits_len (skip_blanks text)) (skip_blanks text))
   unfolding number_at word_at number_said
   is_number below =
       let same : value ≡ value_of (take (digits_len (skip_blanks text)) (skip_blanks text)) = omega arith in
-      rw (whole, ne_eqb (digits_len (skip_blanks text)) 0 some, front_digits (skip_blanks text), le-leb (value_of (take (digits_len (skip_blanks text)) (skip_blanks text))) limit (omega arith), same) refl
+      rw (whole, ne_eqb (digits_len (skip_blanks text)) 0 some, front_passes is_ascii_digit (skip_blanks text), le-leb (value_of (take (digits_len (skip_blanks text)) (skip_blanks text))) limit (omega arith), same) refl
 
 -- what digits say
 pub ruleset number_laws = (lacks_digits, digits_go_on, is_above, is_number)

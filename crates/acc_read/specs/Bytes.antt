@@ -6,6 +6,8 @@ use Rattle.hex.specs.declared.error.FromHexError.{FromHexError}
 use Rattle.hex.specs.Hex.{decode_of}
 use Rattle.acc_base.specs.declared.faults.ScriptFault.{ScriptFault}
 use Rattle.acc_base.specs.declared.faults.ScriptFault.TheVariants.{Syntax, Number}
+use Rattle.acc_read.specs.Reading.{◌>>=◌}
+use Rattle.acc_read.specs.Tokens.{word_at}
 
 -- how many digits may stand in one word
 abbrev pub digit_limit : ℕ
@@ -21,3 +23,7 @@ unfoldable pub bytes_said : List ℕ → Result (List ℕ) ScriptFault
 bytes_said word = if not (list_all is_ascii_hexdigit word) then Err Syntax
     else if nat_lt digit_limit (length word) then Err Number
     else decoded (decode_of word)
+
+-- the bytes that the next word says
+abbrev pub next_said : List ℕ → Result (List ℕ) ScriptFault
+next_said text = word_at text >>= (λ word. bytes_said word.0)

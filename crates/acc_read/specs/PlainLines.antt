@@ -3,16 +3,11 @@ use Rattle.std.specs.Prelude.{ℕ, Bool, not, ◌&&◌, List, Result, Ok, Err, �
 use Rattle.std.specs.List.{list_all}
 use Rattle.acc_base.specs.declared.faults.ScriptFault.{ScriptFault}
 use Rattle.acc_base.specs.declared.faults.ScriptFault.TheVariants.{NotText}
-use Rattle.acc_read.specs.Lines.{line_feed}
 use Rattle.acc_read.specs.Statements.{is_text_byte, hash, before_comment}
 
 -- a byte that is text and begins no comment
 abbrev pub is_plain_byte : ℕ → Bool
 is_plain_byte b = is_text_byte b && not (b == hash)
-
--- a byte that ends no line
-abbrev pub is_line_byte : ℕ → Bool
-is_line_byte b = not (b == line_feed)
 
 -- what stands before a comment, which has to be text
 abbrev pub text_of : List ℕ → Result (List ℕ) ScriptFault

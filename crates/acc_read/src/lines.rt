@@ -3,9 +3,8 @@
 ghost use Rattle.std.specs.Prelude.{◌≡◌, ◌<◌, ◌≤◌, ◌∷◌, ◌==◌, not, length};
 ghost use Rattle.std.specs.List.{prefix_len};
 ghost use Rattle.acc_read.specs.Lines.{without_return, lines_of, line_feed};
-ghost use Rattle.acc_read.specs.PlainLines.{is_line_byte};
 
-use crate::runs::{ByteTest, passing_len};
+use memchr::memchr;
 
 /// The first line of an input that is not empty, and the input after it.
 #[tactic(auto, using(crate::proofs::Pieces::first_line))]
@@ -24,17 +23,9 @@ fn piece_len(input: &[u8]) -> usize
     ensures count { result ≡ prefix_len (λ b. not (b == line_feed)) input.now }
     ensures bound { result ≤ length input.now }
 {
-    passing_len::<LineByte>(input)
-}
-
-/// A byte that ends no line.
-struct LineByte;
-
-impl ByteTest for LineByte {
-    ghost test = { is_line_byte };
-
-    fn passes(byte: u8) -> bool {
-        byte != b'\n'
+    match memchr(b'\n', input) {
+        Some(place) => place,
+        None => input.len(),
     }
 }
 

@@ -34,12 +34,18 @@ impl Page {
 
     /// Adds a number in decimal digits.
     pub fn number(&mut self, number: u64) {
-        let _ = write!(self, "{number}");
+        let mut digits = [0u8; 20];
+        let at = itoa::write_digits(number, &mut digits, 20);
+        self.bytes(&digits[at..]);
     }
 
     /// Adds an address: `0x` and hexadecimal digits in lower case.
     pub fn address(&mut self, address: u64) {
-        let _ = write!(self, "0x{address:x}");
+        let mut digits = [0u8; 16];
+        let _ = hex::encode_to_slice(address.to_be_bytes(), &mut digits);
+        let zeros = address.leading_zeros() as usize / 4;
+        self.text("0x");
+        self.bytes(&digits[zeros.min(15)..]);
     }
 
     /// Adds a fault as its `Display` does: its number, its name, and each field with its value.
@@ -55,7 +61,9 @@ impl Page {
     /// Adds each of some bytes as two hexadecimal digits in lower case.
     pub fn digits(&mut self, bytes: &[u8]) {
         for byte in bytes {
-            let _ = write!(self, "{byte:02x}");
+            let mut digits = [0u8; 2];
+            let _ = hex::encode_to_slice([*byte], &mut digits);
+            self.bytes(&digits);
         }
     }
 

@@ -5,10 +5,10 @@ ghost use Rattle.std.specs.List.{list_all, prefix_len};
 ghost use Rattle.std.specs.Char.{is_ascii_digit, is_ascii_hexdigit};
 ghost use Rattle.std.specs.Str.{bytes_eq};
 ghost use Rattle.acc_read.specs.Tokens.{is_blank, is_word_byte, word_len, skip_blanks, is_at_end, word_at, keyword_at, is_word_next, is_mark_next, mark_at, skip_comma, is_word_before, is_keyword, number_at, is_name_byte, begins_lower, is_name, value_of, name_at};
-ghost use Rattle.acc_read.specs.Bytes.{bytes_said};
+ghost use Rattle.acc_read.specs.Bytes.{bytes_said, next_said};
 ghost use Rattle.hex.specs.Hex.{decode_of, hex_digit_value};
 
-use crate::runs::{ByteTest, all_pass, passing_len};
+use crate::runs::{ByteTest, passing_len};
 use acc_base::{List, ScriptFault};
 use std::alloc::{AllocError, Global};
 
@@ -38,6 +38,7 @@ pub fn is_word_byte(b: u8) -> bool
 }
 
 /// How many blanks stand at the front.
+#[inline(never)]
 fn blanks_len(text: &[u8]) -> usize
     ensures count { result ≡ prefix_len is_blank text.now }
     ensures bound { result ≤ length text.now }
@@ -53,12 +54,19 @@ fn word_len(text: &[u8]) -> usize
     text.iter().take_while(|b| is_word_byte(**b)).count()
 }
 
-/// The text from its first token on.
+/// The text from its first token on. A token mostly stands first, or behind one blank.
+#[inline(always)]
 fn skip_blanks(text: &[u8]) -> &[u8]
     ensures { result.now ≡ skip_blanks text.now }
 {
-    let (_, rest) = text.split_at(blanks_len(text));
-    rest
+    match text {
+        [first, ..] if *first > b' ' => text,
+        [b' ', second, ..] if *second > b' ' => &text[1..],
+        _ => {
+            let (_, rest) = text.split_at(blanks_len(text));
+            rest
+        }
+    }
 }
 
 /// The text holds no other token.
@@ -69,10 +77,13 @@ pub fn is_at_end(text: &[u8]) -> bool
 }
 
 /// The word is this text.
+#[inline(always)]
+#[tactic(auto, using(crate::proofs::Keywords::text_laws))]
 pub fn is_text(word: &[u8], text: &str) -> bool
     ensures { result ≡ bytes_eq word.now text.now }
 {
-    word == text.as_bytes()
+    // A prefix of a constant length is compared without a call.
+    word.len() == text.len() && matches!(word.strip_prefix(text.as_bytes()), Some(_))
 }
 
 /// The next word, which has letters, digits and `_`, and the text after it.
@@ -83,34 +94,6 @@ pub fn word_at(text: &[u8]) -> Result<(&[u8], &[u8]), ScriptFault>
 {
     let token = skip_blanks(text);
     let len = word_len(token);
-    if len == 0 {
-        return Err(ScriptFault::Syntax);
-    }
-    Ok(token.split_at(len))
-}
-
-/// A byte of a word.
-struct WordByte;
-
-impl ByteTest for WordByte {
-    ghost test = { is_word_byte };
-
-    fn passes(byte: u8) -> bool {
-        ((b'0' <= byte) & (byte <= b'9'))
-            | ((b'A' <= byte) & (byte <= b'Z'))
-            | ((b'a' <= byte) & (byte <= b'z'))
-            | (byte == b'_')
-    }
-}
-
-/// The next word and the text after it, as [`word_at`] gives them. It is made for a word of tens of bytes.
-#[tactic(auto, unfolding(crate::specs::Tokens::word_at))]
-pub fn long_word_at(text: &[u8]) -> Result<(&[u8], &[u8]), ScriptFault>
-    ensures { let read = word_at text.now in
-        MatchResult result (λ x. read ≡ Ok (x.0.now, x.1.now)) (λ fault. read ≡ Err fault) }
-{
-    let token = skip_blanks(text);
-    let len = passing_len::<WordByte>(token);
     if len == 0 {
         return Err(ScriptFault::Syntax);
     }
@@ -287,35 +270,29 @@ impl ByteTest for HexDigit {
     }
 }
 
-/// The word has hexadecimal digits alone, of either case.
-fn has_hex_digits(word: &[u8]) -> bool
-    ensures { result ≡ list_all is_ascii_hexdigit word.now }
-{
-    all_pass::<HexDigit>(word)
-}
-
-/// Checks that a word says bytes: pairs of hexadecimal digits, of either case.
-///
-/// # Errors
-///
-/// The fault of a word that does not.
+/// The next word, which has to say bytes, and the text after it. It has pairs of hexadecimal digits, of either case.
 #[tactic(auto, using(crate::proofs::ByteWords::word_laws))]
-pub fn check_bytes(word: &[u8]) -> Result<(), ScriptFault>
-    ensures { MatchResult result (λ _. IsOk (bytes_said word.now)) (λ fault. bytes_said word.now ≡ Err fault) }
+pub fn byte_word_at(text: &[u8]) -> Result<(&[u8], &[u8]), ScriptFault>
+    ensures { MatchResult result
+        (λ x. (word_at text.now ≡ Ok (x.0.now, x.1.now)) × IsOk (bytes_said x.0.now))
+        (λ fault. next_said text.now ≡ Err fault) }
 {
-    if !has_hex_digits(word) {
+    let token = skip_blanks(text);
+    let len = passing_len::<HexDigit>(token);
+    let (word, rest) = token.split_at(len);
+    if begins_word(rest) || len == 0 {
         return Err(ScriptFault::Syntax);
     }
-    if word.len() > DIGIT_LIMIT {
+    if len > DIGIT_LIMIT {
         return Err(ScriptFault::Number);
     }
-    if word.len() % 2 == 1 {
+    if len % 2 == 1 {
         return Err(ScriptFault::Number);
     }
-    Ok(())
+    Ok((word, rest))
 }
 
-/// The bytes that a word says, two digits each. It has to be checked by [`check_bytes`].
+/// The bytes that a word says, two digits each. [`byte_word_at`] gives such words.
 ///
 /// # Errors
 ///

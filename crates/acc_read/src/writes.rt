@@ -8,7 +8,7 @@ ghost use Rattle.acc_read.specs.Meanings.{meaning_of};
 use crate::arrays::Arrays;
 use crate::places::{address_at, last_address_at};
 use crate::statements::Statement;
-use crate::tokens::{bytes_said, check_bytes, is_at_end, keyword_at, long_word_at};
+use crate::tokens::{byte_word_at, bytes_said, is_at_end, keyword_at};
 use crate::troubles::Trouble;
 use acc_base::{List, ScriptFault};
 use std::alloc::Global;
@@ -21,8 +21,7 @@ pub fn write_at(alloc: Global, arrays: &Arrays, text: &[u8]) -> Result<Statement
         (λ trouble. MatchTrouble trouble (IsOkAnd read (λ meaning. IsTrue (takes_memory meaning))) (λ fault. read ≡ Err fault)) }
 {
     let (addr, rest) = address_at(arrays, text)?;
-    let (word, rest) = long_word_at(rest)?;
-    check_bytes(word)?;
+    let (word, rest) = byte_word_at(rest)?;
     if !is_at_end(rest) {
         return Err(Trouble::Line(ScriptFault::Syntax));
     }

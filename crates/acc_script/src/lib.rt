@@ -16,6 +16,7 @@ pub use ends::streams::{FromRead, ToWrite};
 pub use ends::whole::{read_all, write_all};
 pub use ends::{Sink, Source};
 pub use print::effects::{Effect, write_effect};
+pub use print::lines::Line;
 pub use print::reports::report;
 pub use runs::{Status, run, run_line};
 pub use sessions::Session;

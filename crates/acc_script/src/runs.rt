@@ -6,11 +6,10 @@ ghost use Rattle.acc_script.specs.Scripts.{transcript, transcript_from, status_o
 ghost use Rattle.acc_script.specs.Runs.{LineRuns, LinesPlayed, Played, Ran};
 ghost use Rattle.acc_script.specs.Sessions.{session_state};
 
-use crate::ends::whole::read_all;
 use crate::print::effects::write_effect;
 use crate::sessions::Session;
 use crate::watchers::Watcher;
-use crate::{Sink, Source};
+use crate::{Sink, Source, read_all};
 use acc_base::{Config, Fault, ScriptFault};
 use acc_read::{Trouble, line_at, next_line};
 use std::sync::Wait;

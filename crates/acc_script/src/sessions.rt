@@ -57,6 +57,7 @@ impl Session {
     ///
     /// [`Fault::Memory`] alone, for a statement that declares an array, or whose call makes an event. Nothing changed
     /// then, but a kernel's block stays lent where there is no memory to bring it back.
+    #[inline(always)]
     pub fn perform<R: Threads + Wait + Sync + AllocGlobal>(
         &mut self,
         rt: &R,
@@ -112,6 +113,7 @@ impl Session {
     }
 
     /// Makes a call on the table. It drops a lease that the table replies, or that comes back with a refused call.
+    #[inline(always)]
     #[tactic(auto, using(crate::proofs::Refused::refused_call))]
     fn call(&mut self, call: Call) -> Result<Effect, Fault>
         ensures { CallsFor (session_state self.old) call (session_state self.new) result }

@@ -4,7 +4,7 @@
 mod answers;
 mod blocks;
 pub mod effects;
-mod lines;
+pub mod lines;
 mod pointers;
 mod queues;
 mod ranges;

@@ -1,6 +1,7 @@
 //! What the events of a table say of its blocks, pointers, queues and regions, as far as the marks have to be told it.
 
-use acc_base::{Attachment, Transfer};
+use crate::histories::has_address;
+use acc_base::{Attachment, Section, Transfer};
 use acc_stale::Placed;
 use std::alloc::{AllocError, Global};
 use std::collections::BTreeMap;
@@ -10,6 +11,8 @@ use std::collections::BTreeMap;
 pub struct Held {
     /// Where it lies.
     pub placed: Placed,
+    /// The section that was mapped to it.
+    pub section: Section,
     /// The number of the line.
     pub line: u64,
 }
@@ -120,7 +123,7 @@ impl Account {
     /// The queue in which a transfer waits that copies an address, to host memory or to a device.
     pub fn queue_with(&self, address: u64, out: bool) -> Option<u64> {
         let waiting = self.waiting.iter().find(|w| w.transfer.out == out
-            && has_address(w.transfer, address))?;
+            && has_address(w.transfer.section, address))?;
         Some(waiting.queue)
     }
 
@@ -134,9 +137,4 @@ impl Account {
     pub fn close(&mut self) -> Option<usize> {
         self.regions.pop()
     }
-}
-
-/// Whether an address is one that a transfer copies.
-fn has_address(t: Transfer, address: u64) -> bool {
-    t.section.start <= address && address - t.section.start < t.section.len
 }

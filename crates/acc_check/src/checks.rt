@@ -1,8 +1,9 @@
 //! The check of a script: what its lines read is told where it is stale.
 
 use crate::accounts::{Account, Held};
-use crate::findings::{Finding, Kind, Note, put_finding, put_leak};
-use acc_base::{Config, Fault, Found, Section};
+use crate::findings::{Finding, Kind, Note, put_drop, put_finding, put_leak, put_needless};
+use crate::histories::{Cause, History, has_address};
+use acc_base::{Config, Directive, Fault, Found, Item, Section, Transfer, UpdateClause};
 use acc_read::{Names, Page, ScriptKernel, Statement};
 use acc_stale::{Known, Mark, Placed, Run};
 use acc_table::Table;
@@ -25,6 +26,13 @@ pub struct Check {
     pub(crate) alloc: Global,
     pub(crate) known: Known,
     pub(crate) account: Account,
+    pub(crate) history: History,
+    /// Whether that is told too which may be meant.
+    tells_all: bool,
+    /// Mappings that ended while the device had newer bytes, which nobody read so far.
+    drops: Vec<Held>,
+    /// What updates copied that was equal already.
+    needless: Needless,
     /// The number of the line that ran.
     pub(crate) line: u64,
     /// The kernel of that line.
@@ -35,6 +43,15 @@ pub struct Check {
     seen: usize,
     /// How many findings there were.
     count: u64,
+}
+
+/// Updates of bytes that were equal already.
+#[derive(Clone, Copy)]
+pub(crate) struct Needless {
+    /// How many items of updates these were.
+    pub copies: u64,
+    /// How many bytes they have.
+    pub bytes: u64,
 }
 
 /// Where a finding is told: in the script of a file, or of standard input.
@@ -49,17 +66,25 @@ pub struct Line<'a> {
 }
 
 impl Check {
-    /// Returns the check of a script that is yet to run on a table of these limits.
+    /// Returns the check of a script that is yet to run on a table of these limits. With `tells_all` it also tells what
+    /// may be meant: copies over newer bytes, newer bytes that are dropped, and copies that change nothing.
     ///
     /// # Errors
     ///
     /// [`Fault::Memory`] alone.
-    pub fn new(alloc: Global, config: Config) -> Result<Check, Fault> {
+    pub fn new(alloc: Global, config: Config, tells_all: bool) -> Result<Check, Fault> {
         let (host, device) = (config.host() as u32, config.device() as u32);
         Ok(Check {
             alloc,
             known: Known::new(alloc, host, config.devices() as usize, device)?,
             account: Account::new(alloc),
+            history: History::new(alloc),
+            tells_all,
+            drops: Vec::new(alloc),
+            needless: Needless {
+                copies: 0,
+                bytes: 0,
+            },
             line: 0,
             kernel: None,
             findings: Vec::new(alloc),
@@ -80,6 +105,9 @@ impl Check {
     /// [`Fault::Memory`] alone.
     pub fn before(&mut self, statement: &Statement<'_>, table: &Table) -> Result<(), Fault> {
         self.kernel = None;
+        if let (true, Statement::Direct(directive)) = (self.tells_all, statement) {
+            self.count_needless(directive, table);
+        }
         if let Statement::Kernel {
             region,
             kernel,
@@ -120,6 +148,7 @@ impl Check {
             }
         }
         self.seen = trace.len();
+        self.sift_drops();
         if let Some(section) = shown {
             self.find_in_host(table, section, 0)?;
         }
@@ -131,7 +160,7 @@ impl Check {
         Ok(())
     }
 
-    /// Puts what is mapped still at the end.
+    /// Puts what is mapped still at the end, and what was dropped or copied in vain, where all is told.
     pub fn end(&mut self, page: &mut Page, names: &Names, file: Option<&str>, table: &Table) {
         for device in 0..table.config().devices() {
             let mut from = 0;
@@ -151,6 +180,14 @@ impl Check {
                 self.count = self.count.saturating_add(1);
                 from = range.start.saturating_add(range.len);
             }
+        }
+        for held in self.drops.iter() {
+            put_drop(page, names, file, held.line, held.section);
+            self.count = self.count.saturating_add(1);
+        }
+        if self.needless.copies > 0 {
+            put_needless(page, file, self.line, self.needless);
+            self.count = self.count.saturating_add(1);
         }
     }
 
@@ -197,15 +234,26 @@ impl Check {
                 Mark::Behind => (Kind::StaleHost, self.note_of_host(table, section)),
                 _ => (Kind::Unfilled, Note::None),
             };
+            let cause = self.cause(run.mark, None, section.start);
+            self.forget_drops(section);
             self.findings.push(Finding {
                 kind,
                 section,
                 nth,
                 note,
+                cause,
             })?;
             rest = rest_of(rest, run);
         }
         Ok(())
+    }
+
+    /// Why a byte of host memory, or of a device, has a mark.
+    fn cause(&self, mark: Mark, device: Option<u64>, address: u64) -> Cause {
+        match mark {
+            Mark::Unfilled => self.history.cause_unfilled(device, address),
+            _ => self.history.cause(device, address),
+        }
     }
 
     /// What to write where the host reads a section. Where a device has it and is behind too, its newer bytes are lost.
@@ -241,16 +289,116 @@ impl Check {
                 Some(queue) => Note::Wait(queue),
                 None => note,
             };
+            let cause = self.cause(run.mark, Some(placed.device), section.start);
             self.findings.push(Finding {
                 kind,
                 section,
                 nth: 0,
                 note,
+                cause,
             })?;
             rest = rest_of(rest, run);
         }
         Ok(())
     }
+}
+
+impl Check {
+    // ---- what may be meant
+
+    /// Finds what a copy is about to overwrite that is newer.
+    pub(crate) fn find_overwritten(&mut self, placed: Placed, t: Transfer) -> Result<(), Fault> {
+        if !self.tells_all {
+            return Ok(());
+        }
+        let (from, over) = if t.out {
+            let from = self.known.stale_device(placed, t.section);
+            (from, self.known.stale_host(t.section))
+        } else {
+            let from = self.known.stale_host(t.section);
+            (from, self.known.stale_device(placed, t.section))
+        };
+        match from {
+            Some(run) if run.mark == Mark::Behind && !is_stale_at(over, run) => {
+                self.findings.push(Finding {
+                    kind: Kind::Overwritten,
+                    section: part_of(t.section, run),
+                    nth: 0,
+                    note: Note::None,
+                    cause: Cause {
+                        written: None,
+                        missed: None,
+                    },
+                })?;
+            }
+            _ => {}
+        }
+        Ok(())
+    }
+
+    /// Keeps a mapping that ends, unless the device has older bytes than the host.
+    pub(crate) fn note_drop(&mut self, held: Held) -> Result<(), Fault> {
+        if self.tells_all && !is_behind(self.known.stale_device(held.placed, held.section)) {
+            let line = self.line;
+            self.drops.push(Held { line, ..held })?;
+        }
+        Ok(())
+    }
+
+    /// Leaves out mappings that ended of which the host is not behind: their bytes were copied, or written again.
+    fn sift_drops(&mut self) {
+        let known = &self.known;
+        self.drops
+            .retain(|held| is_behind(known.stale_host(held.section)));
+    }
+
+    /// Leaves out mappings that ended, since the host reads their bytes: that is told.
+    fn forget_drops(&mut self, section: Section) {
+        self.drops
+            .retain(|held| !has_address(held.section, section.start));
+    }
+
+    /// Counts what an update is about to copy that is equal already.
+    fn count_needless(&mut self, directive: &Directive, table: &Table) {
+        let Directive::Update {
+            device,
+            items,
+            queue: None,
+            ..
+        } = directive
+        else {
+            return;
+        };
+        for item in items.as_slice() {
+            if is_equal(table, *device, *item) {
+                self.needless.copies = self.needless.copies.saturating_add(1);
+                self.needless.bytes = self.needless.bytes.saturating_add(item.section.len);
+            }
+        }
+    }
+}
+
+/// Whether an item of an update copies bytes that are equal already.
+fn is_equal(table: &Table, device: u64, item: Item<UpdateClause>) -> bool {
+    match (
+        table.host_read(item.section),
+        table.device_read(device, item.section),
+    ) {
+        (Some(host), Some(own)) => host == own,
+        _ => false,
+    }
+}
+
+/// Whether the first bytes that are not new are behind.
+fn is_behind(run: Option<Run>) -> bool {
+    run.map_or(false, |run| run.mark == Mark::Behind)
+}
+
+/// Whether bytes that are not new begin at or before those of another run, and reach it.
+fn is_stale_at(over: Option<Run>, run: Run) -> bool {
+    over.map_or(false, |over| {
+        over.at <= run.at && run.at < over.at.saturating_add(over.len)
+    })
 }
 
 /// The addresses of a run in a section.

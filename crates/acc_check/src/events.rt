@@ -2,10 +2,8 @@
 
 use crate::accounts::{Held, Waiting};
 use crate::checks::Check;
-use acc_base::{
-    Aim, Counter, Did, EnterClause, Event, ExitClause, Fault, Found, Holding, Item, RegionClause,
-    Section, Step, Task, UpdateClause,
-};
+use crate::histories::{Deed, Done};
+use acc_base::{Aim, Did, Event, Fault, Found, Section, Step, Task, Transfer};
 use acc_stale::{Placed, transfer_of};
 use acc_table::Table;
 
@@ -17,33 +15,16 @@ impl Check {
         at: usize,
         event: &Event,
     ) -> Result<(), Fault> {
-        let device = event.device();
         match event {
-            Event::Entered { items, did, .. } => {
+            Event::Entered { .. } => {
                 self.account.open(at)?;
-                self.see_entry(device, items.as_slice(), did.as_slice())
+                self.see_items(event)
             }
-            Event::Left { did, .. } => self.see_exit(table.trace(), device, did.as_slice()),
-            Event::EnteredData {
-                items,
-                queue,
-                did,
-                ..
-            } => self.see_entered(device, items.as_slice(), *queue, did.as_slice()),
-            Event::ExitedData {
-                items,
-                finalize,
-                queue,
-                did,
-                ..
-            } => self.see_exited(device, items.as_slice(), *finalize, *queue, did.as_slice()),
-            Event::Updated {
-                items,
-                queue,
-                did,
-                ..
-            } => self.see_updated(device, items.as_slice(), *queue, did.as_slice()),
-            _ => self.see_short(table, device, event),
+            Event::Left { .. } => self.see_exit(table.trace(), event),
+            Event::EnteredData { .. } | Event::ExitedData { .. } | Event::Updated { .. } => {
+                self.see_items(event)
+            }
+            _ => self.see_short(table, event.device(), event),
         }
     }
 
@@ -67,136 +48,54 @@ impl Check {
 
     // ---- items
 
-    fn see_entry(
-        &mut self,
-        device: u64,
-        items: &[Item<RegionClause>],
-        did: &[Did],
-    ) -> Result<(), Fault> {
-        for (item, did) in items.iter().zip(did) {
-            self.see_enter(device, *item, Counter::Structured, None, *did)?;
-        }
-        Ok(())
-    }
-
-    fn see_entered(
-        &mut self,
-        device: u64,
-        items: &[Item<EnterClause>],
-        queue: Option<u64>,
-        did: &[Did],
-    ) -> Result<(), Fault> {
-        for (item, did) in items.iter().zip(did) {
-            let item = Item {
-                clause: item.clause.as_region(),
-                section: item.section,
-                pointer: item.pointer,
-            };
-            self.see_enter(device, item, Counter::Dynamic, queue, *did)?;
-        }
-        Ok(())
-    }
-
-    /// An item that enters attaches its pointer after its step.
-    fn see_enter(
-        &mut self,
-        device: u64,
-        item: Item<RegionClause>,
-        counter: Counter,
-        queue: Option<u64>,
-        did: Did,
-    ) -> Result<(), Fault> {
-        let task = Task::Enter {
-            counter,
-            item,
-            queue,
-        };
-        self.see_step(device, task, item.section.start, queue, did.step)?;
-        self.see_aim(device, did.aim)
-    }
-
-    fn see_exited(
-        &mut self,
-        device: u64,
-        items: &[Item<ExitClause>],
-        finalize: bool,
-        queue: Option<u64>,
-        did: &[Did],
-    ) -> Result<(), Fault> {
-        for (item, did) in items.iter().zip(did) {
-            let task = Task::ExitData {
-                finalize,
-                item: *item,
-                queue,
-            };
-            self.see_leave(device, task, queue, *did)?;
-        }
-        Ok(())
-    }
-
-    fn see_updated(
-        &mut self,
-        device: u64,
-        items: &[Item<UpdateClause>],
-        queue: Option<u64>,
-        did: &[Did],
-    ) -> Result<(), Fault> {
-        for (item, did) in items.iter().zip(did) {
-            let task = Task::Move {
-                if_present: true,
-                item: *item,
-                queue,
-            };
-            self.see_leave(device, task, queue, *did)?;
+    fn see_items(&mut self, event: &Event) -> Result<(), Fault> {
+        for (place, did) in event.did().iter().enumerate() {
+            if let Some(task) = event.task(place) {
+                self.see_item(event.device(), task, *did)?;
+            }
         }
         Ok(())
     }
 
     /// The items of a region are undone from the last to the first.
-    fn see_exit(&mut self, trace: &[Event], device: u64, did: &[Did]) -> Result<(), Fault> {
-        let entry = self.account.close().and_then(|at| trace.get(at));
-        let Some(Event::Entered { items, .. }) = entry else {
+    fn see_exit(&mut self, trace: &[Event], event: &Event) -> Result<(), Fault> {
+        let Some(entry) = self.account.close().and_then(|at| trace.get(at)) else {
             return Ok(());
         };
-        let pairs = items.as_slice().iter().zip(did);
-        for (item, did) in pairs.rev() {
-            let holding = Holding {
-                item: *item,
-                block: None,
-                aim: None,
-            };
-            self.see_leave(device, Task::ExitRegion { holding }, None, *did)?;
+        for (place, did) in event.did().iter().enumerate().rev() {
+            if let Some(task) = entry.exit_task(place) {
+                self.see_item(event.device(), task, *did)?;
+            }
         }
         Ok(())
     }
 
-    /// An item that leaves detaches its pointer before its step.
-    fn see_leave(
-        &mut self,
-        device: u64,
-        task: Task,
-        queue: Option<u64>,
-        did: Did,
-    ) -> Result<(), Fault> {
+    /// An item that enters attaches its pointer after its step, and one that leaves detaches it before.
+    fn see_item(&mut self, device: u64, task: Task, did: Did) -> Result<(), Fault> {
+        if let Task::Enter { .. } = task {
+            self.see_step(device, task, did.step)?;
+            return self.see_aim(device, did.aim);
+        }
         self.see_aim(device, did.aim)?;
-        self.see_step(device, task, 0, queue, did.step)
+        self.see_step(device, task, did.step)
     }
 
-    /// A new block is mapped from `start` on.
-    fn see_step(
-        &mut self,
-        device: u64,
-        task: Task,
-        start: u64,
-        queue: Option<u64>,
-        step: Step,
-    ) -> Result<(), Fault> {
-        let Some(placed) = self.placed_by(device, start, step)? else {
+    fn see_step(&mut self, device: u64, task: Task, step: Step) -> Result<(), Fault> {
+        self.note_kept(device, task, step)?;
+        let Some(placed) = self.placed_by(device, task.section(), step)? else {
             return Ok(());
         };
         let attached = self.account.attached(self.alloc, placed)?;
-        self.known.stepped(placed, task, step, &attached);
-        if let (Some(queue), Some(transfer)) = (queue, transfer_of(task, step, placed.start)) {
+        let transfer = transfer_of(task, step, placed.start);
+        let queue = task.queue();
+        if let (Some(t), None) = (transfer, queue) {
+            self.find_overwritten(placed, t)?;
+        }
+        self.known.stepped(placed, task, step, &attached)?;
+        if let Some(transfer) = transfer {
+            self.note_transfer(device, transfer, queue)?;
+        }
+        if let (Some(queue), Some(transfer)) = (queue, transfer) {
             self.account.put(Waiting {
                 device,
                 queue,
@@ -206,18 +105,27 @@ impl Check {
         Ok(())
     }
 
-    /// Where the block of a step lies.
-    fn placed_by(&mut self, device: u64, start: u64, step: Step) -> Result<Option<Placed>, Fault> {
+    /// Where the block of a step lies. A new one is mapped for a section.
+    fn placed_by(
+        &mut self,
+        device: u64,
+        section: Section,
+        step: Step,
+    ) -> Result<Option<Placed>, Fault> {
         match step {
             Step::Born { block, place } => {
                 let placed = Placed {
                     device,
                     block,
-                    start,
+                    start: section.start,
                     place,
                 };
                 let line = self.line;
-                self.account.born(Held { placed, line })?;
+                self.account.born(Held {
+                    placed,
+                    section,
+                    line,
+                })?;
                 Ok(Some(placed))
             }
             Step::Dropped { block, .. } | Step::Moved { block } => {
@@ -226,6 +134,56 @@ impl Check {
             _ => Ok(None),
         }
     }
+
+    // ---- the history
+
+    /// Keeps what this line did to bytes.
+    fn note(&mut self, device: u64, deed: Deed, section: Section) -> Result<(), Fault> {
+        let line = self.line;
+        self.history.add(Done {
+            line,
+            deed,
+            device,
+            section,
+        })?;
+        Ok(())
+    }
+
+    /// Keeps that a step copied nothing where its clause could have: that a mapping ended, or goes on.
+    fn note_kept(&mut self, device: u64, task: Task, step: Step) -> Result<(), Fault> {
+        match step {
+            Step::Dropped { block, ended: true } => match self.account.block(device, block) {
+                Some(held) => {
+                    self.note(device, Deed::Ended, held.section)?;
+                    self.note_drop(held)
+                }
+                None => Ok(()),
+            },
+            Step::Born { .. } if !task.gets_bytes() => {
+                self.note(device, Deed::Created, task.section())
+            }
+            Step::Dropped { .. } if task.gives_bytes() => {
+                self.note(device, Deed::KeptOut, task.section())
+            }
+            Step::Counted { .. } if task.gets_bytes() => {
+                self.note(device, Deed::KeptIn, task.section())
+            }
+            _ => Ok(()),
+        }
+    }
+
+    /// Keeps that bytes were copied, or that their copy waits.
+    fn note_transfer(&mut self, device: u64, t: Transfer, queue: Option<u64>) -> Result<(), Fault> {
+        let deed = match (queue, t.out) {
+            (None, true) => Deed::CopiedOut,
+            (None, false) => Deed::CopiedIn,
+            (Some(_), true) => Deed::QueuedOut,
+            (Some(_), false) => Deed::QueuedIn,
+        };
+        self.note(device, deed, t.section)
+    }
+
+    // ---- pointers
 
     fn see_aim(&mut self, device: u64, aim: Aim) -> Result<(), Fault> {
         let (pointer, block) = match aim {
@@ -261,7 +219,9 @@ impl Check {
             if let Some(t) = self.account.take(device, queue) {
                 if let Some(held) = self.account.block(device, t.block) {
                     let attached = self.account.attached(self.alloc, held.placed)?;
-                    self.known.made(held.placed, t, &attached);
+                    self.find_overwritten(held.placed, t)?;
+                    self.known.made(held.placed, t, &attached)?;
+                    self.note_transfer(device, t, None)?;
                 }
             }
         }
@@ -273,6 +233,7 @@ impl Check {
     /// Tells what the host wrote, to each device that has part of it.
     fn see_write(&mut self, table: &Table, section: Section) -> Result<(), Fault> {
         self.known.host_wrote(section);
+        self.note(0, Deed::HostWrote, section)?;
         for device in 0..table.config().devices() {
             let mut rest = section;
             for _ in 0..section.len {
@@ -320,7 +281,7 @@ impl Check {
         if let (Some(written), Some(own)) = (table.host_read(section), own) {
             let attached = self.account.attached(self.alloc, placed)?;
             self.known
-                .range_outdated(placed, section, &attached, written, own);
+                .range_outdated(placed, section, &attached, written, own)?;
         }
         Ok(())
     }
@@ -334,6 +295,9 @@ impl Check {
         let placed = held.placed;
         let after = table.device_read(device, kernel.section);
         if let (Some(after), Some(own)) = (after, table.host_read(kernel.section)) {
+            if kernel.before.as_slice() == after {
+                return Ok(());
+            }
             let attached = self.account.attached(self.alloc, placed)?;
             self.known.kernel_wrote(
                 placed,
@@ -342,7 +306,14 @@ impl Check {
                 &kernel.before,
                 after,
                 own,
-            );
+            )?;
+            let done = Done {
+                line: self.line,
+                deed: Deed::KernelWrote,
+                device,
+                section: kernel.section,
+            };
+            self.history.add_kernel(done, &kernel.before, after)?;
         }
         Ok(())
     }

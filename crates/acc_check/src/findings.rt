@@ -1,6 +1,7 @@
 //! What is found, and how it is told.
 
-use crate::checks::Line;
+use crate::checks::{Line, Needless};
+use crate::histories::{Cause, Deed, Done};
 use acc_base::Section;
 use acc_read::{Names, Page, before_comment, is_word_byte};
 use acc_table::Mapped;
@@ -15,6 +16,8 @@ pub(crate) enum Kind {
     StaleDevice,
     /// Nothing ever filled them.
     Unfilled,
+    /// They are newer than those that were copied over them.
+    Overwritten,
 }
 
 impl Kind {
@@ -23,6 +26,7 @@ impl Kind {
             Kind::StaleHost => "stale-host",
             Kind::StaleDevice => "stale-device",
             Kind::Unfilled => "unfilled",
+            Kind::Overwritten => "overwritten",
         }
     }
 }
@@ -55,6 +59,8 @@ pub(crate) struct Finding {
     pub nth: usize,
     /// What to write.
     pub note: Note,
+    /// Why they are so.
+    pub cause: Cause,
 }
 
 /// Puts a finding, and what to write.
@@ -66,7 +72,29 @@ pub(crate) fn put_finding(page: &mut Page, names: &Names, line: Line<'_>, findin
     page.text(": ");
     put_section(page, names, finding.section);
     page.text("\n");
+    put_done(page, line.file, finding.cause.written);
+    put_done(page, line.file, finding.cause.missed);
     put_note(page, names, line, column, finding);
+}
+
+/// Puts what a line did that a finding comes from.
+fn put_done(page: &mut Page, file: Option<&str>, done: Option<Done>) {
+    let Some(done) = done else {
+        return;
+    };
+    put_place(page, file, done.line, 1);
+    page.text("note: ");
+    page.text(match done.deed {
+        Deed::HostWrote => "written by the host here",
+        Deed::KernelWrote => "written on the device here",
+        Deed::CopiedOut | Deed::CopiedIn => "copied here",
+        Deed::Created => "mapped here with no copy",
+        Deed::Ended => "its mapping ended here with no copy",
+        Deed::KeptOut => "not copied here, since it stays mapped",
+        Deed::KeptIn => "not copied here, since it was mapped before",
+        Deed::QueuedOut | Deed::QueuedIn => "its copy waits in a queue since here",
+    });
+    page.text("\n");
 }
 
 fn put_note(page: &mut Page, names: &Names, line: Line<'_>, column: u64, finding: Finding) {
@@ -87,6 +115,30 @@ fn put_note(page: &mut Page, names: &Names, line: Line<'_>, column: u64, finding
     }
     page.text(behind);
     page.text("\n");
+}
+
+/// Puts a mapping that ended while the device had newer bytes, which nobody read.
+pub(crate) fn put_drop(
+    page: &mut Page,
+    names: &Names,
+    file: Option<&str>,
+    line: u64,
+    section: Section,
+) {
+    put_place(page, file, line, 1);
+    page.text("warning: dropped: ");
+    put_section(page, names, section);
+    page.text("\n");
+}
+
+/// Puts how much was copied by updates that was equal already.
+pub(crate) fn put_needless(page: &mut Page, file: Option<&str>, line: u64, needless: Needless) {
+    put_place(page, file, line, 1);
+    page.text("warning: needless: ");
+    page.number(needless.bytes);
+    page.text(" bytes in ");
+    page.number(needless.copies);
+    page.text(" copies\n");
 }
 
 /// Puts a range that is mapped still, at the line that mapped it.

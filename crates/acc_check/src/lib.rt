@@ -6,5 +6,6 @@ mod accounts;
 mod checks;
 mod events;
 mod findings;
+mod histories;
 
 pub use checks::{Check, Line};

@@ -1,2 +1,6 @@
 pub mod Turns
+pub mod Each
+pub mod Kept
+pub mod Compared
+pub mod Found
 pub mod Steps

@@ -7,7 +7,7 @@ use Rattle.acc_stale.specs.declared.marks.Mark.{Mark}
 use Rattle.acc_stale.specs.declared.marks.Mark.TheVariants.{New, Unfilled}
 use Rattle.acc_stale.specs.declared.marks.Run.{Run}
 use Rattle.acc_stale.specs.declared.known.Mapped.{Mapped}
-use Rattle.acc_stale.specs.Marks.{Change, changed, beside_pointers, filled, copied, outdated, rewritten, first_run}
+use Rattle.acc_stale.specs.Marks.{Change, changed, beside_pointers, filled, copied, outdated, outrun, rewritten, first_run}
 
 -- the marks of host memory, and those of the memory of each device, by its number
 pub record Known : Type 0 where
@@ -76,7 +76,7 @@ device_outdated p attached written own k = on_mapped p attached (outdated writte
 
 -- a kernel found bytes in a section, and left others, where the host has these
 abbrev pub kernel_wrote : Mapped → List Attachment → List ℕ → List ℕ → List ℕ → Known → Known
-kernel_wrote p attached before after own k = on_section p attached (rewritten before after (outdated after own)) (on_mapped p attached (rewritten before after (filled New)) k)
+kernel_wrote p attached before after own k = on_section p attached (rewritten before after (outrun after own)) (on_mapped p attached (rewritten before after (filled New)) k)
 
 -- ---- questions
 

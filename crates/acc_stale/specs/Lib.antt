@@ -1,4 +1,5 @@
 pub mod Events
 pub mod Known
+pub mod MarkLaws
 pub mod Marks
 pub mod Told

@@ -1,5 +1,5 @@
 -- Marks: what is known of each byte of a memory, and what writes and copies make of it.
-use Rattle.std.specs.Prelude.{ℕ, ◌+◌, ◌++◌, Bool, true, false, not, if◌then◌else◌, ◌==◌, List, map, take, drop, length, position, Option, Some, unwrap_or, option_map, slice_get, slice_index_or}
+use Rattle.std.specs.Prelude.{ℕ, ◌≡◌, ◌<◌, ◌+◌, ◌++◌, Bool, true, false, not, if◌then◌else◌, ◌==◌, List, map, take, drop, length, position, Option, Some, unwrap_or, option_map, slice_get, slice_index_or}
 use Rattle.std.specs.List.{enumerate_from}
 use Rattle.acc_base.specs.declared.attachments.Attachment.{Attachment}
 use Rattle.acc_base.specs.Attachments.{is_skipped}
@@ -23,6 +23,11 @@ changed at len change marks = take at marks ++ each change (take len (drop at ma
 abbrev pub beside_pointers : ℕ → List Attachment → ℕ → Change → Change
 beside_pointers block attached start change place mark = if is_skipped block attached (start + place) then mark else change place mark
 
+-- the marks that were kept where a test holds of their place, and the old ones elsewhere
+pub record IsKept (test : ℕ → Bool) (kept old new : List Mark) : Type 0 where
+  pub len : length new ≡ length old
+  pub marks : (k : ℕ) → k < length old → slice_index_or new k New ≡ (if test k then slice_index_or kept k New else slice_index_or old k New)
+
 -- ---- the changes
 
 -- a new block has one mark for all its bytes
@@ -33,16 +38,23 @@ filled with_mark place mark = with_mark
 abbrev pub copied : List Mark → ℕ → Change
 copied from at place mark = unwrap_or (slice_get from (at + place)) mark
 
--- the mark of a byte where the other memory was written: it is behind if that has another byte now. A byte that was
--- never filled stays so
+-- the mark of a byte where the other memory was written: it is behind if that has another byte now
 abbrev pub against : Option ℕ → Option ℕ → Mark → Mark
-against _ _ Unfilled = Unfilled
 against (Some written) (Some own) mark = if written == own then New else Behind
 against _ _ mark = mark
 
--- the other memory was written whole
+-- the same of a byte of a device: one that nothing filled stays so
+abbrev pub filled_against : Option ℕ → Option ℕ → Mark → Mark
+filled_against written own Unfilled = Unfilled
+filled_against written own mark = against written own mark
+
+-- a device has these bytes of its own, where the host wrote those
 abbrev pub outdated : List ℕ → List ℕ → Change
-outdated written own place mark = against (slice_get written place) (slice_get own place) mark
+outdated written own place mark = filled_against (slice_get written place) (slice_get own place) mark
+
+-- the host has these bytes of its own, where a kernel wrote those
+abbrev pub outrun : List ℕ → List ℕ → Change
+outrun written own place mark = against (slice_get written place) (slice_get own place) mark
 
 -- the change of a mark where a byte is another one than before
 abbrev pub where_other : Option ℕ → Option ℕ → Mark → Mark → Mark

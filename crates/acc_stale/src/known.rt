@@ -1,6 +1,6 @@
 //! What is known of the bytes of all memories.
 
-ghost use Rattle.std.specs.Prelude.{◌≡◌, ◌-◌, ◌≤◌, ◌<◌, IfOk, IfErr, map, slice_set, slice_index_or, [], length};
+ghost use Rattle.std.specs.Prelude.{◌≡◌, ◌-◌, ◌≤◌, ◌<◌, OnOk, IfOk, IfErr, map, slice_set, slice_index_or, [], length};
 ghost use Rattle.acc_base.specs.declared.faults.Fault.TheVariants.{Memory};
 ghost use Rattle.acc_stale.specs.declared.marks.Mark.TheVariants.{New};
 ghost use Rattle.acc_base.specs.Attachments.{pointer_at, count_at};
@@ -9,7 +9,7 @@ ghost use Rattle.acc_stale.specs.Marks.{filled};
 ghost use Rattle.acc_stale.specs.Events.{mapped_at, mapped_behind, known_made};
 ghost use Rattle.acc_stale.specs.Known.{all_new, on_host, on_device, on_mapped, on_section, born, copied_in, copied_out, pointer_aimed, pointer_left, host_wrote, device_outdated, kernel_wrote, mark_born, stale_host, stale_device};
 
-use crate::changes::{BesidePointers, Change, Copied, Filled, Outdated, Rewritten};
+use crate::changes::{Change, Copied, Filled, Outdated, Outrun, Pointers, Rewritten};
 use crate::marks::{Mark, Marks, Run};
 use acc_base::{Attachment, DEVICE_BASE, Fault, HOST_BASE, Section, Transfer};
 use std::alloc::Global;
@@ -64,9 +64,23 @@ struct Mapped {
     at: u128,
 }
 
+impl Mapped {
+    /// These attached pointers of its block, to leave out of a change.
+    fn beside<'a>(self, attached: &'a [Attachment]) -> Pointers<'a>
+        ensures { result ≡ record { block = self.block; attached = attached.entry; start = self.section.start } }
+    {
+        Pointers {
+            block: self.block,
+            attached,
+            start: self.section.start,
+        }
+    }
+}
+
 /// What is known of each byte of host memory and of the devices.
 #[derive(Drop)]
 pub struct Known {
+    alloc: Global,
     host: Marks,
     devices: Vec<Marks>,
 }
@@ -94,6 +108,7 @@ impl Known {
             devices.push(Marks::new(alloc, device)?)?;
         }
         Ok(Known {
+            alloc,
             host: Marks::new(alloc, host)?,
             devices,
         })
@@ -126,14 +141,19 @@ impl Known {
 
     /// A transfer was made, to or from a block: with each byte went its mark. One with `async` is made when its queue
     /// makes it (OpenACC 3.3, section 2.16).
-    pub fn made(&mut self, block: Placed, t: Transfer, attached: &[Attachment])
-        ensures { self.new ≡ known_made block t attached.now self.old }
+    ///
+    /// # Errors
+    ///
+    /// [`Fault::Memory`] alone, as with those that follow. Marks are not to be asked for any more then.
+    pub fn made(&mut self, block: Placed, t: Transfer, attached: &[Attachment]) -> Result<(), Fault>
+        ensures ok { OnOk result (self.new ≡ known_made block t attached.now self.old) }
+        ensures only { IfErr result (λ fault. fault ≡ Memory) }
     {
         let p = block.behind(t.offset, t.section);
         if t.out {
-            self.copied_out(p, attached);
+            self.copied_out(p, attached)
         } else {
-            self.copied_in(p, attached);
+            self.copied_in(p, attached)
         }
     }
 
@@ -149,7 +169,14 @@ impl Known {
     pub fn pointer_left(&mut self, block: Placed, pointer: u64)
         ensures { self.new ≡ pointer_left (mapped_at block (pointer_at pointer)) self.old }
     {
-        self.copied_in(block.section(pointer_at(pointer)), &[]);
+        let p = block.section(pointer_at(pointer));
+        if p.device < self.devices.len() as u64 {
+            let change = Copied {
+                from: self.host.as_slice(),
+                at: offset_of(p.section),
+            };
+            self.devices[p.device as usize].change(p.at, p.section.len, &change);
+        }
     }
 
     /// The host wrote a section. For each mapped range that has part of it [`Known::range_outdated`] is told next.
@@ -161,6 +188,10 @@ impl Known {
 
     /// The host wrote these bytes into a section of a range, and the device has its own there: those that are others
     /// are behind.
+    ///
+    /// # Errors
+    ///
+    /// As [`Known::made`].
     pub fn range_outdated(
         &mut self,
         block: Placed,
@@ -168,16 +199,20 @@ impl Known {
         attached: &[Attachment],
         written: &[u8],
         own: &[u8],
-    )
-        ensures { self.new ≡ device_outdated (mapped_at block section) attached.now written.now own.now self.old }
+    ) -> Result<(), Fault>
+        ensures ok { OnOk result (self.new ≡ device_outdated (mapped_at block section) attached.now written.now own.now self.old) }
+        ensures only { IfErr result (λ fault. fault ≡ Memory) }
     {
         let p = block.section(section);
-        let change = beside_pointers(p, attached, Outdated { written, own });
-        self.change_device(p, &change);
+        self.change_mapped(p, attached, &Outdated { written, own })
     }
 
     /// A lease is back: a kernel found bytes in its section, and left others. Where they differ it wrote: the device's
     /// byte is new. The host has its own bytes there; those that are others than the kernel wrote are behind.
+    ///
+    /// # Errors
+    ///
+    /// As [`Known::made`].
     pub fn kernel_wrote(
         &mut self,
         block: Placed,
@@ -186,52 +221,70 @@ impl Known {
         before: &[u8],
         after: &[u8],
         own: &[u8],
-    )
-        ensures { self.new ≡ kernel_wrote (mapped_at block section) attached.now before.now after.now own.now self.old }
+    ) -> Result<(), Fault>
+        ensures ok { OnOk result (self.new ≡ kernel_wrote (mapped_at block section) attached.now before.now after.now own.now self.old) }
+        ensures only { IfErr result (λ fault. fault ≡ Memory) }
     {
         let p = block.section(section);
-        let change = Filled(Mark::New);
-        let here = Rewritten {
-            before,
-            after,
-            change,
-        };
-        self.change_device(p, &beside_pointers(p, attached, here));
-        let written = after;
-        let change = Outdated { written, own };
-        let there = Rewritten {
-            before,
-            after,
-            change,
-        };
-        self.change_host(section, &beside_pointers(p, attached, there));
+        self.change_mapped(p, attached, &Rewritten { before, after })?;
+        let change = Outrun { before, after, own };
+        let at = offset_of(section);
+        self.host
+            .change_beside(self.alloc, at, section.len, p.beside(attached), &change)
+    }
+
+    /// The marks of a section change on the device, but those of attached pointers.
+    fn change_mapped<C: Change>(
+        &mut self,
+        p: Mapped,
+        attached: &[Attachment],
+        change: &C,
+    ) -> Result<(), Fault>
+        ensures ok { OnOk result (self.new ≡ on_mapped p attached.now (C.change change.now) self.old) }
+        ensures only { IfErr result (λ fault. fault ≡ Memory) }
+    {
+        if p.device < self.devices.len() as u64 {
+            let marks = &mut self.devices[p.device as usize];
+            return marks.change_beside(self.alloc, p.at, p.section.len, p.beside(attached), change);
+        }
+        Ok(())
     }
 
     /// The bytes of a section were copied to the device. With each byte went its mark.
-    fn copied_in(&mut self, p: Mapped, attached: &[Attachment])
-        ensures { self.new ≡ copied_in p attached.now self.old }
+    fn copied_in(&mut self, p: Mapped, attached: &[Attachment]) -> Result<(), Fault>
+        ensures ok { OnOk result (self.new ≡ copied_in p attached.now self.old) }
+        ensures only { IfErr result (λ fault. fault ≡ Memory) }
     {
         if p.device < self.devices.len() as u64 {
-            let copied = Copied {
+            let change = Copied {
                 from: self.host.as_slice(),
                 at: offset_of(p.section),
             };
-            let change = beside_pointers(p, attached, copied);
-            self.devices[p.device as usize].change(p.at, p.section.len, &change);
+            let marks = &mut self.devices[p.device as usize];
+            return marks.change_beside(
+                self.alloc,
+                p.at,
+                p.section.len,
+                p.beside(attached),
+                &change,
+            );
         }
+        Ok(())
     }
 
     /// The bytes of a section were copied to host memory. With each byte went its mark.
-    fn copied_out(&mut self, p: Mapped, attached: &[Attachment])
-        ensures { self.new ≡ copied_out p attached.now self.old }
+    fn copied_out(&mut self, p: Mapped, attached: &[Attachment]) -> Result<(), Fault>
+        ensures ok { OnOk result (self.new ≡ copied_out p attached.now self.old) }
+        ensures only { IfErr result (λ fault. fault ≡ Memory) }
     {
         let from = match self.devices.get(p.device as usize) {
             Some(marks) => marks.as_slice(),
             None => &[],
         };
-        let change = beside_pointers(p, attached, Copied { from, at: p.at });
+        let change = Copied { from, at: p.at };
+        let at = offset_of(p.section);
         self.host
-            .change(offset_of(p.section), p.section.len, &change);
+            .change_beside(self.alloc, at, p.section.len, p.beside(attached), &change)
     }
 
     // ---- questions
@@ -252,22 +305,6 @@ impl Known {
         self.devices
             .get(p.device as usize)?
             .first_run(p.at, p.section.len)
-    }
-}
-
-/// A change of a section that leaves out attached pointers of its block.
-fn beside_pointers<'a, C: Change>(
-    p: Mapped,
-    attached: &'a [Attachment],
-    change: C,
-) -> BesidePointers<'a, C>
-    ensures { result ≡ record { block = p.block; attached = attached.entry; start = p.section.start; change = change } }
-{
-    BesidePointers {
-        block: p.block,
-        attached,
-        start: p.section.start,
-        change,
     }
 }
 

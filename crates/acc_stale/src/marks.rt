@@ -1,11 +1,12 @@
 //! The marks of a memory: what is known of each of its bytes.
 
-ghost use Rattle.std.specs.Prelude.{◌≡◌, ◌-◌, ◌<◌, min, IfOk, IfErr, replicate, take, drop, length};
+ghost use Rattle.std.specs.Prelude.{◌≡◌, ◌-◌, ◌<◌, min, not, OnOk, OnErr, IfOk, IfErr, replicate, take, drop, length};
+ghost use Rattle.std.specs.List.{list_any};
 ghost use Rattle.acc_base.specs.declared.faults.Fault.TheVariants.{Memory};
 ghost use Rattle.acc_stale.specs.declared.marks.Mark.TheVariants.{New};
-ghost use Rattle.acc_stale.specs.Marks.{changed, is_mark, count_of, run_at, first_other, first_run};
+ghost use Rattle.acc_stale.specs.Marks.{changed, beside_pointers, is_mark, count_of, run_at, first_other, first_run};
 
-use crate::changes::{Change, change_each};
+use crate::changes::{Change, Pointers, change_beside};
 use acc_base::Fault;
 use std::alloc::Global;
 use std::marker::Model;
@@ -23,7 +24,7 @@ pub enum Mark {
 
 impl Mark {
     /// Whether the marks are one.
-    fn is(self, other: Mark) -> bool
+    pub(crate) fn is(self, other: Mark) -> bool
         ensures { result ≡ is_mark self other }
     {
         match (self, other) {
@@ -96,12 +97,33 @@ impl Marks {
         ensures { self.new ≡ changed at len (C.change change.now) self.old }
     {
         let (from, count) = clipped(self.marks.len(), at, len);
-        change_each(&mut self.marks[from..from + count], change);
+        change.apply(&mut self.marks[from..from + count]);
+    }
+
+    /// The same, but for the marks of attached pointers.
+    ///
+    /// # Errors
+    ///
+    /// [`Fault::Memory`] alone. Then the marks are as they were.
+    pub(crate) fn change_beside<C: Change>(
+        &mut self,
+        alloc: Global,
+        at: u128,
+        len: u64,
+        pointers: Pointers<'_>,
+        change: &C,
+    ) -> Result<(), Fault>
+        ensures ok { OnOk result (self.new ≡ changed at len (beside_pointers pointers.entry.block pointers.entry.attached.now pointers.entry.start (C.change change.now)) self.old) }
+        ensures err { OnErr result (self.new ≡ self.old) }
+        ensures only { IfErr result (λ fault. fault ≡ Memory) }
+    {
+        let (from, count) = clipped(self.marks.len(), at, len);
+        change_beside(alloc, &mut self.marks[from..from + count], pointers, change)
     }
 }
 
 /// So many places from one on, as far as there are `size` places: the first of them, and how many.
-fn clipped(size: usize, at: u128, len: u64) -> (usize, usize)
+pub(crate) fn clipped(size: usize, at: u128, len: u64) -> (usize, usize)
     ensures from { result.0 ≡ min at size }
     ensures count { result.1 ≡ min len (size - result.0) }
 {
@@ -142,5 +164,19 @@ fn count_of(mark: Mark, marks: &[Mark]) -> usize
 fn first_other(mark: Mark, marks: &[Mark]) -> Option<usize>
     ensures { result ≡ first_other mark marks.now }
 {
+    if !has_other(mark, marks) {
+        return None;
+    }
     marks.iter().position(|m| !mark.is(*m))
+}
+
+/// Whether one of these marks is another one. The loop has no branch, so that the compiler can take many at once.
+fn has_other(mark: Mark, marks: &[Mark]) -> bool
+    ensures { result ≡ list_any (λ m. not (is_mark mark m)) marks.now }
+{
+    let mut found = false;
+    for m in marks {
+        found |= !mark.is(*m);
+    }
+    found
 }

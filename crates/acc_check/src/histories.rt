@@ -1,0 +1,284 @@
+//! What lines did to bytes, in their order: which line made a byte stale, and which could have copied it.
+
+ghost use Rattle.std.specs.Prelude.{◌≤◌, length};
+
+use acc_base::Section;
+use std::alloc::{AllocError, Global};
+
+/// How many runs of bytes that one kernel wrote are kept apart.
+const RUNS: u64 = 64;
+
+/// How many bytes are compared at once where they are not alike.
+const PART: usize = 64;
+
+/// What was done to bytes.
+#[derive(Clone, Copy, Debug, PartialEq, Eq)]
+pub(crate) enum Deed {
+    /// The host wrote them.
+    HostWrote,
+    /// A kernel wrote them on a device.
+    KernelWrote,
+    /// They were copied to host memory.
+    CopiedOut,
+    /// They were copied to a device.
+    CopiedIn,
+    /// They were mapped to a new block, and not copied.
+    Created,
+    /// Their mapping ended.
+    Ended,
+    /// An end that copies to host memory copied nothing, since they stay mapped.
+    KeptOut,
+    /// An entry that copies to a device copied nothing, since they were mapped before.
+    KeptIn,
+    /// A copy to host memory was put into a queue.
+    QueuedOut,
+    /// A copy to a device was put into a queue.
+    QueuedIn,
+}
+
+impl Deed {
+    /// Whether it could have copied to host memory, or to a device, and did not.
+    fn missed(self, out: bool) -> bool {
+        match self {
+            Deed::Ended | Deed::KeptOut | Deed::QueuedOut => out,
+            Deed::KeptIn | Deed::QueuedIn => !out,
+            _ => false,
+        }
+    }
+}
+
+/// What a line did to bytes.
+#[derive(Clone, Copy)]
+pub(crate) struct Done {
+    /// The number of the line.
+    pub line: u64,
+    /// What it did.
+    pub deed: Deed,
+    /// The number of the device.
+    pub device: u64,
+    /// The bytes.
+    pub section: Section,
+}
+
+/// Why a byte is stale, as far as lines are known.
+#[derive(Clone, Copy)]
+pub(crate) struct Cause {
+    /// What wrote the newer byte.
+    pub written: Option<Done>,
+    /// What came behind that, and could have copied it.
+    pub missed: Option<Done>,
+}
+
+/// What all lines so far did, in their order.
+#[derive(Drop)]
+pub(crate) struct History {
+    all: Vec<Done>,
+}
+
+impl History {
+    /// The history of no line.
+    pub fn new(alloc: Global) -> History {
+        History {
+            all: Vec::new(alloc),
+        }
+    }
+
+    /// Keeps what a line did.
+    pub fn add(&mut self, done: Done) -> Result<(), AllocError> {
+        if done.section.len > 0 {
+            self.all.push(done)?;
+        }
+        Ok(())
+    }
+
+    /// Keeps what a kernel did, that found bytes in a section of a device and left others: only where they differ it
+    /// wrote.
+    pub fn add_kernel(
+        &mut self,
+        done: Done,
+        before: &[u8],
+        after: &[u8],
+    ) -> Result<(), AllocError> {
+        if !has_equal(before, after) {
+            return self.add(done);
+        }
+        let mut runs = Runs {
+            done,
+            run: Run { start: 0, len: 0 },
+            left: RUNS,
+        };
+        let parts = before.chunks(PART).zip(after.chunks(PART));
+        for (nth, (b, a)) in parts.enumerate() {
+            let at = (nth as u64).saturating_mul(PART as u64);
+            if b == a {
+                self.close(&mut runs)?;
+            } else if has_equal(b, a) {
+                self.add_part(&mut runs, at, b, a)?;
+            } else {
+                runs.run = runs.run.with(at, b.len() as u64);
+            }
+        }
+        self.add(runs.run.of(done))
+    }
+
+    /// Keeps the runs of a part that begins at a place, byte by byte.
+    fn add_part(
+        &mut self,
+        runs: &mut Runs,
+        at: u64,
+        before: &[u8],
+        after: &[u8],
+    ) -> Result<(), AllocError> {
+        for (nth, (b, a)) in before.iter().zip(after).enumerate() {
+            if b == a {
+                self.close(runs)?;
+            } else {
+                runs.run = runs.run.with(at.saturating_add(nth as u64), 1);
+            }
+        }
+        Ok(())
+    }
+
+    /// Keeps a run that ends, if it is not one of too many: then it goes on.
+    fn close(&mut self, runs: &mut Runs) -> Result<(), AllocError> {
+        if runs.run.len > 0 && runs.left > 0 {
+            self.add(runs.run.of(runs.done))?;
+            runs.run = Run { start: 0, len: 0 };
+            runs.left -= 1;
+        }
+        Ok(())
+    }
+
+    /// Why a byte of host memory is stale, or of a device.
+    pub fn cause(&self, device: Option<u64>, address: u64) -> Cause {
+        let mut memory = device;
+        for done in self.all.iter().rev() {
+            if !has_address(done.section, address) {
+                continue;
+            }
+            let is_here = memory == Some(done.device);
+            match (done.deed, memory) {
+                (Deed::KernelWrote, None) | (Deed::HostWrote, Some(_)) => {
+                    let missed = if memory == device {
+                        self.missed_behind(*done, device, address)
+                    } else {
+                        None
+                    };
+                    let written = Some(*done);
+                    return Cause { written, missed };
+                }
+                (Deed::KernelWrote, Some(_)) if is_here => break,
+                (Deed::HostWrote, None) => break,
+                (Deed::CopiedOut, None) => memory = Some(done.device),
+                (Deed::CopiedIn, Some(_)) if is_here => memory = None,
+                _ => {}
+            }
+        }
+        Cause {
+            written: None,
+            missed: None,
+        }
+    }
+
+    /// Why nothing ever filled a byte of host memory, or of a device: what made its block, or put its copy into a queue.
+    pub fn cause_unfilled(&self, device: Option<u64>, address: u64) -> Cause {
+        let mut memory = device;
+        let mut missed = None;
+        for done in self.all.iter().rev() {
+            if !has_address(done.section, address) {
+                continue;
+            }
+            let is_here = memory == Some(done.device);
+            match done.deed {
+                Deed::CopiedOut if memory.is_none() => memory = Some(done.device),
+                Deed::CopiedIn if is_here => memory = None,
+                Deed::QueuedIn if is_here && missed.is_none() => missed = Some(*done),
+                Deed::Created if is_here => {
+                    missed = missed.or(Some(*done));
+                    break;
+                }
+                _ => {}
+            }
+        }
+        Cause {
+            written: None,
+            missed,
+        }
+    }
+
+    /// The last deed that could have copied a byte, behind the one that wrote it: from the device whose kernel did, or to
+    /// the one that reads it.
+    fn missed_behind(&self, written: Done, reader: Option<u64>, address: u64) -> Option<Done> {
+        let device = reader.unwrap_or(written.device);
+        for done in self.all.iter().rev() {
+            if done.line <= written.line {
+                return None;
+            }
+            if done.deed.missed(reader.is_none())
+                && done.device == device
+                && has_address(done.section, address)
+            {
+                return Some(*done);
+            }
+        }
+        None
+    }
+}
+
+/// The runs of bytes that a kernel wrote, while they are looked for.
+#[derive(Clone, Copy)]
+struct Runs {
+    /// What the kernel did.
+    done: Done,
+    /// The run that goes on, of no byte where there is none.
+    run: Run,
+    /// How many more are kept apart.
+    left: u64,
+}
+
+/// Bytes that follow one another in a section.
+#[derive(Clone, Copy)]
+struct Run {
+    start: u64,
+    len: u64,
+}
+
+impl Run {
+    /// With so many bytes from a place on too, and those before it.
+    fn with(self, at: u64, count: u64) -> Run {
+        let start = if self.len == 0 { at } else { self.start };
+        let len = at.saturating_sub(start).saturating_add(count);
+        Run { start, len }
+    }
+
+    /// What was done, of these bytes alone.
+    fn of(self, done: Done) -> Done {
+        let section = Section {
+            start: done.section.start.saturating_add(self.start),
+            len: self.len,
+        };
+        Done { section, ..done }
+    }
+}
+
+/// Whether two lists of bytes have one alike at the same place.
+fn has_equal(before: &[u8], after: &[u8]) -> bool {
+    let count = before.len().min(after.len());
+    has_equal_at_once(&before[..count], &after[..count])
+}
+
+/// The same of lists that are alike long. The loop has no branch, so that the compiler can take many places at once.
+fn has_equal_at_once(before: &[u8], after: &[u8]) -> bool
+    requires { length before.now ≤ length after.now }
+{
+    let mut found = 0;
+    for (place, b) in before.iter().enumerate() {
+        found |= u8::from(*b == after[place]);
+    }
+    found != 0
+}
+
+/// Whether an address is one of a section.
+pub(crate) fn has_address(section: Section, address: u64) -> bool {
+    section.start <= address && address - section.start < section.len
+}

@@ -149,6 +149,7 @@ unsigned GOMP_OFFLOAD_version(void)
 bool GOMP_OFFLOAD_init_device(int device)
 {
     const char *queues = getenv("DEVICE_QUEUES");
+    bool is_made;
     (void)device;
     is_eager = queues != NULL && strcmp(queues, "eager") == 0;
     has_totals = getenv("DEVICE_TOTALS") != NULL;
@@ -158,7 +159,11 @@ bool GOMP_OFFLOAD_init_device(int device)
     }
     if (has_totals)
         atexit(tell_totals);
-    return make_memory();
+    /* libgomp has a lock of its own here, which no sanitizer sees. */
+    pthread_mutex_lock(&of_memory);
+    is_made = make_memory();
+    pthread_mutex_unlock(&of_memory);
+    return is_made;
 }
 
 bool GOMP_OFFLOAD_fini_device(int device)

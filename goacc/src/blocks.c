@@ -211,9 +211,9 @@ uintptr_t lwa_device_of(const lwa_block *block, uintptr_t at)
     return block->device + (at - block->at);
 }
 
-uint64_t lwa_place_of(const lwa_block *block, uint64_t told)
+uint64_t lwa_place_of(const lwa_block *block, uintptr_t at)
 {
-    return block->root->place + (told - block->root->told);
+    return block->place + (at - block->at);
 }
 
 /* The program's address for one of the runtime's device, whose places are its own; or that itself. */
@@ -308,8 +308,9 @@ void lwa_map_part(lwa_block *root, uintptr_t at, size_t len, uintptr_t device)
 
     *part = (lwa_block){.at = at, .len = len, .told = root->told + (device - root->device), .device = device,
                         .bytes = root->bytes + (device - root->device), .mapped = true, .part = true, .root = root,
-                        .next = root->parts, .from = lwa_from()};
+                        .place = root->place + (device - root->device), .next = root->parts, .from = lwa_from()};
     root->parts = part;
+    LWA_CHECK(lwa_behind_born(part, true));
     insert(part);
 }
 
@@ -320,6 +321,7 @@ static void drop(lwa_block *block)
     }
     free(block->pointers);
     free(block->before);
+    free(block->known);
     rattle_dealloc(block);
 }
 

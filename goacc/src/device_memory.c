@@ -92,7 +92,7 @@ static void free_block(void *address)
         || has_part(block, block->device, block->len)) {
         lwa_unserved("%p is not an address that acc_malloc gave, or some of it is mapped", address);
     }
-    lw_counters(lwa_table(), block->told, block->len, &counters);
+    lw_counters(lwa_table(), 0, block->told, block->len, &counters);
     if (counters.structured != 0) {
         lwa_unserved("a data region holds the memory at %p", address);
     }
@@ -137,6 +137,7 @@ static void *bytes_at(uintptr_t address, size_t len, bool *open)
    before: to ask the system for them takes longer than to copy a few. */
 static void copy(const char *name, void *from, void *to, void *at, size_t len, int async, bool out)
 {
+    const uintptr_t device = (uintptr_t)(out ? at : to), host = (uintptr_t)(out ? to : at);
     bool open = false;
 
     lwa_take(name, from);
@@ -145,12 +146,15 @@ static void copy(const char *name, void *from, void *to, void *at, size_t len, i
     }
     if (len != 0) {
         if (lwa_is_for_table()) {
-            *(out ? &at : &to) = bytes_at((uintptr_t)(out ? at : to), len, &open);
+            *(out ? &at : &to) = bytes_at(device, len, &open);
         }
         if (lwa_shadow && out && lwa_is_for_table()) {
             lwa_expect((uintptr_t)to, len, open ? NULL : at);
         } else if (!lwa_shadow || lwa_is_for_table()) {
             memmove(to, at, len);
+        }
+        if (lwa_is_for_table()) {
+            LWA_CHECK(lwa_behind_moved(host, device, len, out));
         }
     }
 }

@@ -175,7 +175,7 @@ LWA_EXPORT size_t acc_get_property(int number, acc_device_t type, acc_device_pro
     lwa_take("acc_get_property", LWA_FROM);
     if (is_device(number, type) && is_table_type(type)) {
         lwa_go_to((unsigned)number);
-        lw_used(lwa_table(), &used);
+        lw_used(lwa_table(), 0, &used);
         answer = property == acc_property_memory ? lwa_limits.device
                : property == acc_property_free_memory ? lwa_limits.device - used : 0;
     }
@@ -261,7 +261,7 @@ static int test_queue(uint64_t queue, int done)
         }
         return done;
     }
-    return !lwa_step(queue) || (lw_queue_len(lwa_table(), queue, &len) == LW_DONE && len == 0);
+    return !lwa_step(queue) || (lw_queue_len(lwa_table(), 0, queue, &len) == LW_DONE && len == 0);
 }
 
 /* Each test makes the next copy, so that a program that only asks comes to an end. */

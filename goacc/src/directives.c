@@ -15,7 +15,7 @@ bool lwa_copies_in(uint32_t clause)
     return clause == LW_COPY || clause == LW_COPYIN;
 }
 
-bool lwa_enters(const lwa_directive *d)
+static bool enters(const lwa_directive *d)
 {
     return d->way == LWA_DATA || d->way == LWA_ENTER_DATA;
 }
@@ -23,7 +23,7 @@ bool lwa_enters(const lwa_directive *d)
 /* Whether an item maps its section where that is absent. */
 static bool may_map(const lwa_directive *d, const lwa_item *item)
 {
-    return lwa_enters(d) && item->clause != LW_NO_CREATE && item->clause != LW_PRESENT;
+    return enters(d) && item->clause != LW_NO_CREATE && item->clause != LW_PRESENT;
 }
 
 /* A section that is absent is told at new table addresses where it is to be mapped, and else with one address that is
@@ -103,6 +103,7 @@ static void after(const lwa_directive *d, lwa_item *item)
             memset(item->block->bytes, NEW_BYTE, item->len);
         }
         item->block->open = item->did.way == 0 && lwa_is_open(LWA_OPEN_FILL);
+        LWA_CHECK(lwa_behind_born(item->block, false));
         note(item, acc_ev_alloc, acc_ev_create);
     }
     if (item->did.way != 0) {
@@ -123,6 +124,11 @@ static void after(const lwa_directive *d, lwa_item *item)
 /* The most items of one directive of the table, which judges each in what those before it leave. */
 #define MOST_ITEMS 8
 
+static lw_async async_of(const lwa_directive *d)
+{
+    return d->queue == LW_NO_QUEUE_GIVEN ? LW_ASYNC_SYNC : lw_queue((int64_t)d->queue);
+}
+
 static uint32_t ask(const lwa_directive *d, size_t first, size_t end, lw_fault *fault)
 {
     static lw_item told[MOST_ITEMS];
@@ -135,15 +141,15 @@ static uint32_t ask(const lwa_directive *d, size_t first, size_t end, lw_fault *
     lwa_room();
     switch (d->way) {
     case LWA_DATA:
-        status = lw_enter(lwa_table(), told, end - first, &items[first].region, fault);
+        status = lw_enter(lwa_table(), 0, told, end - first, &items[first].region, fault);
         for (size_t i = first + 1; i < end; i++) {
             items[i].region = items[first].region;
         }
         return status;
     case LWA_END_DATA: return lw_exit(lwa_table(), items[first].region, fault);
-    case LWA_ENTER_DATA: return lw_enter_data(lwa_table(), told, end - first, d->queue, fault);
-    case LWA_EXIT_DATA: return lw_exit_data(lwa_table(), told, end - first, d->option, d->queue, fault);
-    case LWA_UPDATE: return lw_update(lwa_table(), told, end - first, d->option, d->queue, fault);
+    case LWA_ENTER_DATA: return lw_enter_data(lwa_table(), 0, told, end - first, async_of(d), fault);
+    case LWA_EXIT_DATA: return lw_exit_data(lwa_table(), 0, told, end - first, d->option, async_of(d), fault);
+    case LWA_UPDATE: return lw_update(lwa_table(), 0, told, end - first, d->option, async_of(d), fault);
     }
     abort();
 }
@@ -214,6 +220,7 @@ static void finish(lwa_directive *d, size_t i)
     lwa_watch_item(d, i);
     after(d, item);
     lwa_log_item(d, i);
+    LWA_CHECK(lwa_check_item(d, item));
     if (item->did.step == LW_ENDED_RANGE) {
         note(item, acc_ev_delete, acc_ev_free);
         lwa_ended(item->block->root);
@@ -256,7 +263,7 @@ static size_t act(lwa_directive *d, size_t first, size_t end)
         if (d->way != LWA_END_DATA) {
             end = tell_some(d, first);
         }
-        for (size_t i = first; i < end && lwa_enters(d); i++) {
+        for (size_t i = first; i < end && enters(d); i++) {
             lwa_aim(&d->items.at[i]);
         }
         status = ask(d, first, end, &fault);
@@ -333,12 +340,14 @@ lwa_region *lwa_enter(lwa_directive *d)
     }
     act_on_all(d);
     *region = (lwa_region){.in_table = true, .directive = *d};
+    region->directive.from = lwa_from();
     region->directive.way = LWA_END_DATA;
     return region;
 }
 
 void lwa_exit(lwa_region *region)
 {
+    LWA_CHECK(lwa_check_region(region->directive.from));
     act_on_all(&region->directive);
     rattle_dealloc(region->directive.items.at);
     rattle_dealloc(region);

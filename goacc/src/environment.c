@@ -13,8 +13,8 @@
 #define END NULL
 
 /* Behind the prefix. The last two are those of this repository's checks. */
-static const char *const variables[] = {"HOST", "DEVICE", "LOG", "SCRIPT", "REPORT", "SHADOW", "STRICT", "WITHOUT",
-                                        "LEFT_OUT", END};
+static const char *const variables[] = {"HOST", "DEVICE", "LOG", "SCRIPT", "REPORT", "SHADOW", "STRICT", "CHECK",
+                                        "WITHOUT", "LEFT_OUT", END};
 
 static bool has_word(const char *const *list, const char *word, size_t len)
 {
@@ -53,10 +53,12 @@ static void tell_unknown(void)
 void lwa_check_environment(void)
 {
     static const char *const switches[] = {"0", "1", END}, *const shadows[] = {"0", "1", "all", END};
+    static const char *const checks[] = {"0", "1", "all", "error", END};
 
     tell_unknown();
     want_words(PREFIX "LOG", switches, "0 or 1", false);
     want_words(PREFIX "SHADOW", shadows, "0, 1 or all", false);
+    want_words(PREFIX "CHECK", checks, "0, 1, all or error", false);
     want_words(PREFIX "STRICT", lwa_open_names, "words of fill, places, queues and pointers", true);
     if (!lwa_shadow && lwa_named_type() == acc_device_none) {
         lwa_unserved("ACC_DEVICE_TYPE is '%s', and may be host, not_host, nvidia or radeon", getenv("ACC_DEVICE_TYPE"));

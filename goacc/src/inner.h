@@ -77,6 +77,7 @@ typedef struct lwa_block {
     bool given;     /* and the program has its device address by host_data, and may write there */
     bool apart;     /* the runtime differed in whether it is there */
     void *from;     /* the call that has mapped it */
+    struct lwa_known *known; /* with LAMWIEST_CHECK: what is known of its bytes */
 } lwa_block;
 
 /* One item of a directive, in the program's addresses and as the table is told. */
@@ -111,6 +112,7 @@ typedef struct lwa_directive {
     bool may_be_full; /* that there is no room on the device is an answer, and no refusal */
     uintptr_t device; /* of acc_malloc, the device address */
     uint64_t queue;   /* of enter data, exit data and update */
+    void *from;       /* of a region: the call that has begun it */
 } lwa_directive;
 
 /* A data region of a thread; regions of one thread are nested. */
@@ -207,6 +209,11 @@ bool lwa_variable_at(uintptr_t at, size_t len, char text[LWA_NAME]);
 /* The whole variable that has a byte: where it begins, its bytes and its name. */
 bool lwa_object_at(uintptr_t at, uintptr_t *from, size_t *len, char name[LWA_NAME]);
 
+/* The variable that has a byte, for later, and the bytes of one of its elements; 8 where they are not known. And a
+   section of it as above. NULL: the program has none there. */
+const void *lwa_keep_variable(uintptr_t at, size_t *element);
+bool lwa_section_of(const void *variable, uintptr_t at, size_t len, char text[LWA_NAME]);
+
 /* ---- environment.c: the variables of the environment ---- */
 
 /* Ends the program where one has a word that it may not have, and tells of each that there is not. */
@@ -271,9 +278,9 @@ void lwa_map_part(lwa_block *root, uintptr_t at, size_t len, uintptr_t device);
 void lwa_ended(lwa_block *block);
 void lwa_made(lwa_block *block);
 
-/* The device address of a byte of a block, and that of the table for a table address. */
+/* The device address of a byte of a block, and that of the table. */
 uintptr_t lwa_device_of(const lwa_block *block, uintptr_t at);
-uint64_t lwa_place_of(const lwa_block *block, uint64_t told);
+uint64_t lwa_place_of(const lwa_block *block, uintptr_t at);
 
 /* The block of a device address; at: the program's address of that byte. */
 lwa_block *lwa_on_device(uintptr_t device, uintptr_t *at);
@@ -284,9 +291,8 @@ void lwa_forget_blocks(void);
 
 /* ---- mirror.c: bytes between the program and the device ---- */
 
-/* Whether all addresses of a section can be read; and that they have to. */
+/* Whether all addresses of a section can be read. */
 bool lwa_is_memory(uintptr_t at, size_t len);
-void lwa_want_memory(uintptr_t at, size_t len);
 
 /* Makes a copy of a section of a block, in or out, which leaves attached pointers as they are. */
 void lwa_copy(const lwa_block *block, uintptr_t at, size_t len, bool out);
@@ -324,7 +330,6 @@ size_t lwa_first_pointer(const lwa_block *block, uintptr_t at);
 /* ---- directives.c ---- */
 
 bool lwa_is_pointer(const lwa_item *item);
-bool lwa_enters(const lwa_directive *directive);
 bool lwa_copies_in(uint32_t clause);
 
 /* enter data, exit data or update. What the items take is given back. No: there was no room on the device. */
@@ -426,9 +431,9 @@ void lwa_log_directive(const lwa_directive *directive);
 void lwa_log_item(const lwa_directive *directive, size_t i);
 void lwa_log_region(const lwa_directive *directive);
 
-/* wait and step, and the copies that they made. */
+/* wait and step, and each copy that they made. */
 void lwa_log_copies(const char *statement, uint64_t queue);
-void lwa_log_made(uint64_t queue);
+void lwa_log_made(uint64_t queue, const lwa_block *block, uintptr_t at, size_t len, bool out);
 
 void lwa_log_loan(const char *what, const lwa_block *block);
 void lwa_log_refused(const lw_fault *fault);
@@ -502,5 +507,141 @@ void lwa_read_expected(const lwa_block *block, uintptr_t at, size_t len, uint8_t
 /* Around a kernel, which may write wherever it has a pointer to. */
 void lwa_kernel_starts(void);
 void lwa_kernel_ended(void);
+
+/* ---- check.c: reads of stale bytes (LAMWIEST_CHECK) ---- */
+
+extern bool lwa_checked;
+#define LWA_CHECK(call) \
+    do { \
+        if (__builtin_expect(lwa_checked, false)) { \
+            call; \
+        } \
+    } while (0)
+void lwa_start_check(void);
+
+/* An item has acted: whether it left what the device has newer. And a kernel is about to run that has a section of a
+   block, or all of it where its length is 0. */
+void lwa_check_item(const lwa_directive *directive, const lwa_item *item);
+void lwa_check_kernel(const lwa_block *block, uintptr_t at, size_t len);
+
+/* The host is about to read some bytes. What is stale of them is a finding, which is told later. by_words: where the
+   code reads words, it may look at bytes around those that it needs. context: of the signal, as a handler has it. */
+void lwa_check_read(uintptr_t at, size_t len, bool by_words, void *context);
+
+/* Whether the instruction of a signal's context is of `free`. */
+bool lwa_is_in_free(const void *context);
+
+/* Tells what was found since the last time; and once that reads are not seen, and why. Neither in a signal handler that
+   may have interrupted malloc. */
+void lwa_tell_findings(void);
+void lwa_tell_unseen(const char *why);
+
+/* The call that a directive stands in: at the end of a region that of its start. */
+void lwa_check_region(void *from);
+void *lwa_check_from(void);
+
+/* Each call of the program begins so; and its end. Whether the program has to end with status 1 then. */
+void lwa_check_call(void);
+bool lwa_finish_check(void);
+
+/* ---- behind.c: which bytes are stale ---- */
+
+typedef enum lwa_staleness { LWA_NEW, LWA_BEHIND, LWA_OVERWRITTEN, LWA_UNFILLED } lwa_staleness;
+typedef enum lwa_why { LWA_MAPPED, LWA_HELD, LWA_DELETED, LWA_REGION_ENDED } lwa_why;
+
+/* Why a byte is not new; and the place of a cause in their list, twice, and 1 more behind a finding. */
+typedef struct lwa_cause {
+    lwa_staleness stale;
+    uintptr_t at; /* the mapped section that has the byte */
+    size_t len;
+    const void *wrote;  /* the kernel that wrote a newer one */
+    const void *missed; /* the directive that did not copy it, or that copied it though it was stale */
+    lwa_why why;
+    uint32_t clause; /* that the directive had */
+    const void *variable;
+    size_t element;
+} lwa_cause;
+typedef uint16_t lwa_mark;
+typedef struct lwa_known lwa_known;
+const lwa_cause *lwa_cause_of(lwa_mark mark);
+
+/* A page with stale bytes of the host. */
+#define LWA_PAGE 4096
+typedef struct lwa_page {
+    uintptr_t at;
+    size_t stale;         /* how many are to be told when they are read */
+    size_t marked;        /* and how many there are, with those that were told */
+    size_t touches;       /* beside them */
+    uintptr_t next_write; /* behind the last byte that was written, and how many writes were in a row */
+    size_t row;
+    enum { LWA_UNKNOWN, LWA_WRITABLE, LWA_OTHER } access; /* what the program may do there, as it was asked last */
+    bool kept;
+    lwa_mark marks[LWA_PAGE];
+} lwa_page;
+lwa_page *lwa_page_of(uintptr_t at);
+void lwa_each_page(uintptr_t from, uintptr_t until, void (*act)(lwa_page *));
+
+/* The host wrote a section, or may have; and all. */
+void lwa_host_is_new(uintptr_t at, size_t len);
+void lwa_host_is_all_new(void);
+
+/* The host gives the memory back that some stale bytes are in. */
+void lwa_host_gives_back(uintptr_t at, size_t len);
+
+/* A section that is stale for one reason, of what the host reads; it is passed over from now on. No: all is new. */
+typedef struct lwa_stale {
+    lwa_mark mark;
+    uintptr_t at;
+    size_t len;
+} lwa_stale;
+bool lwa_is_host_stale(uintptr_t at, size_t len);
+bool lwa_read_by_host(uintptr_t at, size_t len, bool by_words, lwa_stale *found);
+
+/* The same of the device's bytes of a block, for which a kernel gives no reason. */
+lwa_staleness lwa_stale_for_kernel(const lwa_block *block, uintptr_t *at, size_t *len);
+
+/* A block is mapped, with its bytes; is_filled: whether somebody may have filled them. */
+void lwa_behind_born(lwa_block *block, bool is_filled);
+
+/* Before a copy; behind acc_memcpy_to_device or the other; before a kernel that has a block, behind a kernel, or in
+   shadow mode behind another call; and behind a directive that did not copy a section. */
+void lwa_behind_copied(const lwa_block *block, uintptr_t at, size_t len, bool out);
+void lwa_behind_moved(uintptr_t host, uintptr_t device, size_t len, bool out);
+void lwa_behind_lent(const lwa_block *block, uintptr_t at, size_t len);
+void lwa_behind_kernel(bool is_kernel);
+void lwa_behind_left(const lwa_block *block, uintptr_t at, size_t len, uint32_t clause, lwa_why why);
+
+/* ---- instructions.c: what an instruction reads and writes ---- */
+
+/* Whether Zydis was there when this library was built, which reads them. */
+extern const bool lwa_reads_instructions;
+
+/* What the instruction of a signal's context reads and writes; of each repetition that is counted, all. by_words: it is
+   of the C library, which reads whole words around the bytes that it needs. touched: the address that was refused. */
+typedef struct lwa_reach {
+    uintptr_t at;
+    size_t len;
+    bool reads, writes, by_words;
+} lwa_reach;
+enum { LWA_REACHES = 4 };
+size_t lwa_reaches(const void *context, uintptr_t touched, lwa_reach list[LWA_REACHES]);
+
+/* Whether code is of the C library. */
+bool lwa_is_of_libc(uintptr_t ip);
+
+/* ---- system_calls.c: what system calls read and write ---- */
+
+/* Whether the program has to make a call itself, since it is about its signals, its threads or its place. */
+bool lwa_is_call_of_program(long number);
+
+/* Before a call of these arguments, and behind it. */
+void lwa_before_call(long number, const long arguments[6], void *context);
+void lwa_behind_call(long number, const long arguments[6], long answer);
+
+/* ---- pages.c: reads and writes of the host in pages with stale bytes ---- */
+
+/* Keeps these pages from being read and written unseen; and lets this library, or a kernel, read and write them. */
+void lwa_keep_pages(void);
+void lwa_open_pages(void);
 
 #endif

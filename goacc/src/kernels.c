@@ -186,6 +186,7 @@ void lwa_kernel(void (*run)(void *), void *given, const lwa_maps *maps, const lw
         device[i] = given != NULL ? NULL : device_address(maps, i, block, slots);
         if (block != NULL) {
             blocks[count++] = block->root;
+            LWA_CHECK(lwa_check_kernel(block, (uintptr_t)maps->at[i], maps->sizes[i]));
         }
     }
     for (size_t i = 0; i < count; i++) {
@@ -194,6 +195,7 @@ void lwa_kernel(void (*run)(void *), void *given, const lwa_maps *maps, const lw
     lwa_kernel_starts();
     lwa_run_free(run, given != NULL ? given : device, true);
     lwa_kernel_ended();
+    LWA_CHECK(lwa_shadow ? (void)0 : lwa_behind_kernel(true));
     for (size_t i = 0; i < count; i++) {
         bring_back(blocks[i]);
     }
@@ -210,6 +212,7 @@ void lwa_write_on_device(const lwa_block *block, uintptr_t at, uint64_t value)
     lw_fault fault;
 
     pointer.told += at - block->at;
+    pointer.place = lwa_place_of(block, at);
     pointer.bytes += at - block->at;
     pointer.at = at;
     pointer.len = LWA_POINTER;

@@ -2,28 +2,15 @@
    addresses. */
 #include <inttypes.h>
 #include <stdio.h>
-#include <stdlib.h>
 #include <string.h>
 
 #include "inner.h"
 
-/* A copy; at once where the queue is LW_NO_QUEUE_GIVEN. */
-typedef struct copy {
-    uint64_t queue;
-    uintptr_t at;
-    size_t len;
-    uint64_t place;
-    bool out;
-} copy;
-
 bool lwa_logged;
 
-/* What is kept beside one table: the copies that wait, in the order in which they were put, and the line at the end. Of
-   the copies, [0] is of those in, and [1] of those out. */
+/* The line at the end, for each table. Of the copies, [0] is of those in, and [1] of those out. */
 static struct {
-    copy *waiting;
-    size_t count, room;
-    uint64_t mapped, ended, refused, copies[2], bytes[2];
+    uint64_t mapped, ended, refused, waiting, copies[2], bytes[2];
 } all[LWA_DEVICES];
 
 #define OWN all[lwa_on]
@@ -31,7 +18,6 @@ static struct {
 void lwa_start_log(void)
 {
     lwa_logged = lwa_is_on("LAMWIEST_LOG");
-    free(OWN.waiting);
     memset(&OWN, 0, sizeof OWN);
 }
 
@@ -72,27 +58,29 @@ static const char *name(uintptr_t at, size_t len)
 
 /* ---- Copies ---- */
 
-static void count_copy(const copy *c)
+static void count_copy(size_t len, bool out)
 {
-    OWN.copies[c->out]++;
-    OWN.bytes[c->out] += c->len;
+    OWN.copies[out]++;
+    OWN.bytes[out] += len;
 }
 
-/* A copy of an item, which is made or put into its queue. */
-static void say_copy(size_t item, const copy *c)
+/* The copy of an item, which is made or put into its queue. */
+static void say_copy(const lwa_directive *d, const lwa_item *item, size_t i)
 {
-    const char *way = c->out ? "out" : "in";
+    const bool out = item->did.way == LW_OUT, waits = d->queue != LW_NO_QUEUE_GIVEN;
+    char queue[32] = "";
 
-    if (c->queue == LW_NO_QUEUE_GIVEN) {
-        count_copy(c);
-        say("  item %zu: copied %s %#" PRIxPTR " %zu at %#" PRIx64 "%s", item, way, c->at, c->len, c->place,
-            name(c->at, c->len));
+    if (item->did.way == 0) {
         return;
     }
-    OWN.waiting = lwa_grown(OWN.waiting, OWN.count, &OWN.room, sizeof *OWN.waiting);
-    OWN.waiting[OWN.count++] = *c;
-    say("  item %zu: put %s %#" PRIxPTR " %zu at %#" PRIx64 " queue %" PRIu64 "%s", item, way, c->at, c->len, c->place,
-        c->queue, name(c->at, c->len));
+    if (waits) {
+        OWN.waiting++;
+        snprintf(queue, sizeof queue, " queue %" PRIu64, d->queue);
+    } else {
+        count_copy(item->len, out);
+    }
+    say("  item %zu: %s %s %#" PRIxPTR " %zu at %#" PRIx64 "%s%s", i, waits ? "put" : "copied", out ? "out" : "in",
+        item->at, item->len, lwa_place_of(item->block, item->at), queue, name(item->at, item->len));
 }
 
 void lwa_log_copies(const char *statement, uint64_t queue)
@@ -104,22 +92,13 @@ void lwa_log_copies(const char *statement, uint64_t queue)
     }
 }
 
-/* The copy of a queue that was put first is made. */
-void lwa_log_made(uint64_t queue)
+void lwa_log_made(uint64_t queue, const lwa_block *block, uintptr_t at, size_t len, bool out)
 {
-    size_t i = 0;
-    copy c;
-
-    while (i < OWN.count && OWN.waiting[i].queue != queue) {
-        i++;
-    }
-    if (i < OWN.count) {
-        c = OWN.waiting[i];
-        count_copy(&c);
-        say("  copied %s %#" PRIxPTR " %zu at %#" PRIx64 " queue %" PRIu64 "%s", c.out ? "out" : "in", c.at, c.len,
-            c.place, queue, name(c.at, c.len));
-        OWN.count--;
-        memmove(&OWN.waiting[i], &OWN.waiting[i + 1], (OWN.count - i) * sizeof c);
+    if (lwa_logged) {
+        OWN.waiting--;
+        count_copy(len, out);
+        say("  copied %s %#" PRIxPTR " %zu at %#" PRIx64 " queue %" PRIu64 "%s", out ? "out" : "in", at, len,
+            lwa_place_of(block, at), queue, name(at, len));
     }
 }
 
@@ -161,18 +140,9 @@ static void say_range(size_t i, const char *what, const lwa_block *block)
 {
     lw_mapped_range range = {0};
 
-    lw_range_at(lwa_table(), block->told, &range);
+    lw_range_at(lwa_table(), 0, block->told, &range);
     say("  item %zu: %s %#" PRIxPTR " %zu at %#" PRIx64 " structured %" PRIu64 " dynamic %" PRIu64 "%s", i, what,
         block->at, block->len, range.place, range.structured, range.dynamic, name(block->at, block->len));
-}
-
-/* The copy of an item. */
-static void say_item_copy(const lwa_directive *d, const lwa_item *item, size_t i)
-{
-    if (item->did.way != 0) {
-        say_copy(i, &(copy){d->queue, item->at, item->len, lwa_place_of(item->block, item->told.start),
-                            item->did.way == LW_OUT});
-    }
 }
 
 static void say_pointer(const lwa_item *item, size_t i)
@@ -214,13 +184,13 @@ void lwa_log_item(const lwa_directive *d, size_t i)
     }
     switch (item->did.step) {
     case LW_MOVED:
-        say_item_copy(d, item, i);
+        say_copy(d, item, i);
         break;
     case LW_BORN:
     case LW_COUNTED:
         OWN.mapped += item->did.step == LW_BORN;
         say_range(i, item->did.step == LW_BORN ? "mapped" : "counted", item->block);
-        say_item_copy(d, item, i);
+        say_copy(d, item, i);
         if (item->did.way == 0 && lwa_copies_in(item->clause)) {
             say("  item %zu: skipped in %#" PRIxPTR " %zu present%s", i, item->at, item->len,
                 name(item->at, item->len));
@@ -238,9 +208,9 @@ void lwa_log_item(const lwa_directive *d, size_t i)
     case LW_ENDED_RANGE:
         OWN.ended++;
         say_pointer(item, i);
-        say_item_copy(d, item, i);
+        say_copy(d, item, i);
         say("  item %zu: ended %#" PRIxPTR " %zu at %#" PRIx64 "%s", i, item->block->at, item->block->len,
-            lwa_place_of(item->block, item->block->told), name(item->block->at, item->block->len));
+            item->block->place, name(item->block->at, item->block->len));
         break;
     default:
         if (d->way != LWA_END_DATA || item->did.aim != 0) {
@@ -255,7 +225,7 @@ void lwa_log_loan(const char *what, const lwa_block *block)
 {
     if (lwa_logged) {
         say("  %s %#" PRIxPTR " %zu at %#" PRIx64 " serial %" PRIu64 "%s", what, block->at, block->len,
-            lwa_place_of(block, block->told), block->lease, name(block->at, block->len));
+            block->place, block->lease, name(block->at, block->len));
     }
 }
 
@@ -274,7 +244,7 @@ void lwa_finish_log(void)
 {
     if (lwa_logged) {
         fprintf(stderr, "lamwiest: total mapped %" PRIu64 " ended %" PRIu64 " copied in %" PRIu64 " bytes %" PRIu64
-                " copied out %" PRIu64 " bytes %" PRIu64 " waiting %zu refused %" PRIu64 "\n", OWN.mapped, OWN.ended,
-                OWN.copies[0], OWN.bytes[0], OWN.copies[1], OWN.bytes[1], OWN.count, OWN.refused);
+                " copied out %" PRIu64 " bytes %" PRIu64 " waiting %" PRIu64 " refused %" PRIu64 "\n", OWN.mapped,
+                OWN.ended, OWN.copies[0], OWN.bytes[0], OWN.copies[1], OWN.bytes[1], OWN.waiting, OWN.refused);
     }
 }

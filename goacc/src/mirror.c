@@ -54,17 +54,11 @@ bool lwa_is_memory(uintptr_t at, size_t len)
     return true;
 }
 
-void lwa_want_memory(uintptr_t at, size_t len)
-{
-    if (len != 0 && !lwa_is_memory(at, len)) {
-        lwa_unserved("the %zu bytes of host memory at %#zx are to be copied, and are not there", len, (size_t)at);
-    }
-}
-
 static void move(const lwa_block *block, uintptr_t at, size_t len, bool out)
 {
     uint8_t *there = block->bytes + (at - block->at);
 
+    LWA_CHECK(lwa_behind_copied(block, at, len, out));
     if (lwa_shadow && out) {
         lwa_expect(at, len, block->root->open || block->root->given || block->meets ? NULL : there);
         return;
@@ -91,7 +85,9 @@ void lwa_copy(const lwa_block *block, uintptr_t at, size_t len, bool out)
     const uintptr_t end = at + len;
     size_t i = lwa_first_pointer(block, at);
 
-    lwa_want_memory(at, len);
+    if (len != 0 && !lwa_is_memory(at, len)) {
+        lwa_unserved("the %zu bytes of host memory at %#zx are to be copied, and are not there", len, (size_t)at);
+    }
     for (; i < block->pointer_count && block->pointers[i].at < end; i++) {
         const uintptr_t pointer = block->pointers[i].at;
 
@@ -155,7 +151,7 @@ bool lwa_step(uint64_t queue)
             return false;
         }
         lwa_room();
-        status = lw_step(lwa_table(), queue, &made, &fault);
+        status = lw_step(lwa_table(), 0, queue, &made, &fault);
     } while (lwa_is_lent(status));
     lwa_must(status, &fault);
     if (made != 1) {
@@ -166,7 +162,7 @@ bool lwa_step(uint64_t queue)
     lwa_watch_copy(queue, w.block, w.at, w.len, w.out);
     compare_put(&w);
     lwa_copy(w.block, w.at, w.len, w.out);
-    lwa_log_made(queue);
+    lwa_log_made(queue, w.block, w.at, w.len, w.out);
     lwa_made(w.block);
     return true;
 }
@@ -190,7 +186,7 @@ void lwa_wait(uint64_t queue)
     }
     lwa_script_copies("wait", queue);
     lwa_room();
-    status = lw_wait(lwa_table(), queue, &made, &fault);
+    status = lw_wait(lwa_table(), 0, queue, &made, &fault);
     lwa_must(status, &fault);
     if (made != 0) {
         lwa_unserved("the table had %zu copies more", (size_t)made);

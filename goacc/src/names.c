@@ -30,6 +30,20 @@ bool lwa_object_at(uintptr_t at, uintptr_t *from, size_t *len, char name[LWA_NAM
     return false;
 }
 
+const void *lwa_keep_variable(uintptr_t at, size_t *element)
+{
+    (void)at;
+    *element = LWA_POINTER;
+    return NULL;
+}
+
+bool lwa_section_of(const void *variable, uintptr_t at, size_t len, char text[LWA_NAME])
+{
+    (void)variable, (void)at, (void)len;
+    text[0] = '\0';
+    return false;
+}
+
 #else
 #include <dlfcn.h>
 #include <dwarf.h>
@@ -396,9 +410,9 @@ static void add_section(Dwarf_Die type, size_t offset, size_t len, char text[LWA
     }
 }
 
-bool lwa_variable_at(uintptr_t at, size_t len, char text[LWA_NAME])
+bool lwa_section_of(const void *kept, uintptr_t at, size_t len, char text[LWA_NAME])
 {
-    const variable *v = variable_at(at);
+    const variable *v = kept;
 
     text[0] = '\0';
     if (v == NULL) {
@@ -411,6 +425,38 @@ bool lwa_variable_at(uintptr_t at, size_t len, char text[LWA_NAME])
         add(text, " + %zu bytes", (size_t)(at - v->at));
     }
     return true;
+}
+
+bool lwa_variable_at(uintptr_t at, size_t len, char text[LWA_NAME])
+{
+    return lwa_section_of(variable_at(at), at, len, text);
+}
+
+/* The bytes of an element of the array, or of the first member, that a byte of a type is in; or those of a pointer. */
+static size_t element_of(Dwarf_Die type, size_t offset)
+{
+    char text[LWA_NAME] = "";
+    Dwarf_Word size = 0;
+
+    while (dwarf_tag(&type) == DW_TAG_structure_type || dwarf_tag(&type) == DW_TAG_class_type) {
+        if (!go_into_member(&type, &offset, 1, text)) {
+            return LWA_POINTER;
+        }
+    }
+    if (dwarf_tag(&type) == DW_TAG_array_type) {
+        size = dimension_of(&type).stride;
+    } else if (dwarf_tag(&type) == DW_TAG_base_type) {
+        dwarf_aggregate_size(&type, &size);
+    }
+    return size != 0 ? size : LWA_POINTER;
+}
+
+const void *lwa_keep_variable(uintptr_t at, size_t *element)
+{
+    const variable *v = variable_at(at);
+
+    *element = v != NULL && v->has_type ? element_of(v->type, at - v->at) : LWA_POINTER;
+    return v != NULL ? memcpy(lwa_memory(NULL, sizeof *v), v, sizeof *v) : NULL;
 }
 
 bool lwa_object_at(uintptr_t at, uintptr_t *from, size_t *len, char name[LWA_NAME])

@@ -5,7 +5,6 @@
  * So before an item that attaches, the target's table address is written. What a kernel has left in the pointer is told
  * before, since the table compares it.
  */
-#include <stdlib.h>
 #include <string.h>
 
 #include "inner.h"

@@ -84,7 +84,7 @@ LWA_EXPORT int acc_is_present(void *at, size_t len)
         block = lwa_inside((uintptr_t)at, asked);
         present = 0;
         if (lwa_is_of_program(block)) {
-            lw_is_present(lwa_table(), block->told + ((uintptr_t)at - block->at), asked, &present);
+            lw_is_present(lwa_table(), 0, block->told + ((uintptr_t)at - block->at), asked, &present);
         }
     }
     LWA_LEAVE(present = lwa_answer(present, LWA_NEXT(acc_is_present)(at, len) != 0));

@@ -318,14 +318,14 @@ void lwa_script_copies(const char *statement, uint64_t queue)
 
 static void write_report(FILE *to)
 {
-    uint8_t *text = NULL;
+    char *text = NULL;
     uint64_t len = 0;
     lw_fault fault;
 
     /* The first call tells the length. */
-    if (lw_report(lwa_table(), &(uint8_t){0}, 0, &len, &fault) == LW_BAD_LENGTH) {
-        text = lwa_memory(NULL, fault.value);
-        lwa_must(lw_report(lwa_table(), text, fault.value, &len, &fault), &fault);
+    if (lw_report(lwa_table(), NULL, 0, &len, &fault) == LW_BAD_LENGTH) {
+        text = lwa_memory(NULL, len + 1);
+        lwa_must(lw_report(lwa_table(), text, len + 1, &len, &fault), &fault);
     }
     fwrite(text, 1, len, to);
     free(text);

@@ -278,9 +278,8 @@ static void compare_place(const watched *w, lwa_block *block)
 {
     const uintptr_t came = (uintptr_t)LWA_NEXT(acc_deviceptr)((void *)block->at);
 
-    if (block->device == 0 && came != lwa_place_of(block, block->told) && !lwa_is_open(LWA_OPEN_PLACES)) {
-        differ(w, "device address: the table has %#" PRIx64 ", the runtime %#" PRIxPTR,
-               lwa_place_of(block, block->told), came);
+    if (block->device == 0 && came != block->place && !lwa_is_open(LWA_OPEN_PLACES)) {
+        differ(w, "device address: the table has %#" PRIx64 ", the runtime %#" PRIxPTR, block->place, came);
     } else if (block->device != 0 && came != block->device) {
         differ(w, "device address: the table has %#" PRIxPTR ", the runtime %#" PRIxPTR, block->device, came);
     }
@@ -451,6 +450,7 @@ static void compare_all(void)
         }
     }
     compare_host();
+    LWA_CHECK(lwa_behind_kernel(call.ends_kernel));
 }
 
 void lwa_compare(void)

@@ -5,7 +5,6 @@
 #include <pthread.h>
 #include <stdio.h>
 #include <stdlib.h>
-#include <string.h>
 #include <unistd.h>
 
 #include "inner.h"
@@ -54,11 +53,10 @@ static void start_table(void)
     char text[LWA_REFUSAL];
     lw_fault fault;
 
-    lw_limits_default(&lwa_limits);
+    lwa_limits = (lw_limits)LW_LIMITS;
     lwa_limits.host = lwa_number_of("LAMWIEST_HOST", "number of bytes", 16777216);
     lwa_limits.device = lwa_number_of("LAMWIEST_DEVICE", "number of bytes", 16777216);
     lwa_limits.regions = 65536;
-    lwa_limits.tickets = UINT64_C(1) << 40;
     lwa_limits.trace_cap = TRACE;
     if (lw_table_new(lwa_table(), &lwa_limits, &fault) != LW_DONE) {
         lwa_refusal_text(&fault, text);
@@ -142,6 +140,7 @@ void lwa_take_for(const char *name, void *from, int event, int construct)
     }
     take_lock();
     lwa_turn++;
+    LWA_CHECK(lwa_check_call());
     if (ending && !pthread_equal(ender, pthread_self())) {
         sleep_for_good();
     }
@@ -158,6 +157,7 @@ void lwa_take_for(const char *name, void *from, int event, int construct)
 
 void lwa_leave(void)
 {
+    LWA_CHECK(lwa_keep_pages());
     free_lock();
     pthread_setcancelstate(caller.cancel_state, NULL);
     lwa_tell_notes(caller.construct);
@@ -178,7 +178,11 @@ void lwa_run_free(void (*run)(void *), void *addresses, bool on_device)
     lwa_tell(event, outer.construct);
     lwa_in_kernel = on_device;
     lwa_in_runtime = on_device && lwa_shadow;
+    if (!on_device) {
+        LWA_CHECK(lwa_keep_pages());
+    }
     run(addresses);
+    LWA_CHECK(lwa_open_pages());
     lwa_in_kernel = lwa_in_runtime = false;
     lwa_tell(on_device ? event + 1 : event, outer.construct);
     caller = outer;
@@ -242,6 +246,7 @@ static void in_child(void)
 __attribute__((constructor)) static void at_start(void)
 {
     lwa_start_shadow();
+    lwa_start_check();
     lwa_start_report();
     pthread_key_create(&regions_key, end_thread);
     pthread_atfork(take_lock, free_lock, in_child);
@@ -321,13 +326,7 @@ _Noreturn void lwa_end_program(const char *text)
 
 void lwa_refusal_text(const lw_fault *told, char text[LWA_REFUSAL])
 {
-    uint64_t len = 0;
-    lw_fault fault;
-
-    if (lw_fault_text(told, (uint8_t *)text, LWA_REFUSAL - 1, &len, &fault) != LW_DONE) {
-        len = snprintf(text, LWA_REFUSAL, "status %" PRIu32 " of the table", told->status);
-    }
-    text[len] = '\0';
+    lw_fault_text(told, text, LWA_REFUSAL, NULL);
 }
 
 _Noreturn void lwa_refuse(const lw_fault *fault, const char *of)
@@ -380,6 +379,9 @@ void *lwa_grown(void *list, size_t count, size_t *room, size_t size)
 /* At the end of the program the script, the log and the report are ended. The runtime may have ended it in a call. */
 __attribute__((destructor)) static void at_end(void)
 {
+    bool is_wrong = false;
+
+    LWA_CHECK(lwa_open_pages());
     if (has_lock && !lwa_in_runtime) {
         return;
     }
@@ -387,11 +389,16 @@ __attribute__((destructor)) static void at_end(void)
         take_lock();
     }
     if (!ending && !lwa_in_runtime) {
+        LWA_CHECK(is_wrong = lwa_finish_check());
         lwa_each_device(lwa_tell_left);
     }
     ending = true;
     ender = pthread_self();
     lwa_finish_shadow();
     lwa_each_device(lwa_end_table);
+    if (is_wrong) {
+        fflush(NULL);
+        _exit(1);
+    }
     free_lock();
 }

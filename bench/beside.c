@@ -60,7 +60,7 @@ static void map_at(uint32_t clause, uint64_t start)
 {
     lw_item item = {.clause = clause, .start = start, .len = LEN};
 
-    must(lw_enter_data(&table, &item, 1, LW_NO_QUEUE_GIVEN, &fault), "enter data");
+    must(lw_enter_data(&table, 0, &item, 1, LW_ASYNC_SYNC, &fault), "enter data");
 }
 
 static void map(uint32_t clause, size_t n)
@@ -72,7 +72,7 @@ static void unmap_at(uint64_t start)
 {
     lw_item item = {.clause = LW_DELETE, .start = start, .len = LEN};
 
-    must(lw_exit_data(&table, &item, 1, 0, LW_NO_QUEUE_GIVEN, &fault), "exit data");
+    must(lw_exit_data(&table, 0, &item, 1, 0, LW_ASYNC_SYNC, &fault), "exit data");
 }
 
 static void unmap(size_t n)
@@ -136,7 +136,7 @@ static void update_here(uint64_t round)
 {
     lw_item item = {.clause = LW_DEVICE, .start = address(one_of(round, count)), .len = 16};
 
-    must(lw_update(&table, &item, 1, 0, LW_NO_QUEUE_GIVEN, &fault), "update");
+    must(lw_update(&table, 0, &item, 1, 0, LW_ASYNC_SYNC, &fault), "update");
 }
 
 static void update_there(uint64_t round)
@@ -152,7 +152,7 @@ static void region_here(uint64_t round)
     for (size_t n = 0; n < FEW; n++) {
         items[n] = (lw_item){.clause = LW_PRESENT, .start = address(one_of(FEW * round + n, count)), .len = LEN};
     }
-    must(lw_enter(&table, items, FEW, &region, &fault), "enter");
+    must(lw_enter(&table, 0, items, FEW, &region, &fault), "enter");
     must(lw_exit(&table, region, &fault), "exit");
 }
 
@@ -176,11 +176,11 @@ static void many_here(uint64_t round)
     for (size_t n = 0; n < MANY; n++) {
         items[n] = (lw_item){.clause = LW_COPYIN, .start = address(one_of(MANY * round + n, count)), .len = LEN};
     }
-    must(lw_enter_data(&table, items, MANY, LW_NO_QUEUE_GIVEN, &fault), "enter data");
+    must(lw_enter_data(&table, 0, items, MANY, LW_ASYNC_SYNC, &fault), "enter data");
     for (size_t n = 0; n < MANY; n++) {
         items[n].clause = LW_DELETE;
     }
-    must(lw_exit_data(&table, items, MANY, 0, LW_NO_QUEUE_GIVEN, &fault), "exit data");
+    must(lw_exit_data(&table, 0, items, MANY, 0, LW_ASYNC_SYNC, &fault), "exit data");
 }
 
 static void many_there(uint64_t round)
@@ -221,16 +221,14 @@ static void fold(void)
 
 static void make(void)
 {
-    lw_limits limits;
+    lw_limits limits = LW_LIMITS;
     uint64_t made;
 
-    lw_limits_default(&limits);
     limits.host = limits.device = MEMORY;
     limits.trace_cap = TRACE;
-    limits.tickets = UINT64_C(1) << 40;
     must(lw_table_new(&table, &limits, &fault), "table");
     for (size_t n = 0; n < TRACE; n++) {
-        must(lw_wait(&table, LW_NO_QUEUE_GIVEN, &made, &fault), "wait");
+        must(lw_wait(&table, 0, LW_NO_QUEUE_GIVEN, &made, &fault), "wait");
     }
     fold();
 }

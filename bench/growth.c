@@ -115,21 +115,21 @@ static void map(world *world, size_t place)
 {
     lw_item item = {.clause = LW_CREATE, .start = ARRAY(place), .len = LEN};
 
-    must(lw_enter_data(&world->table, &item, 1, LW_NO_QUEUE_GIVEN, &world->fault), "enter data");
+    must(lw_enter_data(&world->table, 0, &item, 1, LW_ASYNC_SYNC, &world->fault), "enter data");
 }
 
 static void unmap(world *world, size_t place)
 {
     lw_item item = {.clause = LW_DELETE, .start = ARRAY(place), .len = LEN};
 
-    must(lw_exit_data(&world->table, &item, 1, 0, LW_NO_QUEUE_GIVEN, &world->fault), "exit data");
+    must(lw_exit_data(&world->table, 0, &item, 1, 0, LW_ASYNC_SYNC, &world->fault), "exit data");
 }
 
 static void enter(world *world, size_t place)
 {
     lw_item item = {.clause = LW_PRESENT, .start = ARRAY(place % 64), .len = LEN};
 
-    must(lw_enter(&world->table, &item, 1, &world->alive[place], &world->fault), "enter");
+    must(lw_enter(&world->table, 0, &item, 1, &world->alive[place], &world->fault), "enter");
 }
 
 static void leave(world *world, size_t place)
@@ -151,14 +151,14 @@ static void attach(world *world, size_t place)
 {
     lw_item item = {.clause = LW_ATTACH, .start = POINTER(place)};
 
-    must(lw_enter_data(&world->table, &item, 1, LW_NO_QUEUE_GIVEN, &world->fault), "attach");
+    must(lw_enter_data(&world->table, 0, &item, 1, LW_ASYNC_SYNC, &world->fault), "attach");
 }
 
 static void detach(world *world, size_t place)
 {
     lw_item item = {.clause = LW_DETACH, .start = POINTER(place)};
 
-    must(lw_exit_data(&world->table, &item, 1, 0, LW_NO_QUEUE_GIVEN, &world->fault), "detach");
+    must(lw_exit_data(&world->table, 0, &item, 1, 0, LW_ASYNC_SYNC, &world->fault), "detach");
 }
 
 static void begin_arrays(world *world, size_t most)
@@ -182,7 +182,7 @@ static void begin_leases(world *world, size_t most)
     for (size_t n = 0; n < most; n++) {
         call(world, map, n, &(times){0, 0});
     }
-    must(lw_enter(&world->table, &item, 1, &world->region, &world->fault), "enter");
+    must(lw_enter(&world->table, 0, &item, 1, &world->region, &world->fault), "enter");
 }
 
 /* One array of pointers, each of which points to the first of the small arrays. */
@@ -198,7 +198,7 @@ static void begin_pointers(world *world, size_t most)
     must(lw_host_write(&world->table, item.start, (const uint8_t *)pointers, item.len, &world->fault), "write");
     free(pointers);
     map(world, 0);
-    must(lw_enter_data(&world->table, &item, 1, LW_NO_QUEUE_GIVEN, &world->fault), "enter data");
+    must(lw_enter_data(&world->table, 0, &item, 1, LW_ASYNC_SYNC, &world->fault), "enter data");
 }
 
 static const kind kinds[] = {
@@ -245,18 +245,16 @@ static const order orders[] = {
 
 static void make(world *world, size_t most)
 {
-    lw_limits limits;
+    lw_limits limits = LW_LIMITS;
     uint64_t made;
 
     *world = (struct world){.table = LW_NO_TABLE, .alive = calloc(most, sizeof *world->alive)};
-    lw_limits_default(&limits);
     limits.host = limits.device = MEMORY;
     limits.regions = 65536;
     limits.trace_cap = TRACE;
-    limits.tickets = UINT64_C(1) << 40;
     must(world->alive ? lw_table_new(&world->table, &limits, &world->fault) : LW_MEMORY, "table");
     for (size_t n = 0; n < TRACE; n++) {
-        must(lw_wait(&world->table, LW_NO_QUEUE_GIVEN, &made, &world->fault), "wait");
+        must(lw_wait(&world->table, 0, LW_NO_QUEUE_GIVEN, &made, &world->fault), "wait");
     }
     fold(world);
 }

@@ -1,19 +1,24 @@
 /*
  * Lamwiest: the data environment of an OpenACC 3.3 runtime, for C and C++.
  *
- * A table is host memory and device memory, both simulated, with what is mapped between them. A call does what a
- * directive of OpenACC 3.3 asks, or is refused and changes nothing. Each of these functions is proved to do what its
- * call of the library does; docs/C.md tells how to build and link it, and docs/MODEL.md what each directive does.
+ * A table is host memory and the memories of one to four devices, all simulated, with what is mapped between them. A
+ * call does what a directive of OpenACC 3.3 asks, or is refused and changes nothing. Behind each of these functions
+ * stands one that is proved to do what its call of the library does; docs/C.md tells how to build and link it, and
+ * docs/MODEL.md what each directive does.
  *
  * Host addresses are those of the simulated host memory, which begins at LW_HOST_BASE. They are no pointers of C.
+ * lw_array hands them out.
  *
  * What a caller owes, since nothing can check it:
- *   - A pointer to a table, a fault, limits or a place for an answer is not NULL, and points to such an object.
- *     A pointer to an array may be NULL where its length is 0; else it points to as many elements.
+ *   - A pointer to a table or a place for an answer is not NULL, and points to such an object. One to a fault or to
+ *     limits may be NULL. One to an array may be NULL where its length is 0; else it points to as many elements.
  *   - A handle begins as LW_NO_TABLE. It is not copied, and nothing but these functions reads or writes it.
- *   - No two of the objects that one call is given overlap.
- *   - A table is used by one thread at a time, and not from a signal handler. There is no lock in this library.
- * All else that is wrong is told: as a status, with no change.
+ *   - No two of the objects that one call is given overlap, and no other thread writes one of them meanwhile.
+ *   - A table is used by one thread at a time, by queries too, which write the handle. It is not used in a signal
+ *     handler, nor in the child that a process with threads forks. Its thread is not cancelled in a call.
+ *   - A thread has 256 KiB of stack for a call.
+ * All else that is wrong is told: as a status, with no change. So is a call that the program's own memory functions
+ * make on the same handle: it is LW_ENDED.
  */
 #ifndef LAMWIEST_H
 #define LAMWIEST_H
@@ -27,8 +32,9 @@ extern "C" {
 
 /* ---- Versions ---- */
 
-/* The version of this header, 0.1.0: a million times the first number, a thousand times the second, and the third. */
-#define LW_VERSION 1000
+/* The version of this header, 0.2.0: a million times the first number, a thousand times the second, and the third. A
+   library with the same first two numbers and any third takes programs that were compiled with this header. */
+#define LW_VERSION 2000
 
 /* The version of the library that the program is linked with. */
 uint32_t lw_version(void);
@@ -41,7 +47,8 @@ enum {
     LW_MEMORY = 1,         /* no memory could be had. For the list of a directive's items, the bytes of a write or one
                               more lease it is told before all that a table refuses; else it is told last of all */
     LW_BAD_CONFIG = 2,     /* a limit is out of its bounds */
-    LW_NO_TICKETS = 3,     /* there are as many events as there may be; value: how many are left, 0 */
+    LW_NO_TICKETS = 3,     /* there are as many events as there may be, and lw_rebase brings none back; value: how many
+                              are left, 0 */
     LW_NO_ALLOWANCE = 4,   /* there are as many open data regions as there may be; value: how many are left, 0 */
     LW_TOO_MANY_ITEMS = 5, /* a directive has more than 64 items; value: how many it has */
     LW_TRACE_FULL = 6,     /* there is no room in the trace (lw_rebase makes some); value: how many events it has */
@@ -56,60 +63,89 @@ enum {
     LW_QUEUE_FULL = 15,    /* a queue has no room for one more transfer; value: its number */
     LW_NO_REGION = 16,     /* no data region of that number is open; value: the number */
     LW_NO_LEASE = 17,      /* no lease of that number is out: there was none, or it was spent; value: the number */
-    LW_NO_DEVICE = 22,     /* there is no such device; value: its number. No call here names one, so none answers it */
+    LW_NO_DEVICE = 22,     /* there is no such device; value: its number */
     LW_ENDED = 32,         /* the handle has no table: none was made, or it was ended */
     LW_BAD_CLAUSE = 33,    /* the clause number of an item is none of the directive's; item. It is told before all else
                               that a table refuses */
     LW_BAD_LENGTH = 34,    /* a buffer is too short, or not as long as a lease; value: the length that is wanted */
-    LW_ABSENT = 35         /* there is no such thing: nothing is mapped there, or no refusal has that status */
+    LW_ABSENT = 35,        /* there is no such thing: nothing is mapped there */
+    LW_BAD_VERSION = 36    /* the limits are those of another header than the library knows: compile the program again;
+                              value: the version of the library */
 };
 
-/* Why a call was refused. A call that is done sets all three to 0. */
+/* The name of a status, as "DeviceFull"; "Done" of LW_DONE, and "" of what is none. */
+const char *lw_status_name(uint32_t status);
+
+/* Why a call was refused. A call that is done sets all three to 0. Where a call is given NULL for its fault, the status
+   alone tells it. */
 typedef struct lw_fault {
     uint32_t status; /* what the call answered */
     uint64_t item;   /* the place of the item in its array, counted from 0; 0 where the refusal names none */
     uint64_t value;  /* the other number of the refusal, as told above; 0 where it has none */
 } lw_fault;
 
+/* How much room the text of each refusal has in a buffer, with the zero at its end. */
+#define LW_FAULT_TEXT_SIZE 66
+
+/* Writes what a refusal says, as "14 DeviceFull item 0 need 32", with a zero at its end, and returns the buffer. A
+   buffer that is too short gets as much as there is room for. Where len is not NULL it gets the text's length, without
+   the zero. The text is the name of the status alone where that is no refusal's, or there is no memory. */
+const char *lw_fault_text(const lw_fault *told, char *buffer, size_t size, uint64_t *len);
+
 /* ---- Tables ---- */
 
 /* A handle of a table. What stands in it is the library's. */
 typedef struct lw_table {
     void *at;
+    uint64_t arrays;
 } lw_table;
 
 /* A handle that has no table. */
-#define LW_NO_TABLE {0}
+#define LW_NO_TABLE {0, 0}
 
-/* Where host memory begins, and where the memory of the one device of a table begins. */
+/* Where host memory begins, where the memory of device 0 begins, and that of each device. */
 #define LW_HOST_BASE UINT64_C(0x1000)
 #define LW_DEVICE_BASE UINT64_C(0x100000000)
+#define LW_DEVICE_BASE_OF(device) (((uint64_t)(device) + 1) * LW_DEVICE_BASE)
 
-/* The limits of a table. */
+/* The limits of a table. They begin as LW_LIMITS, and a limit that is 0 then is as it is by default.
+
+   Two of them end what a table does. Behind trace_cap stored events each call is LW_TRACE_FULL until lw_rebase makes
+   room. Behind tickets events in all each call is LW_NO_TICKETS for good: by default that is 34 years of a thousand
+   events a second. */
 typedef struct lw_limits {
-    uint64_t host;        /* the size of host memory in bytes: a multiple of 16 from 16 to 67,108,864 */
-    uint64_t device;      /* the size of device memory in bytes: a multiple of 16 from 16 to 67,108,864 */
-    uint64_t regions;     /* how many data regions may be open at a time: 1 to 65,536 */
-    uint64_t tickets;     /* how many events there may be in all: 1 to 2^40 */
-    uint64_t counter_max; /* the greatest value of a counter: 1 to 4,294,967,295 */
-    uint64_t queue_cap;   /* how many transfers may wait in one queue: 1 to 4,096 */
-    uint64_t trace_cap;   /* how many events the stored trace may have: 1 to 16,777,216 */
+    uint32_t size;        /* how many bytes these limits have in the program's header */
+    uint32_t version;     /* LW_VERSION of that header */
+    uint64_t host;        /* the size of host memory in bytes: a multiple of 16 up to 67,108,864; by default 65,536 */
+    uint64_t device;      /* the size of each device's memory, as that of the host */
+    uint64_t regions;     /* how many data regions may be open at a time: up to 65,536; by default 64 */
+    uint64_t tickets;     /* how many events there may be in all: up to 2^40; by default 2^40 */
+    uint64_t counter_max; /* the greatest value of a counter: up to 4,294,967,295, as by default */
+    uint64_t queue_cap;   /* how many transfers may wait in one queue: up to 4,096; by default 256 */
+    uint64_t trace_cap;   /* how many events the stored trace may have: up to 16,777,216; by default 262,144 */
     uint64_t full;        /* 1 where the trace stores the bytes that calls bring, too; else 0 */
+    uint64_t devices;     /* how many devices there are: up to 4; by default 1 */
 } lw_limits;
 
-/* The limits that the program accrun gives its tables: two memories of 65,536 bytes, and room for 262,144 events. */
-void lw_limits_default(lw_limits *limits);
+/* How limits begin. A library with further limits takes the limits of this header, too. */
+#define LW_LIMITS {sizeof(lw_limits), LW_VERSION, 0, 0, 0, 0, 0, 0, 0, 0, 0}
 
-/* Puts a new table into a handle: nothing is mapped, no region is open, and host memory is zero. What the handle had is
-   ended. LW_BAD_CONFIG or LW_MEMORY, and the handle stays as it is. */
+/* Puts a new table into a handle: nothing is mapped, no region is open, and host memory is zero. All limits are as by
+   default where limits is NULL. What the handle had is ended. LW_BAD_VERSION, LW_BAD_CONFIG or LW_MEMORY, and the
+   handle stays as it is. */
 uint32_t lw_table_new(lw_table *table, const lw_limits *limits, lw_fault *fault);
 
 /* Ends a table with its leases, and gives back all of its memory. A handle without a table stays so. */
 void lw_table_end(lw_table *table);
 
-/* Folds all events into a base, so that there is room in the trace again. It is no event. folded: how many there
-   were. */
+/* Folds all events into a base, so that there is room in the trace again. Tickets do not come back. It is no event.
+   folded: how many there were. */
 uint32_t lw_rebase(lw_table *table, uint64_t *folded, lw_fault *fault);
+
+/* Hands out the host addresses of an array of so many bytes: the first at LW_HOST_BASE, each other at the least
+   multiple of 16 behind the one before it, as the arrays of a script. LW_OUT_OF_HOST where it does not end in host
+   memory. No address comes back before the table ends. It is no event. */
+uint32_t lw_array(lw_table *table, uint64_t len, uint64_t *start, lw_fault *fault);
 
 /* ---- Items of data clauses (OpenACC 3.3, sections 2.6 and 2.7) ---- */
 
@@ -139,66 +175,90 @@ typedef struct lw_item {
                          on exit (section 2.6.8); 0 for none */
 } lw_item;
 
-/* In place of a queue: the copies of the directive are made at once; and for lw_wait, all queues. */
+/* The argument of an async clause (section 2.16), in a type of its own, so that no other number stands in its place. */
+typedef struct lw_async {
+    int64_t number;
+} lw_async;
+
+/* async(number): the copies wait in the queue of that number, from 0 to 15. */
+static inline lw_async lw_queue(int64_t number)
+{
+    lw_async async;
+
+    async.number = number;
+    return async;
+}
+
+/* No async clause, as acc_async_sync: the copies are made at once. And one without an argument, as acc_async_noval:
+   they wait in queue 0. */
+#define LW_ASYNC_SYNC lw_queue(-2)
+#define LW_ASYNC_NOVAL lw_queue(-1)
+
+/* In place of the queue of lw_wait: all queues. */
 #define LW_NO_QUEUE_GIVEN UINT64_MAX
 
 /* ---- Directives ---- */
 
-/* Items act in their order. LW_BAD_CLAUSE tells the first one whose clause is none of the directive's. LW_LENT where a
+/* Each is on a device, whose number is from 0 on: LW_NO_DEVICE where the table has none of that number.
+
+   Items act in their order. LW_BAD_CLAUSE tells the first one whose clause is none of the directive's. LW_LENT where a
    block is lent whose counter an item takes down, whose bytes it copies at once, or in which it attaches or detaches a
    pointer. */
 
 /* The start of a data construct (section 2.6.5). region: the number by which lw_exit exits from it. */
-uint32_t lw_enter(lw_table *table, const lw_item *items, size_t count, uint64_t *region, lw_fault *fault);
+uint32_t lw_enter(lw_table *table, uint64_t device, const lw_item *items, size_t count, uint64_t *region,
+                  lw_fault *fault);
 
 /* The end of a data construct (section 2.6.5). LW_LENT where a block is lent whose counter it takes down, or in which
    it detaches a pointer. */
 uint32_t lw_exit(lw_table *table, uint64_t region, lw_fault *fault);
 
-/* enter data (section 2.6.6). With async its copies wait in a queue, from 0 to 15 (section 2.16). */
-uint32_t lw_enter_data(lw_table *table, const lw_item *items, size_t count, uint64_t queue, lw_fault *fault);
+/* enter data (section 2.6.6). */
+uint32_t lw_enter_data(lw_table *table, uint64_t device, const lw_item *items, size_t count, lw_async async,
+                       lw_fault *fault);
 
 /* exit data (section 2.6.6), without the finalize clause where that is 0, and else with it. */
-uint32_t lw_exit_data(lw_table *table, const lw_item *items, size_t count, uint32_t finalize, uint64_t queue,
-                      lw_fault *fault);
+uint32_t lw_exit_data(lw_table *table, uint64_t device, const lw_item *items, size_t count, uint32_t finalize,
+                      lw_async async, lw_fault *fault);
 
 /* update, without the if_present clause where that is 0, and else with it. */
-uint32_t lw_update(lw_table *table, const lw_item *items, size_t count, uint32_t if_present, uint64_t queue,
-                   lw_fault *fault);
+uint32_t lw_update(lw_table *table, uint64_t device, const lw_item *items, size_t count, uint32_t if_present,
+                   lw_async async, lw_fault *fault);
 
-/* wait: all copies of a queue are made, or those of all queues. made: how many they were. LW_LENT where the block of
-   one of them is lent. */
-uint32_t lw_wait(lw_table *table, uint64_t queue, uint64_t *made, lw_fault *fault);
+/* wait: all copies of a queue of the device are made, or those of all its queues. made: how many they were. LW_LENT
+   where the block of one of them is lent. */
+uint32_t lw_wait(lw_table *table, uint64_t device, uint64_t queue, uint64_t *made, lw_fault *fault);
 
 /* The device makes the next copy of a queue. made: 1, or 0 where the queue was empty, which is no event. Where there is
    no ticket or no room in the trace, the step of an empty queue is refused too. LW_LENT where the copy's block is
    lent. */
-uint32_t lw_step(lw_table *table, uint64_t queue, uint64_t *made, lw_fault *fault);
+uint32_t lw_step(lw_table *table, uint64_t device, uint64_t queue, uint64_t *made, lw_fault *fault);
 
-/* ---- The bytes of the two memories ---- */
+/* ---- The bytes of the memories ---- */
 
 /* The host writes bytes into its memory. The device's bytes stay. LW_OUT_OF_HOST where some byte is not there. */
-uint32_t lw_host_write(lw_table *table, uint64_t start, const uint8_t *bytes, size_t len, lw_fault *fault);
+uint32_t lw_host_write(lw_table *table, uint64_t start, const void *bytes, size_t len, lw_fault *fault);
 
 /* Copies bytes of host memory. LW_OUT_OF_HOST where some byte is not there. It is no event. */
-uint32_t lw_host_read(lw_table *table, uint64_t start, uint8_t *bytes, size_t len, lw_fault *fault);
+uint32_t lw_host_read(lw_table *table, uint64_t start, void *bytes, size_t len, lw_fault *fault);
 
-/* Copies the bytes that the device has of host addresses. LW_ABSENT where these are not in one mapped range, or their
+/* Copies the bytes that a device has of host addresses. LW_ABSENT where these are not in one mapped range, or their
    block is lent; always where len is 0. It is no event. */
-uint32_t lw_device_read(lw_table *table, uint64_t start, uint8_t *bytes, size_t len, lw_fault *fault);
+uint32_t lw_device_read(lw_table *table, uint64_t device, uint64_t start, void *bytes, size_t len, lw_fault *fault);
 
 /* ---- Kernels: a loan of the device's bytes (section 2.5, compute constructs) ---- */
 
-/* Lends the device's bytes of a section, which lies in one mapped range, in an open data region. lease: the number of
-   the lease. Until lw_gather spends it, lw_lease_read and lw_lease_write alone reach these bytes. The whole block is
-   lent: LW_LENT where it is already. */
+/* Lends the device's bytes of a section, which lies in one mapped range, in an open data region; the device is the
+   region's. Where enter data alone has mapped it, lw_enter of the section as LW_PRESENT makes the region. lease: the
+   number of the lease. Until lw_gather spends it, lw_lease_read and lw_lease_write alone reach these bytes. The whole
+   block is lent: LW_LENT where it is already. */
 uint32_t lw_lend(lw_table *table, uint64_t region, uint64_t start, uint64_t len, uint64_t *lease, lw_fault *fault);
 
 /* Copies the bytes of a lease. LW_BAD_LENGTH where len is not the length of its section. It is no event. */
-uint32_t lw_lease_read(lw_table *table, uint64_t lease, uint8_t *bytes, size_t len, lw_fault *fault);
+uint32_t lw_lease_read(lw_table *table, uint64_t lease, void *bytes, size_t len, lw_fault *fault);
 
 /* Writes the bytes of a lease, as the kernel leaves them. LW_BAD_LENGTH as above. It is no event. */
-uint32_t lw_lease_write(lw_table *table, uint64_t lease, const uint8_t *bytes, size_t len, lw_fault *fault);
+uint32_t lw_lease_write(lw_table *table, uint64_t lease, const void *bytes, size_t len, lw_fault *fault);
 
 /* Brings a lease back: the device has its bytes again, as they were last written. A lease that is refused stays.
    LW_NO_LEASE is told before all else. */
@@ -207,7 +267,7 @@ uint32_t lw_gather(lw_table *table, uint64_t lease, lw_fault *fault);
 /* ---- Queries ---- */
 
 /* They answer LW_DONE, LW_ENDED, or LW_ABSENT where there is nothing to find. An answer is written only if it is
-   LW_DONE. */
+   LW_DONE. On a device that is not there nothing is mapped or waits. */
 
 /* The two reference counters of a mapped range (section 2.6.7). */
 typedef struct lw_counters_of {
@@ -226,31 +286,56 @@ typedef struct lw_mapped_range {
 } lw_mapped_range;
 
 /* present: 1 where the section is not empty and in one mapped range, else 0 (acc_is_present). */
-uint32_t lw_is_present(lw_table *table, uint64_t start, uint64_t len, uint64_t *present);
+uint32_t lw_is_present(lw_table *table, uint64_t device, uint64_t start, uint64_t len, uint64_t *present);
 
 /* place: the device address of a host address (acc_deviceptr). LW_ABSENT where it is not mapped. */
-uint32_t lw_device_address(lw_table *table, uint64_t address, uint64_t *place);
+uint32_t lw_device_address(lw_table *table, uint64_t device, uint64_t address, uint64_t *place);
 
 /* The counters of the mapped range that a section is inside. LW_ABSENT where it is inside none. */
-uint32_t lw_counters(lw_table *table, uint64_t start, uint64_t len, lw_counters_of *counters);
+uint32_t lw_counters(lw_table *table, uint64_t device, uint64_t start, uint64_t len, lw_counters_of *counters);
 
 /* count: how often a pointer is attached on the device (section 2.6.8). */
-uint32_t lw_attachment(lw_table *table, uint64_t pointer, uint64_t *count);
+uint32_t lw_attachment(lw_table *table, uint64_t device, uint64_t pointer, uint64_t *count);
+
+/* An attached pointer. */
+typedef struct lw_attached_pointer {
+    uint64_t pointer; /* its host address */
+    uint64_t count;   /* how often it is attached */
+    uint64_t block;   /* the number of the block that has its copy */
+} lw_attached_pointer;
+
+/* The attached pointer of least host address that begins in a section inside one mapped range. LW_ABSENT where there is
+   none. */
+uint32_t lw_attached(lw_table *table, uint64_t device, uint64_t start, uint64_t len, lw_attached_pointer *attached);
 
 /* The mapped range of least start at or above a host address. LW_ABSENT where there is none. */
-uint32_t lw_mapped(lw_table *table, uint64_t from, lw_mapped_range *mapped);
+uint32_t lw_mapped(lw_table *table, uint64_t device, uint64_t from, lw_mapped_range *mapped);
 
 /* The mapped range that a host address is in. LW_ABSENT where it is in none. */
-uint32_t lw_range_at(lw_table *table, uint64_t address, lw_mapped_range *mapped);
+uint32_t lw_range_at(lw_table *table, uint64_t device, uint64_t address, lw_mapped_range *mapped);
 
 /* len: how many copies wait in a queue; 0 where there is no such queue. */
-uint32_t lw_queue_len(lw_table *table, uint64_t queue, uint64_t *len);
+uint32_t lw_queue_len(lw_table *table, uint64_t device, uint64_t queue, uint64_t *len);
 
-/* used: how many bytes of device memory all blocks take. */
-uint32_t lw_used(lw_table *table, uint64_t *used);
+/* A block whose mapping has ended, and which copies that wait keep (section 2.16). */
+typedef struct lw_ended_mapping {
+    uint64_t place; /* the device address of its first byte */
+    uint64_t size;  /* how many bytes of device memory it takes */
+    uint64_t pins;  /* how many copies that wait name it */
+} lw_ended_mapping;
 
-/* regions: how many data regions are open. */
+/* Such a block, that of least place at or above a device address. LW_ABSENT where there is none. */
+uint32_t lw_ended_block(lw_table *table, uint64_t device, uint64_t from, lw_ended_mapping *ended);
+
+/* used: how many bytes of the device's memory all its blocks take. */
+uint32_t lw_used(lw_table *table, uint64_t device, uint64_t *used);
+
+/* regions: how many data regions are open, on all devices. */
 uint32_t lw_regions(lw_table *table, uint64_t *regions);
+
+/* region: the number of the open data region that was entered last, on whichever device. LW_ABSENT where none is
+   open. */
+uint32_t lw_innermost(lw_table *table, uint64_t *region);
 
 /* events: how many events there were in all. Each accepted directive, write, loan and gather is one, but for the step
    of an empty queue. */
@@ -303,19 +388,35 @@ uint32_t lw_did(lw_table *table, uint64_t item, lw_item_did *did);
 /* The same of the items from 0 on, as many as the array has elements. An element without an item stays as it was. */
 uint32_t lw_dids(lw_table *table, lw_item_did *dids, size_t count);
 
-/* ---- Texts, in ASCII, without a zero at the end ---- */
+/* ---- The report ---- */
 
-/* How long the text of a refusal is at most, in bytes. */
-#define LW_FAULT_TEXT_MAX 65
+/* Writes the report of a table, the text that accrun prints (docs/SCRIPTS.md), into a buffer, with a zero at its end.
+   len: the text's length, without the zero, also where it is LW_BAD_LENGTH, since the buffer is too short: then nothing
+   else is written, and fault->value is the size that is wanted. len may be NULL. */
+uint32_t lw_report(lw_table *table, char *buffer, size_t size, uint64_t *len, lw_fault *fault);
 
-/* Writes the report of a table, the text that accrun prints (docs/SCRIPTS.md), at the front of a buffer. len: its
-   length. LW_BAD_LENGTH where the buffer is too short: fault->value is the length that is wanted, and nothing is
-   written. */
-uint32_t lw_report(lw_table *table, uint8_t *buffer, size_t size, uint64_t *len, lw_fault *fault);
+/* ---- Tables for several threads ---- */
 
-/* Writes what a refusal says, as "14 DeviceFull item 0 need 32", in the same way. LW_ABSENT where told has
-   the status of no refusal. */
-uint32_t lw_fault_text(const lw_fault *told, uint8_t *buffer, size_t size, uint64_t *len, lw_fault *fault);
+/* A table with a lock. A thread takes the lock, makes calls on the table, and leaves. A kernel runs meanwhile without
+   the lock, on bytes that its lease has had read. */
+typedef struct lw_shared lw_shared;
+
+/* A new table as of lw_table_new, with a lock that no thread has. */
+uint32_t lw_shared_new(lw_shared **shared, const lw_limits *limits, lw_fault *fault);
+
+/* Ends the table. No thread uses it then; it may be NULL. */
+void lw_shared_end(lw_shared *shared);
+
+/* Waits until no other thread has the lock, takes it, and returns the table. NULL where this thread has it already. The
+   table is this thread's until lw_shared_leave or lw_shared_wait; it is not ended by lw_table_end. */
+lw_table *lw_shared_take(lw_shared *shared);
+
+/* Leaves the table to the others. */
+void lw_shared_leave(lw_shared *shared);
+
+/* Leaves it to them, and takes it again behind an event of another thread; or for no reason. So a call that is LW_LENT
+   or LW_QUEUE_FULL is made again, when there may be what it waits for. */
+void lw_shared_wait(lw_shared *shared);
 
 #ifdef __cplusplus
 }

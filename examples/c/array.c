@@ -17,37 +17,33 @@
 
 enum { COUNT = 5, BYTES = COUNT * sizeof(int32_t) };
 
-/* Where the array is in the host memory of the table. */
-static const uint64_t ARRAY = LW_HOST_BASE;
+static lw_table table = LW_NO_TABLE;
+static lw_fault fault;
 
 /* Ends the program where a call was refused, and says which call and why. */
-static void must(uint32_t status, const lw_fault *fault, const char *call)
+static void must(uint32_t status, const char *call)
 {
-    uint8_t text[LW_FAULT_TEXT_MAX];
-    uint64_t len = 0;
-    lw_fault other;
+    char text[LW_FAULT_TEXT_SIZE];
 
     if (status != LW_DONE) {
-        lw_fault_text(fault, text, sizeof text, &len, &other);
-        fprintf(stderr, "%s: refused %.*s\n", call, (int)len, (const char *)text);
+        fprintf(stderr, "%s: refused %s\n", call, lw_fault_text(&fault, text, sizeof text, NULL));
         exit(EXIT_FAILURE);
     }
 }
 
 /* Prints the report. The first call is refused, and tells how long the text is. */
-static void print_report(lw_table *table)
+static void print_report(void)
 {
-    lw_fault fault;
     uint64_t len = 0;
-    uint8_t *text;
+    char *text;
 
-    lw_report(table, NULL, 0, &len, &fault);
-    text = malloc(fault.value);
+    lw_report(&table, NULL, 0, &len, &fault);
+    text = malloc(len + 1);
     if (text == NULL) {
         exit(EXIT_FAILURE);
     }
-    must(lw_report(table, text, fault.value, &len, &fault), &fault, "report");
-    fwrite(text, 1, len, stdout);
+    must(lw_report(&table, text, len + 1, &len, &fault), "report");
+    fputs(text, stdout);
     free(text);
 }
 
@@ -60,39 +56,41 @@ static void kernel(int32_t *a, size_t count)
 }
 
 /* The compute construct: the device's bytes of the array are lent, changed and brought back. */
-static void run_kernel(lw_table *table, uint64_t region)
+static void run_kernel(uint64_t region, uint64_t array)
 {
-    lw_fault fault;
     uint64_t lease = 0;
     int32_t a[COUNT];
 
-    must(lw_lend(table, region, ARRAY, BYTES, &lease, &fault), &fault, "lend");
-    must(lw_lease_read(table, lease, (uint8_t *)a, BYTES, &fault), &fault, "lease read");
+    must(lw_lend(&table, region, array, BYTES, &lease, &fault), "lend");
+    must(lw_lease_read(&table, lease, a, BYTES, &fault), "lease read");
     kernel(a, COUNT);
-    must(lw_lease_write(table, lease, (const uint8_t *)a, BYTES, &fault), &fault, "lease write");
-    must(lw_gather(table, lease, &fault), &fault, "gather");
+    must(lw_lease_write(&table, lease, a, BYTES, &fault), "lease write");
+    must(lw_gather(&table, lease, &fault), "gather");
 }
 
 int main(void)
 {
     int32_t a[COUNT] = {1, 2, 3, 4, 5};
-    const lw_item items[] = {{.clause = LW_COPY, .start = ARRAY, .len = BYTES}};
-    lw_table table = LW_NO_TABLE;
-    lw_limits limits;
-    lw_fault fault;
-    uint64_t region = 0;
+    lw_item item = {.clause = LW_COPY, .len = BYTES};
+    lw_limits limits = LW_LIMITS;
+    uint64_t region = 0, folded = 0;
 
-    lw_limits_default(&limits);
-    must(lw_table_new(&table, &limits, &fault), &fault, "table");
-    must(lw_host_write(&table, ARRAY, (const uint8_t *)a, BYTES, &fault), &fault, "host write");
+    limits.host = 4096;
+    must(lw_table_new(&table, &limits, &fault), "table");
+    must(lw_array(&table, BYTES, &item.start, &fault), "array");
+    must(lw_host_write(&table, item.start, a, BYTES, &fault), "host write");
 
-    must(lw_enter(&table, items, 1, &region, &fault), &fault, "data");
-    run_kernel(&table, region);
-    print_report(&table);
-    must(lw_exit(&table, region, &fault), &fault, "end data");
-    print_report(&table);
+    must(lw_enter(&table, 0, &item, 1, &region, &fault), "data");
+    run_kernel(region, item.start);
+    print_report();
+    must(lw_exit(&table, region, &fault), "end data");
+    print_report();
 
-    must(lw_host_read(&table, ARRAY, (uint8_t *)a, BYTES, &fault), &fault, "host read");
+    /* A program that goes on does this before trace_cap events are stored. */
+    must(lw_rebase(&table, &folded, &fault), "rebase");
+    printf("events folded: %" PRIu64 "\n", folded);
+
+    must(lw_host_read(&table, item.start, a, BYTES, &fault), "host read");
     for (size_t i = 0; i < COUNT; i++) {
         printf("a[%zu] = %" PRId32 "\n", i, a[i]);
     }

@@ -18,6 +18,7 @@
 #define DONE .status = LW_DONE, .number = UNTOUCHED
 #define ANSWERS(told) .status = LW_DONE, .number = (told)
 #define REFUSED(why, which, other) .status = (why), .item = (which), .value = (other), .number = UNTOUCHED
+#define SHORT(size) .status = LW_BAD_LENGTH, .value = (size), .number = (size) - 1
 
 /* Three arrays in host memory, of 16 bytes each, and the end of it. */
 #define HOST_SIZE UINT64_C(4096)
@@ -33,6 +34,8 @@
 #define ODD_SIZE UINT64_C(24)
 
 #define NO_QUEUE LW_NO_QUEUE_GIVEN
+#define SYNC (-2)
+#define NOVAL (-1)
 
 /* What an item did: its step, what was done to its pointer, their blocks, and a device address or 0. */
 #define DID(step, aim, block, holder, address) \
@@ -48,7 +51,8 @@ typedef struct row {
     lw_item items[LISTED]; /* a longer list repeats the first one */
     size_t count;
     uint64_t at; /* a host address, a queue, or the number of a region or of a lease */
-    uint64_t queue;
+    uint64_t device;
+    int64_t async;
     uint64_t region;
     uint64_t len;
     uint64_t bytes;
@@ -94,7 +98,7 @@ static uint8_t *bytes_of(uint64_t number)
 }
 
 /* Reads with one of the calls that do. */
-static uint32_t read_by(uint32_t (*read)(lw_table *, uint64_t, uint8_t *, size_t, lw_fault *), lw_table *table,
+static uint32_t read_by(uint32_t (*read)(lw_table *, uint64_t, void *, size_t, lw_fault *), lw_table *table,
                         const row *row, uint64_t *number, lw_fault *fault)
 {
     uint8_t *buffer = bytes_of(*number);
@@ -113,7 +117,7 @@ static uint32_t asked(uint32_t status, lw_fault *fault)
 
 static uint32_t enter(lw_table *table, const row *row, uint64_t *number, lw_fault *fault)
 {
-    return lw_enter(table, items_of(row), row->count, number, fault);
+    return lw_enter(table, row->device, items_of(row), row->count, number, fault);
 }
 
 static uint32_t leave(lw_table *table, const row *row, uint64_t *number, lw_fault *fault)
@@ -125,29 +129,29 @@ static uint32_t leave(lw_table *table, const row *row, uint64_t *number, lw_faul
 static uint32_t enter_data(lw_table *table, const row *row, uint64_t *number, lw_fault *fault)
 {
     (void)number;
-    return lw_enter_data(table, items_of(row), row->count, row->queue, fault);
+    return lw_enter_data(table, row->device, items_of(row), row->count, lw_queue(row->async), fault);
 }
 
 static uint32_t exit_data(lw_table *table, const row *row, uint64_t *number, lw_fault *fault)
 {
     (void)number;
-    return lw_exit_data(table, items_of(row), row->count, row->option, row->queue, fault);
+    return lw_exit_data(table, row->device, items_of(row), row->count, row->option, lw_queue(row->async), fault);
 }
 
 static uint32_t update(lw_table *table, const row *row, uint64_t *number, lw_fault *fault)
 {
     (void)number;
-    return lw_update(table, items_of(row), row->count, row->option, row->queue, fault);
+    return lw_update(table, row->device, items_of(row), row->count, row->option, lw_queue(row->async), fault);
 }
 
 static uint32_t wait_for(lw_table *table, const row *row, uint64_t *number, lw_fault *fault)
 {
-    return lw_wait(table, row->at, number, fault);
+    return lw_wait(table, row->device, row->at, number, fault);
 }
 
 static uint32_t step(lw_table *table, const row *row, uint64_t *number, lw_fault *fault)
 {
-    return lw_step(table, row->at, number, fault);
+    return lw_step(table, row->device, row->at, number, fault);
 }
 
 static uint32_t host_write(lw_table *table, const row *row, uint64_t *number, lw_fault *fault)
@@ -163,7 +167,11 @@ static uint32_t host_read(lw_table *table, const row *row, uint64_t *number, lw_
 
 static uint32_t device_read(lw_table *table, const row *row, uint64_t *number, lw_fault *fault)
 {
-    return read_by(lw_device_read, table, row, number, fault);
+    uint8_t *buffer = bytes_of(*number);
+    uint32_t status = lw_device_read(table, row->device, row->at, row->len != 0 ? buffer : NULL, row->len, fault);
+
+    *number = number_in(buffer);
+    return status;
 }
 
 static uint32_t lend(lw_table *table, const row *row, uint64_t *number, lw_fault *fault)
@@ -194,20 +202,25 @@ static uint32_t rebase(lw_table *table, const row *row, uint64_t *number, lw_fau
     return lw_rebase(table, number, fault);
 }
 
+static uint32_t array(lw_table *table, const row *row, uint64_t *number, lw_fault *fault)
+{
+    return lw_array(table, row->len, number, fault);
+}
+
 static uint32_t is_present(lw_table *table, const row *row, uint64_t *number, lw_fault *fault)
 {
-    return asked(lw_is_present(table, row->at, row->len, number), fault);
+    return asked(lw_is_present(table, row->device, row->at, row->len, number), fault);
 }
 
 static uint32_t device_address(lw_table *table, const row *row, uint64_t *number, lw_fault *fault)
 {
-    return asked(lw_device_address(table, row->at, number), fault);
+    return asked(lw_device_address(table, row->device, row->at, number), fault);
 }
 
 static uint32_t structured(lw_table *table, const row *row, uint64_t *number, lw_fault *fault)
 {
     lw_counters_of counters = {.structured = *number};
-    uint32_t status = lw_counters(table, row->at, row->len, &counters);
+    uint32_t status = lw_counters(table, row->device, row->at, row->len, &counters);
 
     *number = counters.structured;
     return asked(status, fault);
@@ -216,7 +229,7 @@ static uint32_t structured(lw_table *table, const row *row, uint64_t *number, lw
 static uint32_t dynamic(lw_table *table, const row *row, uint64_t *number, lw_fault *fault)
 {
     lw_counters_of counters = {.dynamic = *number};
-    uint32_t status = lw_counters(table, row->at, row->len, &counters);
+    uint32_t status = lw_counters(table, row->device, row->at, row->len, &counters);
 
     *number = counters.dynamic;
     return asked(status, fault);
@@ -224,14 +237,14 @@ static uint32_t dynamic(lw_table *table, const row *row, uint64_t *number, lw_fa
 
 static uint32_t attachment(lw_table *table, const row *row, uint64_t *number, lw_fault *fault)
 {
-    return asked(lw_attachment(table, row->at, number), fault);
+    return asked(lw_attachment(table, row->device, row->at, number), fault);
 }
 
 /* The start of the first mapped range from an address on. The report has the rest. */
 static uint32_t mapped(lw_table *table, const row *row, uint64_t *number, lw_fault *fault)
 {
     lw_mapped_range range = {.start = *number};
-    uint32_t status = lw_mapped(table, row->at, &range);
+    uint32_t status = lw_mapped(table, row->device, row->at, &range);
 
     *number = range.start;
     return asked(status, fault);
@@ -295,7 +308,7 @@ static uint32_t all_did(lw_table *table, const row *row, uint64_t *number, lw_fa
 static uint32_t range_at(lw_table *table, const row *row, uint64_t *number, lw_fault *fault)
 {
     lw_mapped_range range;
-    uint32_t status = lw_range_at(table, row->at, &range);
+    uint32_t status = lw_range_at(table, row->device, row->at, &range);
 
     if (status == LW_DONE) {
         *number = RANGE(range.start, range.len, range.structured, range.dynamic);
@@ -313,15 +326,49 @@ static uint32_t did_to(lw_table *table, const row *row, uint64_t *number, lw_fau
     return asked(status, fault);
 }
 
+/* The pointer of the first attachment in a section, its counter and its block, as one number. */
+#define ATTACHED(pointer, count, block) ((uint64_t)(pointer) << 16 | (count) << 8 | (block))
+
+static uint32_t attached(lw_table *table, const row *row, uint64_t *number, lw_fault *fault)
+{
+    lw_attached_pointer told;
+    uint32_t status = lw_attached(table, row->device, row->at, row->len, &told);
+
+    if (status == LW_DONE) {
+        *number = ATTACHED(told.pointer, told.count, told.block);
+    }
+    return asked(status, fault);
+}
+
+/* The place of a block whose mapping has ended, its size and how many copies name it, as one number. */
+#define ENDED(place, size, pins) ((uint64_t)(place) << 24 | (size) << 8 | (pins))
+
+static uint32_t ended_block(lw_table *table, const row *row, uint64_t *number, lw_fault *fault)
+{
+    lw_ended_mapping told;
+    uint32_t status = lw_ended_block(table, row->device, row->at, &told);
+
+    if (status == LW_DONE) {
+        *number = ENDED(told.place, told.size, told.pins);
+    }
+    return asked(status, fault);
+}
+
+static uint32_t innermost(lw_table *table, const row *row, uint64_t *number, lw_fault *fault)
+{
+    (void)row;
+    return asked(lw_innermost(table, number), fault);
+}
+
 static uint32_t queue_len(lw_table *table, const row *row, uint64_t *number, lw_fault *fault)
 {
-    return asked(lw_queue_len(table, row->at, number), fault);
+    return asked(lw_queue_len(table, row->device, row->at, number), fault);
 }
 
 static uint32_t used(lw_table *table, const row *row, uint64_t *number, lw_fault *fault)
 {
     (void)row;
-    return asked(lw_used(table, number), fault);
+    return asked(lw_used(table, row->device, number), fault);
 }
 
 static uint32_t regions(lw_table *table, const row *row, uint64_t *number, lw_fault *fault)
@@ -339,7 +386,7 @@ static uint32_t events(lw_table *table, const row *row, uint64_t *number, lw_fau
 /* The report into a buffer of this length. */
 static uint32_t report(lw_table *table, const row *row, uint64_t *number, lw_fault *fault)
 {
-    uint8_t buffer[TEXT];
+    char buffer[TEXT];
 
     return lw_report(table, row->len != 0 ? buffer : NULL, row->len, number, fault);
 }
@@ -347,9 +394,17 @@ static uint32_t report(lw_table *table, const row *row, uint64_t *number, lw_fau
 /* ---- The scenes ---- */
 
 static const row USUAL[] = {
-    {"the report into no buffer", report, .len = 0, REFUSED(LW_BAD_LENGTH, 0, 46)},
-    {"the report into a buffer one too short", report, .len = 45, REFUSED(LW_BAD_LENGTH, 0, 46)},
-    {"the report into a buffer as long", report, .len = 46, ANSWERS(46)},
+    {"the report into no buffer", report, .len = 0, SHORT(47)},
+    {"the report into a buffer one too short", report, .len = 46, SHORT(47)},
+    {"the report into a buffer as long", report, .len = 47, ANSWERS(46)},
+
+    {"an array", array, .len = 24, ANSWERS(LW_HOST_BASE)},
+    {"the next one", array, .len = 8, ANSWERS(LW_HOST_BASE + 32)},
+    {"one of no bytes", array, .len = 0, ANSWERS(LW_HOST_BASE + 48)},
+    {"one too long", array, .len = HOST_SIZE - 47, REFUSED(LW_OUT_OF_HOST, 0, 0)},
+    {"one much too long", array, .len = UINT64_MAX, REFUSED(LW_OUT_OF_HOST, 0, 0)},
+    {"one of all that is left", array, .len = HOST_SIZE - 48, ANSWERS(LW_HOST_BASE + 48)},
+    {"one of a byte more", array, .len = 1, REFUSED(LW_OUT_OF_HOST, 0, 0)},
 
     {"host write", host_write, .at = A, .len = 8, .bytes = 0x0102030405060708, DONE},
     {"host write of no bytes, anywhere", host_write, .at = 0, DONE},
@@ -360,6 +415,7 @@ static const row USUAL[] = {
     {"host read of no bytes", host_read, .at = 0, DONE},
     {"host read past its end", host_read, .at = END, .len = 1, REFUSED(LW_OUT_OF_HOST, 0, 0)},
     {"both writes are events", events, ANSWERS(2)},
+    {"no region is open", innermost, REFUSED(LW_ABSENT, 0, 0)},
 
     {"data", enter, {{LW_COPY, A, 16, 0}}, 1, ANSWERS(1)},
     {"what it did", did, .at = 0, ANSWERS(DID(LW_BORN, 0, 1, 0, LW_DEVICE_BASE))},
@@ -370,6 +426,7 @@ static const row USUAL[] = {
     {"nothing of it", all_did, .count = 0, ANSWERS(0)},
     {"data without items", enter, .count = 0, ANSWERS(2)},
     {"which did nothing", did, .at = 0, REFUSED(LW_ABSENT, 0, 0)},
+    {"the second is the innermost", innermost, ANSWERS(2)},
     {"data in as many regions as may be", enter, {{LW_PRESENT, A, 16, 0}}, 1, REFUSED(LW_NO_ALLOWANCE, 0, 0)},
     {"end data", leave, .at = 2, DONE},
     {"end data twice", leave, .at = 2, REFUSED(LW_NO_REGION, 0, 2)},
@@ -409,16 +466,18 @@ static const row USUAL[] = {
     {"used", used, ANSWERS(16)},
     {"regions", regions, ANSWERS(1)},
 
-    {"enter data async", enter_data, {{LW_COPYIN, B, 16, 0}}, 1, .queue = 3, DONE},
+    {"enter data async", enter_data, {{LW_COPYIN, B, 16, 0}}, 1, .async = 3, DONE},
     {"what it put there", did_copy, .at = 0, ANSWERS(COPIED(LW_IN, 16, 0, 0))},
     {"queue length", queue_len, .at = 3, ANSWERS(1)},
     {"length of no queue", queue_len, .at = 16, ANSWERS(0)},
-    {"enter data async in no queue", enter_data, {{LW_CREATE, C, 16, 0}}, 1, .queue = 16, REFUSED(LW_NO_QUEUE, 0, 16)},
-    {"enter data async in a full queue", enter_data, {{LW_COPYIN, C, 16, 0}}, 1, .queue = 3,
+    {"enter data async in no queue", enter_data, {{LW_CREATE, C, 16, 0}}, 1, .async = 16, REFUSED(LW_NO_QUEUE, 0, 16)},
+    {"enter data async below all", enter_data, {{LW_CREATE, C, 16, 0}}, 1, .async = -3,
+     REFUSED(LW_NO_QUEUE, 0, UINT64_MAX - 2)},
+    {"enter data async in a full queue", enter_data, {{LW_COPYIN, C, 16, 0}}, 1, .async = 3,
      REFUSED(LW_QUEUE_FULL, 0, 3)},
-    {"enter data with a clause of data", enter_data, {{LW_COPY, C, 16, 0}}, 1, .queue = NO_QUEUE,
+    {"enter data with a clause of data", enter_data, {{LW_COPY, C, 16, 0}}, 1, .async = SYNC,
      REFUSED(LW_BAD_CLAUSE, 0, 0)},
-    {"enter data of more than the device has", enter_data, {{LW_CREATE_ZERO, C, 48, 0}}, 1, .queue = NO_QUEUE,
+    {"enter data of more than the device has", enter_data, {{LW_CREATE_ZERO, C, 48, 0}}, 1, .async = SYNC,
      REFUSED(LW_DEVICE_FULL, 0, 48)},
     {"step", step, .at = 3, ANSWERS(1)},
     {"what it copied", did, .at = 0, ANSWERS(DID(LW_MOVED, 0, 2, 0, UINT64_C(0)))},
@@ -427,30 +486,35 @@ static const row USUAL[] = {
     {"it copied once", did, .at = 1, REFUSED(LW_ABSENT, 0, 0)},
     {"step of an empty queue", step, .at = 3, ANSWERS(0)},
     {"step of no queue", step, .at = 16, REFUSED(LW_NO_QUEUE, 0, 16)},
-    {"update async", update, {{LW_DEVICE, B, 16, 0}}, 1, .queue = 15, DONE},
+    {"update async", update, {{LW_DEVICE, B, 16, 0}}, 1, .async = 15, DONE},
     {"what it put there", did_copy, .at = 0, ANSWERS(COPIED(LW_IN, 16, 0, 0))},
-    {"wait for all queues", wait_for, .at = NO_QUEUE, ANSWERS(1)},
+    {"update async without a number", update, {{LW_DEVICE, B, 16, 0}}, 1, .async = NOVAL, DONE},
+    {"it waits in the first queue", queue_len, .at = 0, ANSWERS(1)},
+    {"wait for all queues", wait_for, .at = NO_QUEUE, ANSWERS(2)},
     {"wait for an empty queue", wait_for, .at = 15, ANSWERS(0)},
     {"wait for no queue", wait_for, .at = 16, REFUSED(LW_NO_QUEUE, 0, 16)},
-    {"update", update, {{LW_SELF, A, 8, 0}}, 1, .queue = NO_QUEUE, DONE},
+    {"update", update, {{LW_SELF, A, 8, 0}}, 1, .async = SYNC, DONE},
     {"what it did", did, .at = 0, ANSWERS(DID(LW_MOVED, 0, 1, 0, UINT64_C(0)))},
     {"what it copied", did_copy, .at = 0, ANSWERS(COPIED(LW_OUT, 8, 0, 0))},
-    {"update with a clause of data", update, {{LW_SELF, A, 8, 0}, {LW_COPYIN, A, 8, 0}}, 2, .queue = NO_QUEUE,
+    {"update with a clause of data", update, {{LW_SELF, A, 8, 0}, {LW_COPYIN, A, 8, 0}}, 2, .async = SYNC,
      REFUSED(LW_BAD_CLAUSE, 1, 0)},
-    {"update of an absent section", update, {{LW_SELF, C, 8, 0}}, 1, .queue = NO_QUEUE, REFUSED(LW_NOT_PRESENT, 0, 0)},
-    {"update of it if_present", update, {{LW_SELF, C, 8, 0}}, 1, .queue = NO_QUEUE, .option = 1, DONE},
+    {"update of an absent section", update, {{LW_SELF, C, 8, 0}}, 1, .async = SYNC, REFUSED(LW_NOT_PRESENT, 0, 0)},
+    {"update of it if_present", update, {{LW_SELF, C, 8, 0}}, 1, .async = SYNC, .option = 1, DONE},
     {"which did nothing", did, .at = 0, ANSWERS(0)},
     {"and copied nothing", did_copy, .at = 0, ANSWERS(0)},
 
     {"host write of a pointer to A", host_write, .at = C, .len = 8, .bytes = 0x0010000000000000, DONE},
-    {"enter data of the pointer", enter_data, {{LW_COPYIN, C, 16, 0}}, 1, .queue = NO_QUEUE, DONE},
-    {"attach", enter_data, {{LW_ATTACH, C, 0, 0}}, 1, .queue = NO_QUEUE, DONE},
+    {"enter data of the pointer", enter_data, {{LW_COPYIN, C, 16, 0}}, 1, .async = SYNC, DONE},
+    {"attach", enter_data, {{LW_ATTACH, C, 0, 0}}, 1, .async = SYNC, DONE},
     {"what it did", did, .at = 0, ANSWERS(DID(0, LW_AIMED, 0, 3, LW_DEVICE_BASE))},
     {"once", did_copy, .at = 0, ANSWERS(COPIED(0, 0, 0, 1))},
     {"to the pointer", did_to, .at = 0, ANSWERS(C)},
     {"attachment counter", attachment, .at = C, ANSWERS(1)},
+    {"the attached pointer", attached, .at = C, .len = 16, ANSWERS(ATTACHED(C, 1, 3))},
+    {"none behind it", attached, .at = C + 8, .len = 8, REFUSED(LW_ABSENT, 0, 0)},
+    {"none past the range", attached, .at = C, .len = 17, REFUSED(LW_ABSENT, 0, 0)},
     {"the device has a pointer to A's place", device_read, .at = C, .len = 8, ANSWERS(0x0000000001000000)},
-    {"detach", exit_data, {{LW_DETACH, C, 0, 0}}, 1, .queue = NO_QUEUE, DONE},
+    {"detach", exit_data, {{LW_DETACH, C, 0, 0}}, 1, .async = SYNC, DONE},
     {"what it did", did, .at = 0, ANSWERS(DID(0, LW_DETACHED, 0, 3, UINT64_C(0)))},
     {"for good", did_copy, .at = 0, ANSWERS(0)},
     {"attachment counter of a detached pointer", attachment, .at = C, ANSWERS(0)},
@@ -463,20 +527,20 @@ static const row USUAL[] = {
     {"what it did", did, .at = 0, ANSWERS(DID(LW_DROPPED, LW_DETACHED, 1, 3, UINT64_C(0)))},
     {"the pointer is detached", attachment, .at = C, ANSWERS(0)},
 
-    {"enter data once more", enter_data, {{LW_CREATE, B, 16, 0}}, 1, .queue = NO_QUEUE, DONE},
+    {"enter data once more", enter_data, {{LW_CREATE, B, 16, 0}}, 1, .async = SYNC, DONE},
     {"the range is counted twice", range_at, .at = B + 8, ANSWERS(RANGE(B, 16, 0, 2))},
-    {"enter data counting more than may be", enter_data, {{LW_CREATE, B, 16, 0}}, 1, .queue = NO_QUEUE,
+    {"enter data counting more than may be", enter_data, {{LW_CREATE, B, 16, 0}}, 1, .async = SYNC,
      REFUSED(LW_COUNTER_FULL, 0, 0)},
-    {"exit data with a clause of enter data", exit_data, {{LW_COPYIN, B, 16, 0}}, 1, .queue = NO_QUEUE,
+    {"exit data with a clause of enter data", exit_data, {{LW_COPYIN, B, 16, 0}}, 1, .async = SYNC,
      REFUSED(LW_BAD_CLAUSE, 0, 0)},
-    {"exit data of two ranges at once", exit_data, {{LW_DELETE, B + 8, 16, 0}}, 1, .queue = NO_QUEUE,
+    {"exit data of two ranges at once", exit_data, {{LW_DELETE, B + 8, 16, 0}}, 1, .async = SYNC,
      REFUSED(LW_PARTLY_PRESENT, 0, 0)},
-    {"exit data async in no queue", exit_data, {{LW_DELETE, B, 16, 0}}, 1, .queue = 99, REFUSED(LW_NO_QUEUE, 0, 99)},
-    {"exit data", exit_data, {{LW_DELETE, B, 16, 0}}, 1, .queue = NO_QUEUE, DONE},
+    {"exit data async in no queue", exit_data, {{LW_DELETE, B, 16, 0}}, 1, .async = 99, REFUSED(LW_NO_QUEUE, 0, 99)},
+    {"exit data", exit_data, {{LW_DELETE, B, 16, 0}}, 1, .async = SYNC, DONE},
     {"what it did", did, .at = 0, ANSWERS(DID(LW_DROPPED, 0, 2, 0, UINT64_C(0)))},
     {"dynamic counter after one exit", dynamic, .at = B, .len = 16, ANSWERS(1)},
-    {"enter data again", enter_data, {{LW_CREATE, B, 16, 0}}, 1, .queue = NO_QUEUE, DONE},
-    {"exit data finalize", exit_data, {{LW_COPYOUT, B, 16, 0}}, 1, .queue = NO_QUEUE, .option = UINT32_MAX, DONE},
+    {"enter data again", enter_data, {{LW_CREATE, B, 16, 0}}, 1, .async = SYNC, DONE},
+    {"exit data finalize", exit_data, {{LW_COPYOUT, B, 16, 0}}, 1, .async = SYNC, .option = UINT32_MAX, DONE},
     {"what it did", did, .at = 0, ANSWERS(DID(LW_ENDED_RANGE, 0, 2, 0, UINT64_C(0)))},
     {"what it copied", did_copy, .at = 0, ANSWERS(COPIED(LW_OUT, 16, 0, 0))},
     {"its range is there no more", range_at, .at = B, REFUSED(LW_ABSENT, 0, 0)},
@@ -492,9 +556,9 @@ static const row USUAL[] = {
      REFUSED(LW_PARTLY_PRESENT, 0, 0)},
     {"lend a block twice", lend, .region = 1, .at = A, .len = 4, REFUSED(LW_LENT, 0, 1)},
     {"device read of a lent block", device_read, .at = A, .len = 4, REFUSED(LW_ABSENT, 0, 0)},
-    {"update of a lent block", update, {{LW_SELF, A, 8, 0}}, 1, .queue = NO_QUEUE, REFUSED(LW_LENT, 0, 1)},
+    {"update of a lent block", update, {{LW_SELF, A, 8, 0}}, 1, .async = SYNC, REFUSED(LW_LENT, 0, 1)},
     {"end data while its block is lent", leave, .at = 1, REFUSED(LW_LENT, 0, 1)},
-    {"update async of a lent block", update, {{LW_SELF, A, 8, 0}}, 1, .queue = 5, DONE},
+    {"update async of a lent block", update, {{LW_SELF, A, 8, 0}}, 1, .async = 5, DONE},
     {"step of a copy of a lent block", step, .at = 5, REFUSED(LW_LENT, 0, 1)},
     {"wait for it", wait_for, .at = 5, REFUSED(LW_LENT, 0, 1)},
     {"wait for all queues, with it", wait_for, .at = NO_QUEUE, REFUSED(LW_LENT, 0, 1)},
@@ -515,9 +579,72 @@ static const row USUAL[] = {
     {"which its start told", did_copy, .at = 0, ANSWERS(0)},
     {"the host has the kernel's bytes", host_read, .at = A, .len = 8, ANSWERS(0x0102030411121314)},
     {"the block stays while a copy waits", used, ANSWERS(32)},
+    {"its mapping has ended", ended_block, .at = 0, ANSWERS(ENDED(LW_DEVICE_BASE, 16, 1))},
+    {"also from its place on", ended_block, .at = LW_DEVICE_BASE, ANSWERS(ENDED(LW_DEVICE_BASE, 16, 1))},
+    {"no block behind it", ended_block, .at = LW_DEVICE_BASE + 1, REFUSED(LW_ABSENT, 0, 0)},
     {"step of that copy", step, .at = 5, ANSWERS(1)},
     {"the block is given back", used, ANSWERS(16)},
+    {"no mapping has ended", ended_block, .at = 0, REFUSED(LW_ABSENT, 0, 0)},
     {"no region is open", regions, ANSWERS(0)},
+};
+
+/* Four devices, and what is not on them. */
+static const row DEVICES[] = {
+    {"host write", host_write, .at = A, .len = 8, .bytes = 0x0102030405060708, DONE},
+    {"data on the last one", enter, {{LW_COPY, A, 16, 0}}, 1, .device = 3, ANSWERS(1)},
+    {"data on none", enter, {{LW_COPY, A, 16, 0}}, 1, .device = 4, REFUSED(LW_NO_DEVICE, 0, 4)},
+    {"enter data on the second", enter_data, {{LW_COPYIN, A, 16, 0}}, 1, .device = 1, .async = SYNC, DONE},
+    {"enter data on none", enter_data, {{LW_COPYIN, A, 16, 0}}, 1, .device = UINT64_MAX, .async = SYNC,
+     REFUSED(LW_NO_DEVICE, 0, UINT64_MAX)},
+    {"present on the last", is_present, .at = A, .len = 16, .device = 3, ANSWERS(1)},
+    {"not on the first", is_present, .at = A, .len = 16, ANSWERS(0)},
+    {"nor on none", is_present, .at = A, .len = 16, .device = 4, ANSWERS(0)},
+    {"each has addresses of its own", device_address, .at = A, .device = 3, ANSWERS(LW_DEVICE_BASE_OF(3))},
+    {"also the second", device_address, .at = A, .device = 1, ANSWERS(LW_DEVICE_BASE_OF(1))},
+    {"none has some", device_address, .at = A, .device = 4, REFUSED(LW_ABSENT, 0, 0)},
+    {"structured on the last", structured, .at = A, .len = 16, .device = 3, ANSWERS(1)},
+    {"not on the second", structured, .at = A, .len = 16, .device = 1, ANSWERS(0)},
+    {"dynamic on the second", dynamic, .at = A, .len = 16, .device = 1, ANSWERS(1)},
+    {"counters on the first", dynamic, .at = A, .len = 16, REFUSED(LW_ABSENT, 0, 0)},
+    {"first range of the second", mapped, .at = 0, .device = 1, ANSWERS(A)},
+    {"first range of the third", mapped, .at = 0, .device = 2, REFUSED(LW_ABSENT, 0, 0)},
+    {"its range at an address", range_at, .at = A, .device = 2, REFUSED(LW_ABSENT, 0, 0)},
+    {"the range of the last", range_at, .at = A + 15, .device = 3, ANSWERS(RANGE(A, 16, 1, 0))},
+    {"used on the last", used, .device = 3, ANSWERS(16)},
+    {"used on the first", used, ANSWERS(0)},
+    {"used on none", used, .device = 4, ANSWERS(0)},
+    {"regions on all", regions, ANSWERS(1)},
+
+    {"lend on the device of the region", lend, .region = 1, .at = A, .len = 16, ANSWERS(1)},
+    {"lease write", lease_write, .at = 1, .len = 16, .bytes = 0x1112131415161718, DONE},
+    {"the second is not lent", device_read, .at = A, .len = 8, .device = 1, ANSWERS(0x0102030405060708)},
+    {"gather", gather, .at = 1, DONE},
+    {"the last has the kernel's bytes", device_read, .at = A, .len = 8, .device = 3, ANSWERS(0x1112131415161718)},
+    {"the second has its own", device_read, .at = A, .len = 8, .device = 1, ANSWERS(0x0102030405060708)},
+    {"the first has none", device_read, .at = A, .len = 8, REFUSED(LW_ABSENT, 0, 0)},
+    {"none has some either", device_read, .at = A, .len = 8, .device = 4, REFUSED(LW_ABSENT, 0, 0)},
+
+    {"update async on the second", update, {{LW_DEVICE, A, 8, 0}}, 1, .device = 1, .async = 2, DONE},
+    {"update on none", update, {{LW_DEVICE, A, 8, 0}}, 1, .device = 4, .async = 2, REFUSED(LW_NO_DEVICE, 0, 4)},
+    {"update on the first", update, {{LW_DEVICE, A, 8, 0}}, 1, .async = 2, REFUSED(LW_NOT_PRESENT, 0, 0)},
+    {"its queue", queue_len, .at = 2, .device = 1, ANSWERS(1)},
+    {"that of the last", queue_len, .at = 2, .device = 3, ANSWERS(0)},
+    {"that of none", queue_len, .at = 2, .device = 4, ANSWERS(0)},
+    {"no mapping has ended on none", ended_block, .at = 0, .device = 4, REFUSED(LW_ABSENT, 0, 0)},
+    {"nothing is attached on none", attached, .at = A, .len = 16, .device = 4, REFUSED(LW_ABSENT, 0, 0)},
+    {"the innermost is on the last", innermost, ANSWERS(1)},
+    {"a wait on the last", wait_for, .at = NO_QUEUE, .device = 3, ANSWERS(0)},
+    {"a wait on none", wait_for, .at = NO_QUEUE, .device = 4, REFUSED(LW_NO_DEVICE, 0, 4)},
+    {"a step on the last", step, .at = 2, .device = 3, ANSWERS(0)},
+    {"a step on none", step, .at = 2, .device = 4, REFUSED(LW_NO_DEVICE, 0, 4)},
+    {"a step on the second", step, .at = 2, .device = 1, ANSWERS(1)},
+
+    {"end data", leave, .at = 1, DONE},
+    {"the host has the last one's bytes", host_read, .at = A, .len = 8, ANSWERS(0x1112131415161718)},
+    {"exit data on none", exit_data, {{LW_DELETE, A, 16, 0}}, 1, .device = 4, .async = SYNC,
+     REFUSED(LW_NO_DEVICE, 0, 4)},
+    {"exit data on the second", exit_data, {{LW_DELETE, A, 16, 0}}, 1, .device = 1, .async = SYNC, DONE},
+    {"nothing is left there", used, .device = 1, ANSWERS(0)},
 };
 
 /* Three tickets, and room for one event in the trace. */
@@ -589,14 +716,17 @@ typedef struct scene {
 } scene;
 
 #define ROWS(rows) (rows), sizeof(rows) / sizeof *(rows)
+#define LIMITS(...) {sizeof(lw_limits), LW_VERSION, __VA_ARGS__}
 
 static const scene SCENES[] = {
-    {"usual", {HOST_SIZE, 64, 2, 1000, 2, 1, 1000, false}, ROWS(USUAL)},
-    {"usual, full traces", {HOST_SIZE, 64, 2, 1000, 2, 1, 1000, 1}, ROWS(USUAL)},
-    {"few events", {HOST_SIZE, 64, 2, 3, 2, 1, 1, false}, ROWS(FEW_EVENTS)},
-    {"few events, full traces", {HOST_SIZE, 64, 2, 3, 2, 1, 1, 1}, ROWS(FEW_EVENTS)},
-    {"several leases", {32768, 32768, 3, 1000, 2, 1, 1000, false}, ROWS(SEVERAL)},
-    {"several leases, full traces", {32768, 32768, 3, 1000, 2, 1, 1000, 1}, ROWS(SEVERAL)},
+    {"usual", LIMITS(HOST_SIZE, 64, 2, 1000, 2, 1, 1000, 0, 1), ROWS(USUAL)},
+    {"usual, full traces", LIMITS(HOST_SIZE, 64, 2, 1000, 2, 1, 1000, 1, 1), ROWS(USUAL)},
+    {"few events", LIMITS(HOST_SIZE, 64, 2, 3, 2, 1, 1, 0, 1), ROWS(FEW_EVENTS)},
+    {"few events, full traces", LIMITS(HOST_SIZE, 64, 2, 3, 2, 1, 1, 1, 1), ROWS(FEW_EVENTS)},
+    {"several leases", LIMITS(32768, 32768, 3, 1000, 2, 1, 1000, 0, 1), ROWS(SEVERAL)},
+    {"several leases, full traces", LIMITS(32768, 32768, 3, 1000, 2, 1, 1000, 1, 1), ROWS(SEVERAL)},
+    {"several devices", LIMITS(HOST_SIZE, 64, 2, 1000, 2, 1, 1000, 0, 4), ROWS(DEVICES)},
+    {"several devices, full traces", LIMITS(HOST_SIZE, 64, 2, 1000, 2, 1, 1000, 1, 4), ROWS(DEVICES)},
 };
 
 static unsigned wrong;
@@ -616,8 +746,8 @@ static void report_of(lw_table *table, char *text)
     uint64_t len = 0;
     lw_fault fault;
 
-    check(lw_report(table, (uint8_t *)text, TEXT - 1, &len, &fault) == LW_DONE, "report", "it is refused");
-    text[len] = 0;
+    check(lw_report(table, text, TEXT, &len, &fault) == LW_DONE, "report", "it is refused");
+    check(text[len] == '\0' && strlen(text) == len, "report", "it does not end with a zero");
 }
 
 /* What a call answered. */
@@ -709,12 +839,11 @@ static void check_short_tables(bool is_full)
 {
     lw_table kept = LW_NO_TABLE;
     lw_table none = LW_NO_TABLE;
-    lw_limits limits;
+    lw_limits limits = LW_LIMITS;
     lw_fault fault;
     uint64_t number;
     size_t growth = 0;
 
-    lw_limits_default(&limits);
     limits.full = is_full;
     check(lw_table_new(&kept, &limits, &fault) == LW_DONE, "table", "it is refused");
     for (;;) {
@@ -742,16 +871,15 @@ static void check_ends(bool is_full)
 {
     static const lw_item item = {.clause = LW_COPYIN, .start = A, .len = 16};
     lw_table table = LW_NO_TABLE;
-    lw_limits limits;
+    lw_limits limits = LW_LIMITS;
     lw_fault fault;
     uint64_t number;
     size_t held = 0;
 
-    lw_limits_default(&limits);
     limits.full = is_full;
     for (int i = 0; i < 100; i++) {
         lw_table_new(&table, &limits, &fault);
-        lw_enter(&table, &item, 1, &number, &fault);
+        lw_enter(&table, 0, &item, 1, &number, &fault);
         lw_lend(&table, number, A, 16, &number, &fault);
         held = i == 0 ? blocks_held() : held;
         check(fault.status == LW_DONE && blocks_held() == held, "table", "the one before it has memory still");
@@ -762,7 +890,7 @@ static void check_ends(bool is_full)
 
 /* ---- Limits and texts ---- */
 
-/* The bounds of a limit. */
+/* The bounds of a limit, and what it is by default. */
 static const struct {
     const char *name;
     size_t place;
@@ -777,18 +905,18 @@ static const struct {
     {"queue_cap", offsetof(lw_limits, queue_cap), 1, 4096},
     {"trace_cap", offsetof(lw_limits, trace_cap), 1, 16777216},
     {"full", offsetof(lw_limits, full), 0, 1},
+    {"devices", offsetof(lw_limits, devices), 1, 4},
 };
 
-/* What a table with one limit other than the default answers. A table that it had stays where it is refused. */
+/* What a table with one limit other than by default answers. A table that it had stays where it is refused. */
 static uint32_t status_with(size_t place, uint64_t limit)
 {
     lw_table table = LW_NO_TABLE;
-    lw_limits limits;
+    lw_limits limits = LW_LIMITS;
     lw_fault fault;
     uint64_t number = 0;
     uint32_t status;
 
-    lw_limits_default(&limits);
     lw_table_new(&table, &limits, &fault);
     memcpy((uint8_t *)&limits + place, &limit, sizeof limit);
     status = lw_table_new(&table, &limits, &fault);
@@ -797,23 +925,67 @@ static uint32_t status_with(size_t place, uint64_t limit)
     return status;
 }
 
+/* As by default a table has 65,536 bytes of host memory and of one device, and 64 regions. */
+static void check_default(const lw_limits *limits, const char *where)
+{
+    lw_table table = LW_NO_TABLE;
+    uint64_t region, start;
+
+    check(lw_table_new(&table, limits, NULL) == LW_DONE, where, "no table");
+    check(lw_array(&table, 65536, &start, NULL) == LW_DONE && lw_array(&table, 1, &start, NULL) == LW_OUT_OF_HOST,
+          where, "host memory");
+    check(lw_enter(&table, 1, NULL, 0, &region, NULL) == LW_NO_DEVICE, where, "devices");
+    for (int i = 0; i < 64; i++) {
+        check(lw_enter(&table, 0, NULL, 0, &region, NULL) == LW_DONE, where, "regions");
+    }
+    check(lw_enter(&table, 0, NULL, 0, &region, NULL) == LW_NO_ALLOWANCE, where, "more regions");
+    lw_table_end(&table);
+}
+
+/* Limits of another header than the library knows are told by name. */
+static void check_versions(void)
+{
+    const lw_limits whole = LW_LIMITS;
+    const struct {
+        uint32_t size, version;
+    } wrong_ones[] = {
+        {0, 0}, {whole.size, 0}, {whole.size, 1999}, {0, LW_VERSION}, {whole.size - 8, LW_VERSION},
+        {whole.size + 8, LW_VERSION}, {UINT32_MAX, UINT32_MAX},
+    };
+    char text[LW_FAULT_TEXT_SIZE];
+
+    for (size_t i = 0; i < sizeof wrong_ones / sizeof *wrong_ones; i++) {
+        lw_table table = LW_NO_TABLE;
+        lw_limits limits = {.size = wrong_ones[i].size, .version = wrong_ones[i].version};
+        lw_fault fault;
+
+        check(lw_table_new(&table, &limits, &fault) == LW_BAD_VERSION && fault.value == LW_VERSION, "versions",
+              "wrong limits are taken");
+        check(strcmp(lw_fault_text(&fault, text, sizeof text, NULL), "36 BadVersion library 2000") == 0, "versions",
+              "the text");
+        check(lw_table_new(&table, &limits, NULL) == LW_BAD_VERSION && table.at == NULL, "versions", "without a fault");
+    }
+}
+
 static void check_limits(void)
 {
-    lw_limits limits = {0};
+    const lw_limits limits = LW_LIMITS;
 
-    lw_limits_default(&limits);
-    check(limits.host == 65536 && limits.device == 65536 && limits.regions == 64 && limits.tickets == 1048576 &&
-              limits.counter_max == UINT64_C(4294967295) && limits.queue_cap == 256 && limits.trace_cap == 262144 &&
-              !limits.full,
-          "limits", "default");
+    check_default(&limits, "limits that are begun");
+    check_default(NULL, "no limits");
     for (size_t i = 0; i < sizeof BOUNDS / sizeof *BOUNDS; i++) {
+        check(status_with(BOUNDS[i].place, 0) == LW_DONE, "as by default", BOUNDS[i].name);
         check(status_with(BOUNDS[i].place, BOUNDS[i].least) == LW_DONE, "least", BOUNDS[i].name);
         check(status_with(BOUNDS[i].place, BOUNDS[i].greatest) == LW_DONE, "greatest", BOUNDS[i].name);
-        check(status_with(BOUNDS[i].place, BOUNDS[i].least - 1) == LW_BAD_CONFIG, "below", BOUNDS[i].name);
         check(status_with(BOUNDS[i].place, BOUNDS[i].greatest + 1) == LW_BAD_CONFIG, "above", BOUNDS[i].name);
+        check(status_with(BOUNDS[i].place, UINT64_MAX) == LW_BAD_CONFIG, "far above", BOUNDS[i].name);
     }
-    check(status_with(offsetof(lw_limits, host), 24) == LW_BAD_CONFIG, "no multiple of 16", "host");
-    check(status_with(offsetof(lw_limits, device), 24) == LW_BAD_CONFIG, "no multiple of 16", "device");
+    for (uint64_t size = 1; size < 40; size++) {
+        const uint32_t wanted = size % 16 == 0 ? LW_DONE : LW_BAD_CONFIG;
+
+        check(status_with(offsetof(lw_limits, host), size) == wanted, "no multiple of 16", "host");
+        check(status_with(offsetof(lw_limits, device), size) == wanted, "no multiple of 16", "device");
+    }
 }
 
 /* What each refusal says. */
@@ -841,59 +1013,102 @@ static const struct {
     {{LW_ENDED, 0, 0}, "32 Ended"},
     {{LW_BAD_CLAUSE, 63, 0}, "33 BadClause item 63"},
     {{LW_BAD_LENGTH, 0, 20}, "34 BadLength len 20"},
+    {{LW_NO_DEVICE, 0, 4}, "22 NoDevice device 4"},
     {{LW_ABSENT, 0, 0}, "35 Absent"},
+    {{LW_BAD_VERSION, 0, 2000}, "36 BadVersion library 2000"},
     {{LW_DEVICE_FULL, UINT64_MAX, UINT64_MAX},
      "14 DeviceFull item 18446744073709551615 need 18446744073709551615"},
 };
 
 /* Statuses that are no refusal. */
-static const uint32_t NO_REFUSALS[] = {LW_DONE, 18, 31, 36, UINT32_MAX};
+static const uint32_t NO_REFUSALS[] = {18, 21, 23, 31, 37, UINT32_MAX};
 
-static void check_texts(void)
+/* A text that is written whole, cut, and not at all, with its length in each case. */
+static void check_text(const lw_fault *told, const char *text)
 {
-    uint8_t buffer[TEXT];
-    lw_fault fault;
+    const size_t wanted = strlen(text);
+    char buffer[LW_FAULT_TEXT_SIZE + 1];
 
-    for (size_t i = 0; i < sizeof TEXTS / sizeof *TEXTS; i++) {
-        size_t wanted = strlen(TEXTS[i].text);
+    for (size_t size = 0; size < sizeof buffer; size++) {
+        const size_t shown = size > wanted ? wanted : size != 0 ? size - 1 : 0;
         uint64_t len = UNTOUCHED;
 
         memset(buffer, '.', sizeof buffer);
-        check(lw_fault_text(&TEXTS[i].told, buffer, wanted - 1, &len, &fault) == LW_BAD_LENGTH &&
-                  fault.value == wanted && len == UNTOUCHED && buffer[0] == '.',
-              "text into a buffer too short", TEXTS[i].text);
-        check(lw_fault_text(&TEXTS[i].told, buffer, wanted, &len, &fault) == LW_DONE && len == wanted &&
-                  memcmp(buffer, TEXTS[i].text, wanted) == 0 && buffer[wanted] == '.',
-              "text", TEXTS[i].text);
-        refuse_growth(1);
-        check(lw_fault_text(&TEXTS[i].told, buffer, 0, &len, &fault) == LW_MEMORY && len == wanted,
-              "text without memory", TEXTS[i].text);
-        refuse_growth(0);
+        check(lw_fault_text(told, buffer, size, &len) == buffer && len == wanted, "text", text);
+        check(memcmp(buffer, text, shown) == 0 && (size == 0 || buffer[shown] == '\0'), "text that is cut", text);
+        check(buffer[size != 0 ? shown + 1 : 0] == '.', "text past its end", text);
+        check(lw_fault_text(told, buffer, size, NULL) == buffer, "text without its length", text);
     }
-    for (size_t i = 0; i < sizeof NO_REFUSALS / sizeof *NO_REFUSALS; i++) {
-        uint64_t len = UNTOUCHED;
-        lw_fault told = {NO_REFUSALS[i], 1, 2};
+    check(lw_fault_text(told, NULL, 0, NULL) == NULL, "text without a buffer", text);
+}
 
-        check(lw_fault_text(&told, buffer, sizeof buffer, &len, &fault) == LW_ABSENT && len == UNTOUCHED,
-              "text", "of a status that is no refusal");
+/* The name stands behind the number in the text, before a space or the end. */
+static void check_name(const lw_fault *told, const char *text)
+{
+    const char *name = lw_status_name(told->status);
+    char number[16], buffer[LW_FAULT_TEXT_SIZE];
+    int len = snprintf(number, sizeof number, "%" PRIu32 " ", told->status);
+
+    check(strncmp(text, number, len) == 0 && name[0] != '\0' && strncmp(text + len, name, strlen(name)) == 0 &&
+              strchr(" ", text[len + strlen(name)]) != NULL,
+          "name", text);
+    refuse_growth(1);
+    check(strcmp(lw_fault_text(told, buffer, sizeof buffer, NULL), name) == 0 && was_growth_refused(),
+          "text without memory", text);
+    refuse_growth(0);
+}
+
+static void check_texts(void)
+{
+    for (size_t i = 0; i < sizeof TEXTS / sizeof *TEXTS; i++) {
+        check_text(&TEXTS[i].told, TEXTS[i].text);
+        check_name(&TEXTS[i].told, TEXTS[i].text);
+    }
+    check_text(&(lw_fault){LW_DONE, 0, 0}, "Done");
+    for (size_t i = 0; i < sizeof NO_REFUSALS / sizeof *NO_REFUSALS; i++) {
+        check_text(&(lw_fault){NO_REFUSALS[i], 1, 2}, "");
     }
 }
 
-/* The longest text of all refusals with the greatest numbers is as long as the header says. */
+/* The longest text of all refusals with the greatest numbers just fits where the header says so. */
 static void check_longest_text(void)
 {
-    uint8_t buffer[TEXT];
     uint64_t longest = 0;
-    lw_fault fault;
 
     for (uint32_t status = 0; status < 64; status++) {
-        lw_fault told = {status, UINT64_MAX, UINT64_MAX};
+        const lw_fault told = {status, UINT64_MAX, UINT64_MAX};
         uint64_t len = 0;
 
-        lw_fault_text(&told, buffer, sizeof buffer, &len, &fault);
+        lw_fault_text(&told, NULL, 0, &len);
         longest = len > longest ? len : longest;
     }
-    check(longest == LW_FAULT_TEXT_MAX, "text", "the longest has another length");
+    check(longest + 1 == LW_FAULT_TEXT_SIZE, "text", "the longest has another length");
+}
+
+/* Without a place for a fault each call answers the same. */
+static void check_no_fault(void)
+{
+    static const lw_item item = {.clause = LW_COPY, .start = A, .len = 16};
+    lw_table table = LW_NO_TABLE;
+    uint64_t number = 0;
+    uint8_t bytes[16] = {0};
+
+    check(lw_rebase(&table, &number, NULL) == LW_ENDED && lw_report(&table, NULL, 0, NULL, NULL) == LW_ENDED,
+          "no fault", "without a table");
+    check(lw_table_new(&table, NULL, NULL) == LW_DONE && lw_enter(&table, 0, &item, 1, &number, NULL) == LW_DONE &&
+              lw_exit(&table, 9, NULL) == LW_NO_REGION && lw_host_write(&table, A, bytes, 16, NULL) == LW_DONE &&
+              lw_host_read(&table, 0, bytes, 16, NULL) == LW_OUT_OF_HOST &&
+              lw_device_read(&table, 0, A, bytes, 16, NULL) == LW_DONE &&
+              lw_enter_data(&table, 0, &item, 1, LW_ASYNC_SYNC, NULL) == LW_BAD_CLAUSE &&
+              lw_exit_data(&table, 0, NULL, 0, 0, LW_ASYNC_NOVAL, NULL) == LW_DONE &&
+              lw_update(&table, 0, NULL, 0, 0, lw_queue(16), NULL) == LW_NO_QUEUE &&
+              lw_wait(&table, 0, 16, &number, NULL) == LW_NO_QUEUE && lw_step(&table, 0, 0, &number, NULL) == LW_DONE &&
+              lw_lend(&table, 1, A, 16, &number, NULL) == LW_DONE &&
+              lw_lease_read(&table, 1, bytes, 15, NULL) == LW_BAD_LENGTH &&
+              lw_lease_write(&table, 1, bytes, 16, NULL) == LW_DONE && lw_gather(&table, 1, NULL) == LW_DONE &&
+              lw_report(&table, NULL, 0, NULL, NULL) == LW_BAD_LENGTH,
+          "no fault", "with a table");
+    lw_table_end(&table);
 }
 
 int main(void)
@@ -908,6 +1123,8 @@ int main(void)
     check_limits();
     check_texts();
     check_longest_text();
+    check_versions();
+    check_no_fault();
     check(lw_version() == LW_VERSION, "version", "the header has another one");
     check(refused_growths != 0, "memory", "no growth was refused");
     check(blocks_held() == 0, "memory", "a block is lost");

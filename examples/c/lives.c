@@ -87,14 +87,14 @@ static void enter_data(world *world, uint32_t clause, uint64_t start, uint64_t l
 {
     lw_item item = {.clause = clause, .start = start, .len = len};
 
-    must(lw_enter_data(&world->table, &item, 1, LW_NO_QUEUE_GIVEN, &world->fault), "enter data");
+    must(lw_enter_data(&world->table, 0, &item, 1, LW_ASYNC_SYNC, &world->fault), "enter data");
 }
 
 static void exit_data(world *world, uint32_t clause, uint64_t start)
 {
     lw_item item = {.clause = clause, .start = start, .len = LEN};
 
-    must(lw_exit_data(&world->table, &item, 1, 0, LW_NO_QUEUE_GIVEN, &world->fault), "exit data");
+    must(lw_exit_data(&world->table, 0, &item, 1, 0, LW_ASYNC_SYNC, &world->fault), "exit data");
 }
 
 /* Makes what is there the base of the trace, which has room for as many events as before. */
@@ -108,17 +108,16 @@ static void fold(world *world)
 /* A table on which the array is mapped, with room in its trace. */
 static void make(world *world)
 {
-    lw_limits limits;
+    lw_limits limits = LW_LIMITS;
     uint64_t made;
 
     *world = (struct world){.table = LW_NO_TABLE};
-    lw_limits_default(&limits);
     limits.host = limits.device = MEMORY;
     limits.regions = MOST;
     must(lw_table_new(&world->table, &limits, &world->fault), "table");
     enter_data(world, LW_CREATE, ARRAY, LEN);
     for (size_t i = 1; i < EVENTS; i++) {
-        must(lw_wait(&world->table, LW_NO_QUEUE_GIVEN, &made, &world->fault), "wait");
+        must(lw_wait(&world->table, 0, LW_NO_QUEUE_GIVEN, &made, &world->fault), "wait");
     }
     fold(world);
 }
@@ -132,7 +131,7 @@ static void enter(world *world, size_t place)
     for (size_t i = 0; i < HOLDINGS; i++) {
         items[i] = (lw_item){.clause = LW_COPY, .start = ARRAY, .len = LEN};
     }
-    must(lw_enter(&world->table, items, HOLDINGS, &world->alive[place], &world->fault), "enter");
+    must(lw_enter(&world->table, 0, items, HOLDINGS, &world->alive[place], &world->fault), "enter");
 }
 
 static void leave(world *world, size_t place)
@@ -218,7 +217,7 @@ static void begin_leases(world *world)
     for (size_t place = 0; place < MOST; place++) {
         map(world, place);
     }
-    must(lw_enter(&world->table, NULL, 0, &world->region, &world->fault), "enter");
+    must(lw_enter(&world->table, 0, NULL, 0, &world->region, &world->fault), "enter");
 }
 
 static void lend(world *world, size_t place)
@@ -410,7 +409,7 @@ static void name_large(lw_item *items, uint32_t clause)
 
 static uint32_t begin_region(world *world, const lw_item *items)
 {
-    return lw_enter(&world->table, items, ITEMS, &world->region, &world->fault);
+    return lw_enter(&world->table, 0, items, ITEMS, &world->region, &world->fault);
 }
 
 static void end_region(world *world, lw_item *items)
@@ -421,17 +420,17 @@ static void end_region(world *world, lw_item *items)
 
 static uint32_t begin_queued(world *world, const lw_item *items)
 {
-    return lw_enter_data(&world->table, items, ITEMS, world->queue, &world->fault);
+    return lw_enter_data(&world->table, 0, items, ITEMS, lw_queue((int64_t)world->queue), &world->fault);
 }
 
 static void end_queued(world *world, lw_item *items)
 {
     uint64_t made;
 
-    must(lw_wait(&world->table, world->queue, &made, &world->fault), "wait");
+    must(lw_wait(&world->table, 0, world->queue, &made, &world->fault), "wait");
     check(made == ITEMS, "queue", "other copies waited than those of the entry");
     name_large(items, LW_DELETE);
-    must(lw_exit_data(&world->table, items, ITEMS, 0, LW_NO_QUEUE_GIVEN, &world->fault), "exit data");
+    must(lw_exit_data(&world->table, 0, items, ITEMS, 0, LW_ASYNC_SYNC, &world->fault), "exit data");
 }
 
 static const entry REGION = {
@@ -476,7 +475,7 @@ static void update(world *world)
 {
     lw_item item = {.clause = LW_DEVICE, .start = ARRAY, .len = LEN};
 
-    must(lw_update(&world->table, &item, 1, 0, LW_NO_QUEUE_GIVEN, &world->fault), "update");
+    must(lw_update(&world->table, 0, &item, 1, 0, LW_ASYNC_SYNC, &world->fault), "update");
     fold(world);
 }
 

@@ -23,6 +23,7 @@ pub const PLAIN: Views = Views {
     lines: false,
     check: false,
     check_fails: false,
+    check_all: false,
 };
 
 /// Shows what each call did, and why lines are refused.

@@ -1,5 +1,7 @@
 -- How long the bytes are that the device has of a section.
-use Rattle.std.proofs.Common.{ℕ, ◌≡◌, ◌+◌, ◌≤◌, ◌<◌, refl, sym, ap, ◌∙◌, arith, cond, Bool, true, false, List, length, take, drop, Some, None}
+use Rattle.std.proofs.Common.{ℕ, ◌≡◌, ◌+◌, ◌≤◌, ◌<◌, refl, sym, ap, subst, ◌∙◌, arith, cond, Bool, true, false, List, [], length, take, drop, Some, None}
+use Rattle.std.specs.Prelude.{nat_le}
+use Rattle.std.proofs.lemmas.Bool.{leb-true, leb-false}
 use Rattle.std.proofs.lemmas.List.{length-take-le, length-drop}
 use Rattle.acc_base.specs.declared.items.Section.{Section}
 use Rattle.acc_base.specs.declared.mappings.Found.{Found}
@@ -7,7 +9,10 @@ use Rattle.acc_base.specs.declared.mappings.Found.TheVariants.{Empty, Inside, Pa
 use Rattle.acc_base.specs.Limits.{Limits, IsWithinBounds, limits_on}
 use Rattle.acc_base.proofs.OnDevices.{bounds_on}
 use Rattle.acc_base.specs.Records.{State}
-use Rattle.acc_base.specs.Devices.{view}
+use Rattle.acc_base.specs.declared.mappings.Range.{Range}
+use Rattle.acc_base.specs.Devices.{OneDevice, view}
+use Rattle.acc_base.proofs.Views.{device_beyond}
+use Rattle.acc_base.specs.Section.{is_empty}
 use Rattle.acc_base.specs.Accounts.{IsSound, IsAccounted}
 use Rattle.acc_base.specs.Bytes.{bytes_of}
 use Rattle.acc_base.specs.Calls.{World}
@@ -41,8 +46,23 @@ read_len l s section bytes bounds sound read = go (where_is section s.records.ra
     go Partly is h = cc
     go Absent is h = cc
 
--- the same of the one device that a table of C has
-pub device_read_len : (w : World) (section : Section) (bytes : List ℕ) → IsWithinBounds w.limits → IsAccounted w → device_read_of section (view 0 w.state) ≡ Some bytes → length bytes ≡ section.len
-device_read_len w section bytes bounds accounted read =
-    let there : 0 < w.limits.devices = omega (arith, bounds.devices.0) in
-    read_len (limits_on 0 w.limits) (view 0 w.state) section bytes (bounds_on 0 w.limits there bounds) (accounted.devices 0 there).sound read
+-- where nothing is mapped a section has no byte
+none_mapped : (section : Section) (s : State) (bytes : List ℕ) → s.records.ranges ≡ [] → device_read_of section s ≡ Some bytes → length bytes ≡ section.len
+none_mapped section s bytes none read = go (is_empty section) (subst (λ (ranges : List Range). device_read_in (where_is section ranges) section.len s ≡ Some bytes) none read)
+  where
+    go : (b : Bool) → device_read_in (cond b Empty Absent) section.len s ≡ Some bytes → length bytes ≡ section.len
+    go true h = cc
+    go false h = cc
+
+-- the same of each device of a table
+pub device_read_len : (device : ℕ) (w : World) (section : Section) (bytes : List ℕ) → IsWithinBounds w.limits → IsAccounted w → device_read_of section (view device w.state) ≡ Some bytes → length bytes ≡ section.len
+device_read_len device w section bytes bounds accounted read = go (nat_le w.limits.devices device) refl
+  where
+    go : (b : Bool) → nat_le w.limits.devices device ≡ b → length bytes ≡ section.len
+    go true is =
+        let beyond : length w.state.devices ≤ device = omega (arith, accounted.as_many, leb-true w.limits.devices device is) in
+        let nothing : (view device w.state).records.ranges ≡ [] = ap (λ (x : OneDevice). x.records.ranges) (device_beyond device w.state.devices beyond) in
+        none_mapped section (view device w.state) bytes nothing read
+    go false is =
+        let there : device < w.limits.devices = leb-false w.limits.devices device is in
+        read_len (limits_on device w.limits) (view device w.state) section bytes (bounds_on device w.limits there bounds) (accounted.devices device there).sound read

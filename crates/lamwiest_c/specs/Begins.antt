@@ -1,5 +1,5 @@
 -- How a table begins.
-use Rattle.std.specs.Prelude.{◌≡◌, ◌≤◌, ◌⊎◌, ◌==◌, [], Option, Some, Result, Ok, Err}
+use Rattle.std.specs.Prelude.{ℕ, ◌≡◌, ◌≤◌, ◌⊎◌, ◌==◌, if◌then◌else◌, [], Option, Some, Result, Ok, Err}
 use Rattle.acc_base.specs.declared.faults.Fault.TheVariants.{Memory, BadConfig}
 use Rattle.acc_base.specs.Limits.{Limits, limits_of, IsWithinBounds}
 use Rattle.acc_base.specs.Calls.{new_world}
@@ -9,16 +9,17 @@ use Rattle.lamwiest_c.specs.declared.tables.RawLimits.{RawLimits}
 use Rattle.lamwiest_c.specs.Environments.{DataEnvironment}
 use Rattle.lamwiest_c.specs.Answers.{Told}
 
--- the limits of a table of one device, as C writes them
+-- a limit, or what it is by default where it is 0
+abbrev pub or_default : ℕ → ℕ → ℕ
+or_default limit default = if limit == 0 then default else limit
+
+-- the limits of a table, as C writes them
 abbrev pub limits_in : RawLimits → Limits
-limits_in l = limits_of l.host l.device l.regions l.tickets l.counter_max l.queue_cap l.trace_cap (l.full == 1) 1
+limits_in l = limits_of (or_default l.host 65536) (or_default l.device 65536) (or_default l.regions 64) (or_default l.tickets 1099511627776) (or_default l.counter_max 4294967295) (or_default l.queue_cap 256) (or_default l.trace_cap 262144) (l.full == 1) (or_default l.devices 1)
 
 -- each is within its bounds
 abbrev pub AreWithinBounds : RawLimits → Type 0
 AreWithinBounds l = IsWithinBounds (limits_in l) × (l.full ≤ 1)
-
-abbrev pub default_limits : RawLimits
-default_limits = record { host = 65536; device = 65536; regions = 64; tickets = 1048576; counter_max = 4294967295; queue_cap = 256; trace_cap = 262144; full = 0 }
 
 -- a new table, which has lent nothing
 abbrev pub new_environment : Limits → DataEnvironment

@@ -16,7 +16,7 @@ use Rattle.acc_base.specs.declared.calls.Call.{Call}
 use Rattle.acc_base.specs.declared.calls.Call.TheVariants.{Do}
 use Rattle.acc_base.specs.Loans.{Leased}
 use Rattle.lamwiest_c.specs.declared.items.RawItem.{RawItem}
-use Rattle.lamwiest_c.specs.declared.items.TheConstants.{COPY, COPYIN, COPYOUT, COPYOUT_ZERO, CREATE, CREATE_ZERO, NO_CREATE, PRESENT, ATTACH, DELETE, DETACH, SELF, DEVICE, NO_QUEUE_GIVEN}
+use Rattle.lamwiest_c.specs.declared.items.TheConstants.{COPY, COPYIN, COPYOUT, COPYOUT_ZERO, CREATE, CREATE_ZERO, NO_CREATE, PRESENT, ATTACH, DELETE, DETACH, SELF, DEVICE, NO_QUEUE_GIVEN, ASYNC_SYNC, ASYNC_NOVAL, DEFAULT_QUEUE}
 use Rattle.lamwiest_c.specs.declared.statuses.Refusal.{Refusal}
 use Rattle.lamwiest_c.specs.declared.statuses.Refusal.TheVariants.{BadClause, OfTable}
 
@@ -58,7 +58,11 @@ update_clause n =
 abbrev pub pointer_of : ℕ → Option ℕ
 pointer_of pointer = if pointer == 0 then None else Some pointer
 
--- the queue of a directive; the last number stands for none
+-- the queue of a directive by the number of its `async`, if it has one
+abbrev pub queue_asked : ℕ → Option ℕ
+queue_asked number = if number == ASYNC_SYNC then None else if number == ASYNC_NOVAL then Some DEFAULT_QUEUE else Some number
+
+-- the queue of a wait; the last number stands for all
 abbrev pub queue_of : ℕ → Option ℕ
 queue_of queue = if queue == NO_QUEUE_GIVEN then None else Some queue
 
@@ -86,21 +90,21 @@ abbrev pub IsRead : {C : Type 0} → Result (List (Item C)) Refusal → Result (
 IsRead (Err refusal) result = result ≡ Err refusal
 IsRead (Ok items) result = (result ≡ Ok items) ⊎ (result ≡ Err (OfTable Memory))
 
--- ---- the directives of arrays, all on the one device that a table of C has
+-- ---- the directives of arrays, each on a device
 
 -- what is asked with some items, where these were read
 abbrev pub asked_with : {A : Type 0} → (A → Directive) → Result A Refusal → Result (Call Leased) Refusal
 asked_with f (Ok items) = Ok (Do (f items))
 asked_with f (Err refusal) = Err refusal
 
-abbrev pub enter_of : List RawItem → Result (Call Leased) Refusal
-enter_of items = asked_with (Enter 0) (items_from region_clause 0 items)
+abbrev pub enter_of : ℕ → List RawItem → Result (Call Leased) Refusal
+enter_of device items = asked_with (Enter device) (items_from region_clause 0 items)
 
-abbrev pub enter_data_of : List RawItem → ℕ → Result (Call Leased) Refusal
-enter_data_of items queue = asked_with (λ read. EnterData 0 read (queue_of queue)) (items_from enter_clause 0 items)
+abbrev pub enter_data_of : ℕ → List RawItem → ℕ → Result (Call Leased) Refusal
+enter_data_of device items queue = asked_with (λ read. EnterData device read (queue_asked queue)) (items_from enter_clause 0 items)
 
-abbrev pub exit_data_of : List RawItem → Bool → ℕ → Result (Call Leased) Refusal
-exit_data_of items finalize queue = asked_with (λ read. ExitData 0 read finalize (queue_of queue)) (items_from exit_clause 0 items)
+abbrev pub exit_data_of : ℕ → List RawItem → Bool → ℕ → Result (Call Leased) Refusal
+exit_data_of device items finalize queue = asked_with (λ read. ExitData device read finalize (queue_asked queue)) (items_from exit_clause 0 items)
 
-abbrev pub update_of : List RawItem → Bool → ℕ → Result (Call Leased) Refusal
-update_of items if_present queue = asked_with (λ read. Update 0 read if_present (queue_of queue)) (items_from update_clause 0 items)
+abbrev pub update_of : ℕ → List RawItem → Bool → ℕ → Result (Call Leased) Refusal
+update_of device items if_present queue = asked_with (λ read. Update device read if_present (queue_asked queue)) (items_from update_clause 0 items)

@@ -1,23 +1,24 @@
 -- What an item of the last event did, as C sees it.
-use Rattle.std.specs.Prelude.{ℕ, ◌+◌, ◌-◌, Bool, true, false, ◌&&◌, if◌then◌else◌, List, [], ◌∷◌, length, Option, None, Some, option_map, option_and_then, unwrap_or}
+use Rattle.std.specs.Prelude.{ℕ, ◌+◌, ◌-◌, Bool, false, if◌then◌else◌, List, [], ◌∷◌, length, Option, None, Some, is_some, option_map, option_and_then, unwrap_or}
 use Rattle.std.specs.List.{slice_get}
 use Rattle.acc_base.specs.declared.attachments.Aim.{Aim}
 use Rattle.acc_base.specs.declared.attachments.Aim.TheVariants as aims
 use Rattle.acc_base.specs.declared.events.Did.{Did}
 use Rattle.acc_base.specs.declared.events.Event.{Event}
-use Rattle.acc_base.specs.declared.events.Event.TheVariants.{Entered, EnteredData, ExitedData, Updated, Stepped}
+use Rattle.acc_base.specs.declared.events.Event.TheVariants.{Stepped}
 use Rattle.acc_base.specs.declared.events.Step.{Step}
 use Rattle.acc_base.specs.declared.events.Step.TheVariants.{Nothing, Counted, Born, Dropped, Moved}
-use Rattle.acc_base.specs.declared.items.EnterClause.{EnterClause}
-use Rattle.acc_base.specs.declared.items.ExitClause.{ExitClause}
-use Rattle.acc_base.specs.declared.items.Item.{Item}
-use Rattle.acc_base.specs.declared.items.RegionClause.{RegionClause}
-use Rattle.acc_base.specs.declared.items.UpdateClause.{UpdateClause}
+use Rattle.acc_base.specs.declared.mappings.Counter.TheVariants.{Structured}
+use Rattle.acc_base.specs.declared.tasks.Task.{Task}
+use Rattle.acc_base.specs.declared.tasks.Task.TheVariants.{Enter}
 use Rattle.acc_base.specs.Calls.{World}
-use Rattle.acc_base.specs.Clauses.{as_region, copies_in, copies_out, is_copyout, is_to_self}
-use Rattle.acc_base.specs.Devices.{view}
+use Rattle.acc_base.specs.Clauses.{copies_out}
+use Rattle.acc_base.specs.Items.{tasks_named}
+use Rattle.acc_base.specs.Devices.{view, device_in}
 use Rattle.acc_base.specs.Pointers.{attachment_of}
 use Rattle.acc_base.specs.Records.{Records}
+use Rattle.acc_base.specs.Tasks.{section_of}
+use Rattle.acc_base.specs.Transfers.{transfer_of, goes_out}
 use Rattle.acc_base.specs.Walk as walks
 use Rattle.lamwiest_c.specs.declared.dids.AimFields.{AimFields}
 use Rattle.lamwiest_c.specs.declared.dids.CopyFields.{CopyFields}
@@ -33,55 +34,25 @@ step_fields (Born block place) = record { step = 2; block = block; place = place
 step_fields (Dropped block ended) = record { step = if ended then 4 else 3; block = block; place = 0 }
 step_fields (Moved block) = record { step = 5; block = block; place = 0 }
 
-abbrev pub is_born : Step → Bool
-is_born (Born block place) = true
-is_born _ = false
-
-abbrev pub is_ended : Step → Bool
-is_ended (Dropped block ended) = ended
-is_ended _ = false
-
-abbrev pub is_moved : Step → Bool
-is_moved (Moved block) = true
-is_moved _ = false
-
 -- ---- its copy, which is made at once or put into a queue
 
--- this many bytes this way, if they are copied: 1 to the device, 2 to the host; and whether the region's exit copies
--- them back
-abbrev pub copy_fields : ℕ → Bool → Bool → ℕ → CopyFields
-copy_fields way copied back len = record { way = if copied then way else 0; back = if back then 1 else 0; len = if copied then len else 0 }
+-- the exit from its region copies an item to the host that enters it, if it ends the mapping
+abbrev pub comes_back : Task → Bool
+comes_back (Enter Structured item queue) = copies_out item.clause
+comes_back _ = false
 
-abbrev pub no_copy : CopyFields
-no_copy = copy_fields 0 false false 0
+-- its step has a transfer, whatever the ranges
+abbrev pub is_copied : Task → Step → Bool
+is_copied task step = is_some (transfer_of task step [])
 
--- an entry copies the section to a new block, and the exit copies it back, as its clause says
-abbrev pub of_entry : Step → Option (Item RegionClause) → CopyFields
-of_entry step None = no_copy
-of_entry step (Some item) = copy_fields 1 (is_born step && copies_in item.clause) (copies_out item.clause) item.section.len
+-- 1 to the device, 2 to the host
+abbrev pub way_of : Task → Step → ℕ
+way_of task step = if is_copied task step then (if goes_out task then 2 else 1) else 0
 
--- the same of `enter data`
-abbrev pub of_enter : Step → Option (Item EnterClause) → CopyFields
-of_enter step None = no_copy
-of_enter step (Some item) = copy_fields 1 (is_born step && copies_in (as_region item.clause)) false item.section.len
-
--- `exit data` copies the section to the host where the mapping ends, as its clause says
-abbrev pub of_exit : Step → Option (Item ExitClause) → CopyFields
-of_exit step None = no_copy
-of_exit step (Some item) = copy_fields 2 (is_ended step && is_copyout item.clause) false item.section.len
-
--- `update` copies what is present
-abbrev pub of_update : Step → Option (Item UpdateClause) → CopyFields
-of_update step None = no_copy
-of_update step (Some item) = copy_fields (if is_to_self item.clause then 2 else 1) (is_moved step) false item.section.len
-
--- the copy of the item of a place; what exits from a region, and the step of a queue, name no section
-abbrev pub copy_at : ℕ → Step → Event → CopyFields
-copy_at place step (Entered device number items did) = of_entry step (slice_get items place)
-copy_at place step (EnteredData device items queue did) = of_enter step (slice_get items place)
-copy_at place step (ExitedData device items finalize queue did) = of_exit step (slice_get items place)
-copy_at place step (Updated device items if_present queue did) = of_update step (slice_get items place)
-copy_at place step _ = no_copy
+-- the copy of what an item asked; what exits from a region, and the step of a queue, name none
+abbrev pub copy_of : Option Task → Step → CopyFields
+copy_of None step = record { way = 0; back = 0; len = 0 }
+copy_of (Some task) step = record { way = way_of task step; back = if comes_back task then 1 else 0; len = if is_copied task step then (section_of task).len else 0 }
 
 -- ---- its pointer
 
@@ -127,11 +98,11 @@ dids_in e = walks.did_in e
 
 -- what the item of a place did in an event, behind which there are these records
 abbrev pub did_in : ℕ → Event → Records → Option RawDid
-did_in place e w = option_map (λ d. raw_did d (copy_at place d.step e) (times_of d.aim w)) (slice_get (dids_in e) place)
+did_in place e w = option_map (λ d. raw_did d (copy_of (slice_get (tasks_named e) place) d.step) (times_of d.aim w)) (slice_get (dids_in e) place)
 
 -- what it did in the last event
 abbrev pub did_at : ℕ → World → Option RawDid
-did_at place w = option_and_then (λ e. did_in place e (view 0 w.state).records) (slice_get w.history.trace (length w.history.trace - 1))
+did_at place w = option_and_then (λ e. did_in place e (view (device_in e) w.state).records) (slice_get w.history.trace (length w.history.trace - 1))
 
 -- an array from a place on, with what the items did written over what stood there
 abbrev pub told_over : (ℕ → Option RawDid) → ℕ → List RawDid → List RawDid

@@ -1,6 +1,11 @@
 -- What a query of C finds.
-use Rattle.std.specs.Prelude.{ℕ, ◌≡◌, ◌-◌, Bool, if◌then◌else◌, List, length, Option, None, Some, Ok, Err, MatchOption}
+use Rattle.std.specs.Prelude.{ℕ, ◌≡◌, ◌+◌, ◌-◌, Bool, if◌then◌else◌, nat_le, List, length, Option, None, Some, Result, Ok, Err, MatchOption}
+use Rattle.acc_base.specs.declared.addresses.TheConstants.{HOST_BASE}
+use Rattle.acc_base.specs.declared.faults.Fault.TheVariants.{OutOfHost}
+use Rattle.acc_base.specs.Blocks.{rounded}
+use Rattle.acc_base.specs.declared.attachments.Attachment.{Attachment}
 use Rattle.acc_base.specs.declared.mappings.Counters.{Counters}
+use Rattle.acc_base.specs.declared.mappings.Ended.{Ended}
 use Rattle.acc_base.specs.declared.mappings.Found.{Found}
 use Rattle.acc_base.specs.declared.mappings.Found.TheVariants.{Inside}
 use Rattle.acc_base.specs.Ranges.{where_is}
@@ -9,6 +14,9 @@ use Rattle.acc_table.specs.declared.calls.Mapped.{Mapped}
 use Rattle.acc_table.specs.Queries.{mapped_from}
 use Rattle.lamwiest_c.specs.declared.statuses.TheConstants.{ENDED, ABSENT}
 use Rattle.lamwiest_c.specs.declared.statuses.Refusal.{Refusal}
+use Rattle.lamwiest_c.specs.declared.statuses.Refusal.TheVariants.{OfTable}
+use Rattle.lamwiest_c.specs.declared.lookups.RawAttached.{RawAttached}
+use Rattle.lamwiest_c.specs.declared.lookups.RawEnded.{RawEnded}
 use Rattle.lamwiest_c.specs.declared.queries.RawCounters.{RawCounters}
 use Rattle.lamwiest_c.specs.declared.queries.RawMapped.{RawMapped}
 use Rattle.lamwiest_c.specs.Environments.{DataEnvironment}
@@ -18,6 +26,10 @@ use Rattle.lamwiest_c.specs.Answers.{Told, section_at}
 abbrev pub IsCopied : Option (List ℕ) → Refusal → List ℕ → List ℕ → Told → Type 0
 IsCopied None refusal old new T = T (Err refusal) × (new ≡ old)
 IsCopied (Some bytes) refusal old new T = T (Ok (length bytes)) × (new ≡ bytes)
+
+-- where an array of so many bytes comes in host memory of this size, behind others that take so many bytes of it
+abbrev pub array_at : ℕ → ℕ → ℕ → Result ℕ Refusal
+array_at used len host = if nat_le (rounded used + len) host then Ok (HOST_BASE + rounded used) else Err (OfTable (OutOfHost 0))
 
 -- ---- queries, which return a status alone
 
@@ -47,6 +59,14 @@ range_at address w = range_found (where_is (section_at address 1) w.ranges) addr
 -- counters as C sees them
 abbrev pub raw_counters : Counters → RawCounters
 raw_counters c = record { structured = c.structured; dynamic = c.dynamic }
+
+-- an attached pointer as C sees it
+abbrev pub raw_attached : Attachment → RawAttached
+raw_attached a = record { pointer = a.pointer; count = a.count; block = a.block }
+
+-- a block whose mapping has ended, as C sees it
+abbrev pub raw_ended : Ended → RawEnded
+raw_ended e = record { place = e.place; size = e.size; pins = e.pins }
 
 -- a mapped range as C sees it
 abbrev pub raw_mapped : Mapped → RawMapped

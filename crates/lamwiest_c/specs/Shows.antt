@@ -4,7 +4,7 @@ use Rattle.std.specs.Fmt.{decimal}
 use Rattle.acc_base.specs.declared.faults.Fault.TheVariants.{Memory}
 use Rattle.acc_base.specs.Faults.{fault_text}
 use Rattle.lamwiest_c.specs.declared.statuses.Refusal.{Refusal}
-use Rattle.lamwiest_c.specs.declared.statuses.Refusal.TheVariants.{Ended, BadClause, BadLength, Absent, OfTable}
+use Rattle.lamwiest_c.specs.declared.statuses.Refusal.TheVariants.{Ended, BadClause, BadLength, Absent, BadVersion, OfTable}
 use Rattle.lamwiest_c.specs.Answers.{Told}
 
 -- the text is at the front of a buffer that has room for it, and the other bytes stay. A shorter one stays whole. The
@@ -25,6 +25,7 @@ text_of Ended = codes "32 Ended"
 text_of (BadClause item) = codes "33 BadClause item " ++ decimal item
 text_of (BadLength len) = codes "34 BadLength len " ++ decimal len
 text_of Absent = codes "35 Absent"
+text_of (BadVersion library) = codes "36 BadVersion library " ++ decimal library
 text_of (OfTable fault) = fault_text fault
 
 -- the text of a refusal, if there is one

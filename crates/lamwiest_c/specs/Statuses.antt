@@ -3,9 +3,9 @@ use Rattle.std.specs.Prelude.{ℕ, ◌≡◌, ◌==◌, if◌then◌else◌, Opt
 use Rattle.acc_base.specs.declared.faults.Fault.{Fault}
 use Rattle.acc_base.specs.declared.faults.Fault.TheVariants.{Memory, BadConfig, NoTickets, NoAllowance, TooManyItems, TraceFull, OutOfHost, Misaligned, NoQueue, PartlyPresent, NotPresent, CounterFull, Lent, DeviceFull, QueueFull, NoRegion, NoLease, NoDevice}
 use Rattle.acc_base.specs.Faults.{number_of}
-use Rattle.lamwiest_c.specs.declared.statuses.TheConstants.{ENDED, BAD_CLAUSE, BAD_LENGTH, ABSENT}
+use Rattle.lamwiest_c.specs.declared.statuses.TheConstants.{ENDED, BAD_CLAUSE, BAD_LENGTH, ABSENT, BAD_VERSION}
 use Rattle.lamwiest_c.specs.declared.statuses.Refusal.{Refusal}
-use Rattle.lamwiest_c.specs.declared.statuses.Refusal.TheVariants.{Ended, BadClause, BadLength, Absent, OfTable}
+use Rattle.lamwiest_c.specs.declared.statuses.Refusal.TheVariants.{Ended, BadClause, BadLength, Absent, BadVersion, OfTable}
 use Rattle.lamwiest_c.specs.declared.statuses.FaultFields.{FaultFields}
 
 -- the item that a fault names, or 0
@@ -38,6 +38,7 @@ status_of Ended = ENDED
 status_of (BadClause item) = BAD_CLAUSE
 status_of (BadLength len) = BAD_LENGTH
 status_of Absent = ABSENT
+status_of (BadVersion library) = BAD_VERSION
 status_of (OfTable fault) = number_of fault
 
 -- the fields of a refusal
@@ -46,6 +47,7 @@ fields_of Ended = record { status = ENDED; item = 0; value = 0 }
 fields_of (BadClause item) = record { status = BAD_CLAUSE; item = item; value = 0 }
 fields_of (BadLength len) = record { status = BAD_LENGTH; item = 0; value = len }
 fields_of Absent = record { status = ABSENT; item = 0; value = 0 }
+fields_of (BadVersion library) = record { status = BAD_VERSION; item = 0; value = library }
 fields_of (OfTable fault) = record { status = number_of fault; item = item_of fault; value = value_of fault }
 
 -- what came of a call, as its status
@@ -87,7 +89,8 @@ refusal_with status item value =
     if status == ENDED then Some Ended else
     if status == BAD_CLAUSE then Some (BadClause item) else
     if status == BAD_LENGTH then Some (BadLength value) else
-    if status == ABSENT then Some Absent else None
+    if status == ABSENT then Some Absent else
+    if status == BAD_VERSION then Some (BadVersion value) else None
 
 abbrev pub refusal_in : FaultFields → Option Refusal
 refusal_in fields = refusal_with fields.status fields.item fields.value

@@ -4,12 +4,12 @@ ghost use Rattle.std.specs.Prelude.{◌≡◌, Some};
 ghost use Rattle.std.specs.List.{slice_get};
 ghost use Rattle.acc_base.specs.Devices.{view};
 ghost use Rattle.lamwiest_c.specs.Finds.{IsAskedOf};
-ghost use Rattle.lamwiest_c.specs.Dids.{is_born, is_ended, is_moved, step_fields, aim_fields, copy_fields, of_entry, of_enter, of_exit, of_update, copy_at, raw_did, times_of, dids_in, did_in, did_at, told_over};
+ghost use Rattle.lamwiest_c.specs.Dids.{step_fields, aim_fields, comes_back, way_of, copy_of, raw_did, times_of, dids_in, did_in, did_at, told_over};
 
 use crate::handles::{Handle, put_back, take_out};
 use crate::queries::found;
 use crate::statuses::{DONE, ENDED};
-use acc_base::{Aim, Did, EnterClause, Event, ExitClause, Item, RegionClause, Step, UpdateClause};
+use acc_base::{Aim, Counter, Did, Event, Step, Task};
 use acc_table::Table;
 use std::alloc::Global;
 
@@ -99,115 +99,63 @@ fn aim_fields(aim: Aim) -> AimFields
     }
 }
 
-fn is_born(step: Step) -> bool
-    ensures { result ≡ is_born step }
+/// Whether the exit from its region copies an item to the host that enters it, if it ends the mapping.
+fn comes_back(task: Task) -> bool
+    ensures { result ≡ comes_back task }
 {
-    matches!(step, Step::Born { .. })
+    match task {
+        Task::Enter {
+            counter: Counter::Structured,
+            item,
+            ..
+        } => item.clause.copies_out(),
+        _ => false,
+    }
 }
 
-fn is_ended(step: Step) -> bool
-    ensures { result ≡ is_ended step }
+/// Which way an item was copied, or put into a queue.
+fn way_of(task: Task, step: Step) -> u32
+    ensures { result ≡ way_of task step }
 {
-    matches!(step, Step::Dropped { ended: true, .. })
+    match (task.copies(step), task.goes_out()) {
+        (false, _) => 0,
+        (true, false) => 1,
+        (true, true) => 2,
+    }
 }
 
-fn is_moved(step: Step) -> bool
-    ensures { result ≡ is_moved step }
+/// The copy of an item that asked this, if the event names what it asked.
+fn copy_of(task: Option<Task>, step: Step) -> CopyFields
+    ensures { result ≡ copy_of task step }
 {
-    matches!(step, Step::Moved { .. })
-}
-
-/// Returns a copy of this many bytes this way, if it was made or put into a queue.
-fn copy_fields(way: u32, copied: bool, back: bool, len: u64) -> CopyFields
-    ensures { result ≡ copy_fields way copied back len }
-{
-    let back = if back { 1 } else { 0 };
-    if copied {
-        CopyFields { way, back, len }
-    } else {
-        CopyFields {
+    let Some(task) = task else {
+        return CopyFields {
             way: 0,
-            back,
+            back: 0,
             len: 0,
-        }
+        };
+    };
+    CopyFields {
+        way: way_of(task, step),
+        back: if comes_back(task) { 1 } else { 0 },
+        len: if task.copies(step) {
+            task.section().len
+        } else {
+            0
+        },
     }
 }
 
-/// The copy of an item of a region's entry.
-fn of_entry(step: Step, item: Option<Item<RegionClause>>) -> CopyFields
-    ensures { result ≡ of_entry step item }
-{
-    match item {
-        Some(item) => {
-            let copied = is_born(step) && item.clause.copies_in();
-            copy_fields(1, copied, item.clause.copies_out(), item.section.len)
-        }
-        None => copy_fields(0, false, false, 0),
-    }
-}
-
-/// The copy of an item of `enter data`.
-fn of_enter(step: Step, item: Option<Item<EnterClause>>) -> CopyFields
-    ensures { result ≡ of_enter step item }
-{
-    match item {
-        Some(item) => {
-            let copied = is_born(step) && item.clause.as_region().copies_in();
-            copy_fields(1, copied, false, item.section.len)
-        }
-        None => copy_fields(0, false, false, 0),
-    }
-}
-
-/// The copy of an item of `exit data`.
-fn of_exit(step: Step, item: Option<Item<ExitClause>>) -> CopyFields
-    ensures { result ≡ of_exit step item }
-{
-    match item {
-        Some(item) => {
-            let copied = is_ended(step) && item.clause.copies_out();
-            copy_fields(2, copied, false, item.section.len)
-        }
-        None => copy_fields(0, false, false, 0),
-    }
-}
-
-/// The copy of an item of `update`.
-fn of_update(step: Step, item: Option<Item<UpdateClause>>) -> CopyFields
-    ensures { result ≡ of_update step item }
-{
-    match item {
-        Some(item) => {
-            let way = if item.clause.copies_out() { 2 } else { 1 };
-            copy_fields(way, is_moved(step), false, item.section.len)
-        }
-        None => copy_fields(0, false, false, 0),
-    }
-}
-
-/// The copy of the item of a place in an event.
-fn copy_at(event: &Event, place: usize, step: Step) -> CopyFields
-    ensures { result ≡ copy_at place step event.now }
-{
-    match event {
-        Event::Entered { items, .. } => of_entry(step, items.as_slice().get(place).copied()),
-        Event::EnteredData { items, .. } => of_enter(step, items.as_slice().get(place).copied()),
-        Event::ExitedData { items, .. } => of_exit(step, items.as_slice().get(place).copied()),
-        Event::Updated { items, .. } => of_update(step, items.as_slice().get(place).copied()),
-        _ => copy_fields(0, false, false, 0),
-    }
-}
-
-/// How often the pointer of an item is attached now, where the item did something to it.
-fn times_of(table: &Table, aim: Aim) -> u64
-    ensures { result ≡ times_of aim (view 0 table.now.state).records }
+/// How often the pointer of an item is attached on a device now, where the item did something to it.
+fn times_of(table: &Table, device: u64, aim: Aim) -> u64
+    ensures { result ≡ times_of aim (view device table.now.state).records }
 {
     match aim {
         Aim::None => 0,
         Aim::New { pointer, .. }
         | Aim::Again { pointer, .. }
         | Aim::Less { pointer, .. }
-        | Aim::Cleared { pointer, .. } => table.attachment(0, pointer),
+        | Aim::Cleared { pointer, .. } => table.attachment(device, pointer),
     }
 }
 
@@ -256,8 +204,9 @@ fn did_at(table: &Table, place: usize) -> Option<RawDid>
 {
     let event = table.trace().last()?;
     let did = did_in(event, place)?;
-    let copy = copy_at(event, place, did.step);
-    Some(raw_did(did, copy, times_of(table, did.aim)))
+    let copy = copy_of(event.task(place), did.step);
+    let times = times_of(table, event.device(), did.aim);
+    Some(raw_did(did, copy, times))
 }
 
 /// Writes into `did` what the item of a place, from 0 on, did in the last event. It returns `ABSENT` where there is no

@@ -8,7 +8,7 @@ ghost use Rattle.lamwiest_c.specs.Begins.{new_environment};
 ghost use Rattle.lamwiest_c.specs.Clauses.{enter_of, enter_data_of, exit_data_of, update_of};
 ghost use Rattle.lamwiest_c.specs.Answers.{number_in, IsMadeIn, IsAsked, IsRebased};
 
-use crate::items::{RawItem, items_of, queue_of};
+use crate::items::{RawItem, items_of, queue_asked};
 use crate::statuses::Refusal;
 use acc_base::{Config, Directive, List};
 use acc_index::Index;
@@ -116,11 +116,11 @@ impl TableWithLeases {
     /// # Errors
     ///
     /// Those of `items_of` and of the table.
-    pub fn enter(&mut self, alloc: Global, items: &[RawItem]) -> Result<u64, Refusal>
-        ensures { IsAsked self.old (enter_of items.now) (λ r. result ≡ r) self.new }
+    pub fn enter(&mut self, alloc: Global, device: u64, items: &[RawItem]) -> Result<u64, Refusal>
+        ensures { IsAsked self.old (enter_of device items.now) (λ r. result ≡ r) self.new }
     {
         let items = items_of(alloc, items)?;
-        self.direct(Directive::Enter { device: 0, items })
+        self.direct(Directive::Enter { device, items })
     }
 
     /// Carries out `enter data` with the items of an array (OpenACC 3.3, section 2.6.6). Errors are those of
@@ -128,13 +128,14 @@ impl TableWithLeases {
     pub fn enter_data(
         &mut self,
         alloc: Global,
+        device: u64,
         items: &[RawItem],
         queue: u64,
     ) -> Result<u64, Refusal>
-        ensures { IsAsked self.old (enter_data_of items.now queue) (λ r. result ≡ r) self.new }
+        ensures { IsAsked self.old (enter_data_of device items.now queue) (λ r. result ≡ r) self.new }
     {
         let items = items_of(alloc, items)?;
-        let (device, queue) = (0, queue_of(queue));
+        let queue = queue_asked(queue);
         self.direct(Directive::EnterData {
             device,
             items,
@@ -147,16 +148,17 @@ impl TableWithLeases {
     pub fn exit_data(
         &mut self,
         alloc: Global,
+        device: u64,
         items: &[RawItem],
         finalize: bool,
         queue: u64,
     ) -> Result<u64, Refusal>
-        ensures { IsAsked self.old (exit_data_of items.now finalize queue) (λ r. result ≡ r) self.new }
+        ensures { IsAsked self.old (exit_data_of device items.now finalize queue) (λ r. result ≡ r) self.new }
     {
         let items = items_of(alloc, items)?;
-        let queue = queue_of(queue);
+        let queue = queue_asked(queue);
         self.direct(Directive::ExitData {
-            device: 0,
+            device,
             items,
             finalize,
             queue,
@@ -168,16 +170,17 @@ impl TableWithLeases {
     pub fn update(
         &mut self,
         alloc: Global,
+        device: u64,
         items: &[RawItem],
         if_present: bool,
         queue: u64,
     ) -> Result<u64, Refusal>
-        ensures { IsAsked self.old (update_of items.now if_present queue) (λ r. result ≡ r) self.new }
+        ensures { IsAsked self.old (update_of device items.now if_present queue) (λ r. result ≡ r) self.new }
     {
         let items = items_of(alloc, items)?;
-        let queue = queue_of(queue);
+        let queue = queue_asked(queue);
         self.direct(Directive::Update {
-            device: 0,
+            device,
             items,
             if_present,
             queue,

@@ -1,7 +1,7 @@
 //! Items as C writes them, and the clauses by their numbers.
 
 ghost use Rattle.std.specs.Prelude.{◌≡◌, ℕ, Option, Err, [], ◌∷◌};
-ghost use Rattle.lamwiest_c.specs.Clauses.{pointer_of, queue_of, region_clause, enter_clause, exit_clause, update_clause, item_of, items_from, IsRead};
+ghost use Rattle.lamwiest_c.specs.Clauses.{pointer_of, queue_of, queue_asked, region_clause, enter_clause, exit_clause, update_clause, item_of, items_from, IsRead};
 
 use crate::statuses::Refusal;
 use acc_base::{EnterClause, ExitClause, Fault, Item, List, RegionClause, Section, UpdateClause};
@@ -46,8 +46,17 @@ pub const SELF: u32 = 12;
 /// The `device` clause, of `update`.
 pub const DEVICE: u32 = 13;
 
-/// The number that stands for no queue.
+/// The number of all queues, to wait for.
 pub const NO_QUEUE_GIVEN: u64 = 18_446_744_073_709_551_615;
+
+/// The number of no queue, as `acc_async_sync` in 64 bits: copies are made at once.
+pub const ASYNC_SYNC: u64 = 18_446_744_073_709_551_614;
+
+/// The number of `async` without an argument, as `acc_async_noval` in 64 bits.
+pub const ASYNC_NOVAL: u64 = 18_446_744_073_709_551_615;
+
+/// The queue of `async` without an argument.
+const DEFAULT_QUEUE: u64 = 0;
 
 /// One item of a data clause, as C writes it.
 #[repr(C)]
@@ -70,7 +79,18 @@ fn pointer_of(pointer: u64) -> Option<u64>
     if pointer == 0 { None } else { Some(pointer) }
 }
 
-/// The queue of a directive, where it is not [`NO_QUEUE_GIVEN`].
+/// The queue of a directive by the number of its `async` (OpenACC 3.3, section 2.16): none for [`ASYNC_SYNC`].
+pub fn queue_asked(number: u64) -> Option<u64>
+    ensures { result ≡ queue_asked number }
+{
+    match number {
+        ASYNC_SYNC => None,
+        ASYNC_NOVAL => Some(DEFAULT_QUEUE),
+        _ => Some(number),
+    }
+}
+
+/// The queue of a wait, where it is not [`NO_QUEUE_GIVEN`].
 pub fn queue_of(queue: u64) -> Option<u64>
     ensures { result ≡ queue_of queue }
 {

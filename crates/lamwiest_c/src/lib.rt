@@ -14,6 +14,7 @@ mod environments;
 mod handles;
 mod items;
 mod loans;
+mod lookups;
 mod memories;
 mod parts;
 mod queries;

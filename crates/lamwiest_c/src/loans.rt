@@ -162,10 +162,10 @@ impl TableWithLeases {
 }
 
 /// Lends the device's bytes of a section to a kernel in an open data region (OpenACC 3.3, section 2.5, compute
-/// constructs). Where it is done, `lease` is the number of the lease. Until [`lw_gather`] spends it no other call reads
-/// or writes these bytes; the kernel reads them by [`lw_lease_read`], and writes them by [`lw_lease_write`].
+/// constructs). Where it is done, `lease` is the number of the lease. Until [`lamwiest_gather`] spends it no other call reads
+/// or writes these bytes; the kernel reads them by [`lamwiest_lease_read`], and writes them by [`lamwiest_lease_write`].
 #[unsafe(no_mangle)]
-pub extern "C" fn lw_lend(
+pub extern "C" fn lamwiest_lend(
     alloc: Global,
     table: &mut Handle,
     region: u64,
@@ -188,7 +188,7 @@ pub extern "C" fn lw_lend(
 /// Brings a lease back, with its bytes as they were last written (OpenACC 3.3, section 2.5, compute constructs). A
 /// lease that is refused stays, with its bytes; one that was spent is `NoLease`.
 #[unsafe(no_mangle)]
-pub extern "C" fn lw_gather(
+pub extern "C" fn lamwiest_gather(
     alloc: Global,
     table: &mut Handle,
     lease: u64,
@@ -207,7 +207,7 @@ pub extern "C" fn lw_gather(
 
 /// Copies the bytes of a lease into a buffer that is as long as its section.
 #[unsafe(no_mangle)]
-pub extern "C" fn lw_lease_read(
+pub extern "C" fn lamwiest_lease_read(
     alloc: Global,
     table: &mut Handle,
     lease: u64,
@@ -227,7 +227,7 @@ pub extern "C" fn lw_lease_read(
 
 /// Writes bytes over those of a lease, as many as its section has.
 #[unsafe(no_mangle)]
-pub extern "C" fn lw_lease_write(
+pub extern "C" fn lamwiest_lease_write(
     alloc: Global,
     table: &mut Handle,
     lease: u64,

@@ -1,6 +1,6 @@
 //! The queries of a table. None allocates, changes anything or is refused. Where there is nothing to find, a query
-//! returns `ABSENT`; where the handle has no table, it returns `ENDED`. Then the place of the result keeps its value. A
-//! query of a device is for the one device of the table.
+//! returns `ABSENT`; where the handle has no table, it returns `ENDED`. Then the place of the result keeps its value. On
+//! a device that is not there nothing is mapped or waits.
 
 ghost use Rattle.std.specs.Prelude.{◌≡◌, Some, length, option_map};
 ghost use Rattle.acc_base.specs.Blocks.{used_bytes};
@@ -94,16 +94,17 @@ pub fn found<T: Copy + Drop>(answer: Option<T>, place: &mut T) -> u32
 pub extern "C" fn lw_is_present(
     alloc: Global,
     table: &mut Handle,
+    device: u64,
     start: u64,
     len: u64,
     present: &mut u64,
 ) -> u32
-    ensures { IsAskedOf table.old.value table.new.value (λ e. Some (number_of_bool (is_inside (where_is (section_at start len) (view 0 e.world.state).records.ranges)))) result present.old present.new }
+    ensures { IsAskedOf table.old.value table.new.value (λ e. Some (number_of_bool (is_inside (where_is (section_at start len) (view device e.world.state).records.ranges)))) result present.old present.new }
 {
     let Some(environment) = take_out(alloc, table) else {
         return ENDED;
     };
-    let answer = number_of_bool(environment.table.is_present(0, Section { start, len }));
+    let answer = number_of_bool(environment.table.is_present(device, Section { start, len }));
     put_back(table, environment);
     found(Some(answer), present)
 }
@@ -113,15 +114,16 @@ pub extern "C" fn lw_is_present(
 pub extern "C" fn lw_device_address(
     alloc: Global,
     table: &mut Handle,
+    device: u64,
     address: u64,
     place: &mut u64,
 ) -> u32
-    ensures { IsAskedOf table.old.value table.new.value (λ e. device_address_of address (view 0 e.world.state).records) result place.old place.new }
+    ensures { IsAskedOf table.old.value table.new.value (λ e. device_address_of address (view device e.world.state).records) result place.old place.new }
 {
     let Some(environment) = take_out(alloc, table) else {
         return ENDED;
     };
-    let answer = environment.table.device_address(0, address);
+    let answer = environment.table.device_address(device, address);
     put_back(table, environment);
     found(answer, place)
 }
@@ -131,16 +133,17 @@ pub extern "C" fn lw_device_address(
 pub extern "C" fn lw_counters(
     alloc: Global,
     table: &mut Handle,
+    device: u64,
     start: u64,
     len: u64,
     counters: &mut RawCounters,
 ) -> u32
-    ensures { IsAskedOf table.old.value table.new.value (λ e. option_map raw_counters (counters_of_section (section_at start len) (view 0 e.world.state).records)) result counters.old counters.new }
+    ensures { IsAskedOf table.old.value table.new.value (λ e. option_map raw_counters (counters_of_section (section_at start len) (view device e.world.state).records)) result counters.old counters.new }
 {
     let Some(environment) = take_out(alloc, table) else {
         return ENDED;
     };
-    let answer = environment.table.counters(0, Section { start, len });
+    let answer = environment.table.counters(device, Section { start, len });
     put_back(table, environment);
     match answer {
         Some(told) => found(Some(raw_counters(told)), counters),
@@ -153,15 +156,16 @@ pub extern "C" fn lw_counters(
 pub extern "C" fn lw_attachment(
     alloc: Global,
     table: &mut Handle,
+    device: u64,
     pointer: u64,
     count: &mut u64,
 ) -> u32
-    ensures { IsAskedOf table.old.value table.new.value (λ e. Some (attachment_of pointer (view 0 e.world.state).records)) result count.old count.new }
+    ensures { IsAskedOf table.old.value table.new.value (λ e. Some (attachment_of pointer (view device e.world.state).records)) result count.old count.new }
 {
     let Some(environment) = take_out(alloc, table) else {
         return ENDED;
     };
-    let answer = environment.table.attachment(0, pointer);
+    let answer = environment.table.attachment(device, pointer);
     put_back(table, environment);
     found(Some(answer), count)
 }
@@ -172,15 +176,16 @@ pub extern "C" fn lw_attachment(
 pub extern "C" fn lw_mapped(
     alloc: Global,
     table: &mut Handle,
+    device: u64,
     from: u64,
     mapped: &mut RawMapped,
 ) -> u32
-    ensures { IsAskedOf table.old.value table.new.value (λ e. option_map raw_mapped (mapped_from from (view 0 e.world.state).records)) result mapped.old mapped.new }
+    ensures { IsAskedOf table.old.value table.new.value (λ e. option_map raw_mapped (mapped_from from (view device e.world.state).records)) result mapped.old mapped.new }
 {
     let Some(environment) = take_out(alloc, table) else {
         return ENDED;
     };
-    let answer = environment.table.mapped(0, from);
+    let answer = environment.table.mapped(device, from);
     put_back(table, environment);
     match answer {
         Some(told) => found(Some(raw_mapped(told)), mapped),
@@ -189,15 +194,15 @@ pub extern "C" fn lw_mapped(
 }
 
 /// The mapped range that a host address is in.
-fn range_at(table: &Table, address: u64) -> Option<Mapped>
-    ensures { result ≡ range_at address (view 0 table.now.state).records }
+fn range_at(table: &Table, device: u64, address: u64) -> Option<Mapped>
+    ensures { result ≡ range_at address (view device table.now.state).records }
 {
     let only = Section {
         start: address,
         len: 1,
     };
-    match table.find(0, only) {
-        Found::Inside { offset, .. } => table.mapped(0, address.saturating_sub(offset)),
+    match table.find(device, only) {
+        Found::Inside { offset, .. } => table.mapped(device, address.saturating_sub(offset)),
         Found::Empty | Found::Partly | Found::Absent => None,
     }
 }
@@ -207,15 +212,16 @@ fn range_at(table: &Table, address: u64) -> Option<Mapped>
 pub extern "C" fn lw_range_at(
     alloc: Global,
     table: &mut Handle,
+    device: u64,
     address: u64,
     mapped: &mut RawMapped,
 ) -> u32
-    ensures { IsAskedOf table.old.value table.new.value (λ e. option_map raw_mapped (range_at address (view 0 e.world.state).records)) result mapped.old mapped.new }
+    ensures { IsAskedOf table.old.value table.new.value (λ e. option_map raw_mapped (range_at address (view device e.world.state).records)) result mapped.old mapped.new }
 {
     let Some(environment) = take_out(alloc, table) else {
         return ENDED;
     };
-    let answer = range_at(&environment.table, address);
+    let answer = range_at(&environment.table, device, address);
     put_back(table, environment);
     match answer {
         Some(told) => found(Some(raw_mapped(told)), mapped),
@@ -225,26 +231,32 @@ pub extern "C" fn lw_range_at(
 
 /// Writes how many transfers wait in a queue; 0 where there is no such queue (OpenACC 3.3, section 2.16).
 #[unsafe(no_mangle)]
-pub extern "C" fn lw_queue_len(alloc: Global, table: &mut Handle, queue: u64, len: &mut u64) -> u32
-    ensures { IsAskedOf table.old.value table.new.value (λ e. Some (length (queue_at queue (view 0 e.world.state).records.queues))) result len.old len.new }
+pub extern "C" fn lw_queue_len(
+    alloc: Global,
+    table: &mut Handle,
+    device: u64,
+    queue: u64,
+    len: &mut u64,
+) -> u32
+    ensures { IsAskedOf table.old.value table.new.value (λ e. Some (length (queue_at queue (view device e.world.state).records.queues))) result len.old len.new }
 {
     let Some(environment) = take_out(alloc, table) else {
         return ENDED;
     };
-    let answer = environment.table.queue_len(0, queue);
+    let answer = environment.table.queue_len(device, queue);
     put_back(table, environment);
     found(Some(answer), len)
 }
 
 /// Writes how many bytes of device memory all blocks take, each rounded up to a multiple of 16.
 #[unsafe(no_mangle)]
-pub extern "C" fn lw_used(alloc: Global, table: &mut Handle, used: &mut u64) -> u32
-    ensures { IsAskedOf table.old.value table.new.value (λ e. Some (used_bytes (view 0 e.world.state).records.blocks)) result used.old used.new }
+pub extern "C" fn lw_used(alloc: Global, table: &mut Handle, device: u64, used: &mut u64) -> u32
+    ensures { IsAskedOf table.old.value table.new.value (λ e. Some (used_bytes (view device e.world.state).records.blocks)) result used.old used.new }
 {
     let Some(environment) = take_out(alloc, table) else {
         return ENDED;
     };
-    let answer = environment.table.used(0);
+    let answer = environment.table.used(device);
     put_back(table, environment);
     found(Some(answer), used)
 }

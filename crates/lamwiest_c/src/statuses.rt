@@ -22,6 +22,9 @@ pub const BAD_LENGTH: u32 = 34;
 /// There is no such thing: nothing is mapped there, or no refusal has that status.
 pub const ABSENT: u32 = 35;
 
+/// The program was compiled with another header than the library's.
+pub const BAD_VERSION: u32 = 36;
+
 /// Why a call from C was refused. A refused call changes nothing.
 #[derive(Clone, Copy)]
 pub enum Refusal {
@@ -39,6 +42,11 @@ pub enum Refusal {
     },
     /// There is no such thing.
     Absent,
+    /// The program was compiled with another header than the library's, and no version of it that the library knows.
+    BadVersion {
+        /// The version of the library.
+        library: u64,
+    },
     /// The table refused the call.
     OfTable(Fault),
 }
@@ -52,8 +60,8 @@ pub struct FaultFields {
     /// The place of the item that is refused, counted from 0; 0 where the refusal names none.
     pub item: u64,
     /// The other number of the refusal; 0 where it has none. It is how many tickets or regions are left, or how many
-    /// items or events there are. Or it is the queue, block, region, lease or device that is meant, or how many bytes
-    /// are wanted.
+    /// items or events there are. Or it is the queue, block, region, lease or device that is meant, how many bytes are
+    /// wanted, or the version of the library.
     pub value: u64,
 }
 
@@ -104,6 +112,7 @@ impl Refusal {
             Refusal::BadClause { .. } => BAD_CLAUSE,
             Refusal::BadLength { .. } => BAD_LENGTH,
             Refusal::Absent => ABSENT,
+            Refusal::BadVersion { .. } => BAD_VERSION,
             Refusal::OfTable(fault) => number_of(fault),
         }
     }
@@ -124,11 +133,13 @@ impl Refusal {
                 item,
                 value: 0,
             },
-            Refusal::BadLength { len } => FaultFields {
-                status,
-                item: 0,
-                value: len,
-            },
+            Refusal::BadLength { len: value } | Refusal::BadVersion { library: value } => {
+                FaultFields {
+                    status,
+                    item: 0,
+                    value,
+                }
+            }
             Refusal::OfTable(fault) => FaultFields {
                 status,
                 item: item_of(fault),
@@ -179,6 +190,7 @@ impl FaultFields {
             BAD_CLAUSE => Some(Refusal::BadClause { item }),
             BAD_LENGTH => Some(Refusal::BadLength { len: value }),
             ABSENT => Some(Refusal::Absent),
+            BAD_VERSION => Some(Refusal::BadVersion { library: value }),
             _ => None,
         }
     }

@@ -26,6 +26,7 @@ impl fmt::Display for Refusal {
             Refusal::BadClause { item } => write!(f, "33 BadClause item {item}"),
             Refusal::BadLength { len } => write!(f, "34 BadLength len {len}"),
             Refusal::Absent => f.write_str("35 Absent"),
+            Refusal::BadVersion { library } => write!(f, "36 BadVersion library {library}"),
             Refusal::OfTable(fault) => write!(f, "{fault}"),
         }
     }
@@ -72,7 +73,7 @@ fn show_refusal(alloc: Global, refusal: Refusal, buffer: &mut [u8]) -> Result<u6
 /// length of the text in bytes, and the buffer's other bytes stay. Where the buffer is too short, the fault's value is
 /// that length.
 #[unsafe(no_mangle)]
-pub extern "C" fn lw_report(
+pub extern "C" fn lamwiest_report(
     alloc: Global,
     table: &mut Handle,
     buffer: &mut [u8],
@@ -93,7 +94,7 @@ pub extern "C" fn lw_report(
 /// Puts what a refusal says at the front of a buffer: its status, its name, and its numbers with their names. Where it
 /// is done, `len` is the length of the text in bytes. It is `ABSENT` where no refusal has the status.
 #[unsafe(no_mangle)]
-pub extern "C" fn lw_fault_text(
+pub extern "C" fn lamwiest_fault_text(
     alloc: Global,
     told: &FaultFields,
     buffer: &mut [u8],

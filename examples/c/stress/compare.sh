@@ -8,7 +8,7 @@
 # a seed of its own. Behind them LONG calls of the profile `long` are made: with 300,000 of them the trace is full. At
 # the end a table says how often each status was answered, to what a script can say and to what none can say, and what
 # the reports had. Each status that a script can see has to be met; that of a full trace only where LONG is given.
-# LW_MEMORY, LW_NO_TICKETS and LW_COUNTER_FULL need a heap and limits that accrun has not: calls.c meets them.
+# Memory, NoTickets and CounterFull need a heap and limits that accrun has not: calls.c meets them.
 #
 # ACCRUN is the program accrun; where it is not given, the one that its crate has built.
 set -eu
@@ -18,9 +18,9 @@ rounds=$3
 calls=$4
 long=${5:-0}
 accrun=${ACCRUN:-$(dirname "$0")/../../../crates/accrun/out/accrun}
-profiles='usual crowded queued deep pointers'
-seen='LW_DONE LW_NO_ALLOWANCE LW_TOO_MANY_ITEMS LW_OUT_OF_HOST LW_MISALIGNED LW_NO_QUEUE LW_PARTLY_PRESENT
-LW_NOT_PRESENT LW_DEVICE_FULL LW_QUEUE_FULL LW_ABSENT'
+profiles='usual crowded queued deep pointers devices'
+seen='Done NoAllowance TooManyItems OutOfHost Misaligned NoQueue PartlyPresent NotPresent DeviceFull QueueFull NoDevice
+Absent'
 made=0
 wrong=0
 
@@ -53,7 +53,7 @@ for seed in $(seq "$rounds"); do
 done
 if [ "$long" -ne 0 ]; then
     compare long 1 "$long"
-    seen="$seen LW_TRACE_FULL"
+    seen="$seen TraceFull"
 fi
 
 met=0

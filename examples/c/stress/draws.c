@@ -86,8 +86,8 @@ static section mapped_of(run *run, uint32_t array)
     uint64_t from = 0;
     uint64_t len;
 
-    if (lw_mapped(&run->table, run->arrays[array].start, &range) != LW_DONE &&
-        lw_mapped(&run->table, 0, &range) != LW_DONE) {
+    if (lw_mapped(&run->table, run->device, run->arrays[array].start, &range) != LW_DONE &&
+        lw_mapped(&run->table, run->device, 0, &range) != LW_DONE) {
         return whole_of(run, array);
     }
     len = range.len;

@@ -40,36 +40,17 @@ static const profile PROFILES[] = {
      .host = 4096, .device = 4096, .arrays = 5, .longest = 48, .items = 5, .wild = 5, .async = 5, .queues = 4,
      .weights = {[ENTER] = 10, [LEAVE] = 9, [ENTER_DATA] = 20, [EXIT_DATA] = 12, [UPDATE] = 9, [WAIT] = 4, [STEP] = 4,
                  [WRITE] = 2, [POINT] = 16, [KERNEL] = 4, [ASK] = 6, [NOTHING] = 1, [UNSAID] = 3}},
+    /* Four devices, each with some of the arrays. */
+    {.name = "devices",
+     .host = 4096, .device = 1024, .devices = 4, .arrays = 6, .longest = 80, .items = 3, .wild = 6, .async = 4,
+     .queues = 4,
+     .weights = {[ENTER] = 9, [LEAVE] = 9, [ENTER_DATA] = 14, [EXIT_DATA] = 11, [UPDATE] = 9, [WAIT] = 3, [STEP] = 8,
+                 [WRITE] = 7, [POINT] = 6, [KERNEL] = 8, [ASK] = 9, [NOTHING] = 1, [UNSAID] = 5, [TURN] = 10}},
     /* Short statements that are rarely refused: with some 300,000 of them the trace is full. */
     {.name = "long",
      .host = 512, .device = 65536, .arrays = 4, .longest = 48, .items = 1, .wild = 24, .async = 8, .queues = 16,
      .weights = {[ENTER] = 6, [LEAVE] = 6, [ENTER_DATA] = 12, [EXIT_DATA] = 14, [UPDATE] = 6, [WAIT] = 12, [STEP] = 1,
                  [WRITE] = 16, [POINT] = 16, [KERNEL] = 3, [ASK] = 1, [NOTHING] = 6, [UNSAID] = 1}},
-};
-
-static const char *const STATUS_NAMES[STATUSES] = {
-    [LW_DONE] = "LW_DONE",
-    [LW_MEMORY] = "LW_MEMORY",
-    [LW_BAD_CONFIG] = "LW_BAD_CONFIG",
-    [LW_NO_TICKETS] = "LW_NO_TICKETS",
-    [LW_NO_ALLOWANCE] = "LW_NO_ALLOWANCE",
-    [LW_TOO_MANY_ITEMS] = "LW_TOO_MANY_ITEMS",
-    [LW_TRACE_FULL] = "LW_TRACE_FULL",
-    [LW_OUT_OF_HOST] = "LW_OUT_OF_HOST",
-    [LW_MISALIGNED] = "LW_MISALIGNED",
-    [LW_NO_QUEUE] = "LW_NO_QUEUE",
-    [LW_PARTLY_PRESENT] = "LW_PARTLY_PRESENT",
-    [LW_NOT_PRESENT] = "LW_NOT_PRESENT",
-    [LW_COUNTER_FULL] = "LW_COUNTER_FULL",
-    [LW_LENT] = "LW_LENT",
-    [LW_DEVICE_FULL] = "LW_DEVICE_FULL",
-    [LW_QUEUE_FULL] = "LW_QUEUE_FULL",
-    [LW_NO_REGION] = "LW_NO_REGION",
-    [LW_NO_LEASE] = "LW_NO_LEASE",
-    [LW_ENDED] = "LW_ENDED",
-    [LW_BAD_CLAUSE] = "LW_BAD_CLAUSE",
-    [LW_BAD_LENGTH] = "LW_BAD_LENGTH",
-    [LW_ABSENT] = "LW_ABSENT",
 };
 
 _Noreturn void fail(const run *run, const char *what, uint32_t status)
@@ -119,18 +100,24 @@ static void begin(run *run, const char *folder)
 {
     bool is_full = is_drawn(run, 3);
     FILE *args = file_in(folder, "args");
-    lw_limits limits;
+    lw_limits limits = LW_LIMITS;
     lw_fault fault;
+    uint64_t start = 0;
 
-    lw_limits_default(&limits);
     limits.host = run->profile->host;
     limits.device = run->profile->device;
     limits.full = is_full;
+    limits.devices = run->devices;
     if (lw_table_new(&run->table, &limits, &fault) != LW_DONE) {
         fail(run, "there is no table", fault.status);
     }
-    fprintf(args, "--host %" PRIu64 " --device %" PRIu64 " --threads %" PRIu64 "%s\n", limits.host, limits.device,
-            1 + draw(run, 3), is_full ? " --trace full" : "");
+    for (uint32_t i = 0; i < run->profile->arrays; i++) {
+        if (lw_array(&run->table, run->arrays[i].len, &start, &fault) != LW_DONE || start != run->arrays[i].start) {
+            fail(run, "an array is elsewhere than in a script", fault.status);
+        }
+    }
+    fprintf(args, "--host %" PRIu64 " --device %" PRIu64 " --devices %" PRIu64 " --threads %" PRIu64 "%s\n",
+            limits.host, limits.device, limits.devices, 1 + draw(run, 3), is_full ? " --trace full" : "");
     close_file(args);
 }
 
@@ -171,7 +158,7 @@ static void end_table(run *run)
     uint64_t lease;
     lw_fault fault;
 
-    if (lw_enter(&run->table, items, 1, &region, &fault) == LW_DONE) {
+    if (lw_enter(&run->table, 0, items, 1, &region, &fault) == LW_DONE) {
         lw_lend(&run->table, region, items[0].start, items[0].len, &lease, &fault);
     }
     lw_table_end(&run->table);
@@ -199,8 +186,8 @@ static void write_end(const run *run, const char *folder)
 static void write_counts(const run *run)
 {
     for (uint32_t i = 0; i < STATUSES; i++) {
-        if (STATUS_NAMES[i] != NULL) {
-            printf("%-18s %10" PRIu64 " %10" PRIu64 "\n", STATUS_NAMES[i], run->said[i], run->unsaid[i]);
+        if (lw_status_name(i)[0] != '\0') {
+            printf("%-18s %10" PRIu64 " %10" PRIu64 "\n", lw_status_name(i), run->said[i], run->unsaid[i]);
         }
     }
 }
@@ -238,6 +225,7 @@ int main(int argc, char **argv)
         return 2;
     }
     run.profile = profile_of(argv[1]);
+    run.devices = run.profile->devices != 0 ? run.profile->devices : 1;
     run.state = strtoull(argv[2], NULL, 10) * UINT64_C(0x9E3779B97F4A7C15) + 1;
     run.script = file_in(argv[4], "script");
     run.wanted = file_in(argv[4], "stdout");

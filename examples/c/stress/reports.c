@@ -8,12 +8,11 @@ size_t report_of(run *run, char *report)
 {
     uint64_t len = 0;
     lw_fault fault;
-    uint32_t status = lw_report(&run->table, (uint8_t *)report, REPORT_MAX - 1, &len, &fault);
+    uint32_t status = lw_report(&run->table, report, REPORT_MAX, &len, &fault);
 
     if (status != LW_DONE) {
         fail(run, "the report is refused", status);
     }
-    report[len] = 0;
     return len;
 }
 
@@ -47,7 +46,7 @@ static void add_pointers(run *run, text *text, const lw_mapped_range *range)
     for (uint64_t at = (range->start + 7) / 8 * 8; at + 8 <= range->start + range->len; at += 8) {
         uint64_t count = 0;
 
-        if (answer(run, lw_attachment(&run->table, at, &count), &count) != 0) {
+        if (answer(run, lw_attachment(&run->table, run->device, at, &count), &count) != 0) {
             add(text, "pointer 0x%" PRIx64 " count %" PRIu64 "\n", at, count);
         }
     }
@@ -60,14 +59,14 @@ static void check_range(run *run, const lw_mapped_range *range)
     uint64_t place = 0;
     uint64_t present = 0;
 
-    if (lw_counters(&run->table, range->start, range->len, &counters) != LW_DONE ||
+    if (lw_counters(&run->table, run->device, range->start, range->len, &counters) != LW_DONE ||
         counters.structured != range->structured || counters.dynamic != range->dynamic) {
         fail(run, "a range has other counters", 0);
     }
-    if (lw_device_address(&run->table, range->start, &place) != LW_DONE || place != range->place) {
+    if (lw_device_address(&run->table, run->device, range->start, &place) != LW_DONE || place != range->place) {
         fail(run, "a range has another place", 0);
     }
-    if (lw_is_present(&run->table, range->start, range->len, &present) != LW_DONE || present != 1) {
+    if (lw_is_present(&run->table, run->device, range->start, range->len, &present) != LW_DONE || present != 1) {
         fail(run, "a range is not present", 0);
     }
 }
@@ -78,7 +77,7 @@ static uint64_t add_ranges(run *run, text *text)
     lw_mapped_range range;
     uint64_t taken = 0;
 
-    for (uint64_t from = 0; lw_mapped(&run->table, from, &range) == LW_DONE; from = range.start + 1) {
+    for (uint64_t from = 0; lw_mapped(&run->table, run->device, from, &range) == LW_DONE; from = range.start + 1) {
         add(text, "map 0x%" PRIx64 " %" PRIu64 " at 0x%" PRIx64 " structured %" PRIu64 " dynamic %" PRIu64 "%s\n",
             range.start, range.len, range.place, range.structured, range.dynamic, range.lent == 1 ? " lent" : "");
         add_pointers(run, text, &range);
@@ -88,17 +87,21 @@ static uint64_t add_ranges(run *run, text *text)
     return taken;
 }
 
-/* The blocks whose mapping has ended are in the report alone. They take the rest of what is used. */
-static uint64_t add_ended(run *run, text *text, const char *report)
+/* The blocks whose mapping has ended are in the report alone, from a line on that is the device's first. They take the
+   rest of what is used. */
+static uint64_t add_ended(run *run, text *text, const char *first)
 {
     uint64_t taken = 0;
 
-    for (const char *line = strstr(report, "ended "); line != NULL && strncmp(line, "ended ", 6) == 0;
-         line = strchr(line, '\n') + 1) {
+    for (const char *line = strchr(first, '\n') + 1;
+         strncmp(line, "regions ", 8) != 0 && strncmp(line, "device ", 7) != 0; line = strchr(line, '\n') + 1) {
         uint64_t place;
         uint64_t size;
         uint64_t pins;
 
+        if (strncmp(line, "ended ", 6) != 0) {
+            continue;
+        }
         if (sscanf(line, "ended 0x%" SCNx64 " %" SCNu64 " pins %" SCNu64, &place, &size, &pins) != 3 || pins == 0) {
             fail(run, "an ended block has no pins", 0);
         }
@@ -113,34 +116,59 @@ static void add_queues(run *run, text *text)
     for (uint64_t queue = 0; queue < QUEUES; queue++) {
         uint64_t len = 0;
 
-        if (answer(run, lw_queue_len(&run->table, queue, &len), &len) != 0) {
+        if (answer(run, lw_queue_len(&run->table, run->device, queue, &len), &len) != 0) {
             add(text, "queue %" PRIu64 " length %" PRIu64 "\n", queue, len);
         }
+    }
+}
+
+/* What the report has of the device of the run, behind the line that tells how much of it is used. */
+static void add_device(run *run, text *text, const char *report)
+{
+    char name[32];
+    const char *first = report;
+    uint64_t used = 0;
+
+    answer(run, lw_used(&run->table, run->device, &used), &used);
+    if (run->devices != 1) {
+        snprintf(name, sizeof name, "\ndevice %" PRIu64 " used ", run->device);
+        first = strstr(report, name);
+        if (first == NULL) {
+            fail(run, "the report has no line of a device", 0);
+        }
+        first++;
+        add(text, "device %" PRIu64 " used %" PRIu64 "\n", run->device, used);
+    } else {
+        add(text, " used %" PRIu64 "\n", used);
+    }
+    used -= add_ranges(run, text);
+    used -= add_ended(run, text, first);
+    add_queues(run, text);
+    if (used != 0) {
+        fail(run, "the numbers of the report do not add up", 0);
     }
 }
 
 void check_report(run *run, const char *report, size_t len)
 {
     static text text;
-    uint64_t used = 0;
+    const uint64_t device = run->device;
     uint64_t regions = 0;
     uint64_t events = 0;
-    uint64_t taken;
 
     text.len = 0;
-    answer(run, lw_used(&run->table, &used), &used);
     answer(run, lw_regions(&run->table, &regions), &regions);
     answer(run, lw_events(&run->table, &events), &events);
-    add(&text, "host %" PRIu64 " device %" PRIu64 " used %" PRIu64 "\n", run->profile->host, run->profile->device,
-        used);
-    taken = add_ranges(run, &text);
-    taken += add_ended(run, &text, report);
-    add_queues(run, &text);
-    add(&text, "regions %" PRIu64 " events %" PRIu64 "\n", regions, events);
-    if (text.len != len || memcmp(text.at, report, len) != 0) {
-        fail(run, "the report does not say what the queries answer", 0);
+    add(&text, "host %" PRIu64 " device %" PRIu64, run->profile->host, run->profile->device);
+    if (run->devices != 1) {
+        add(&text, " devices %" PRIu64 "\n", run->devices);
     }
-    if (taken != used || regions != run->depth) {
-        fail(run, "the numbers of the report do not add up", 0);
+    for (run->device = 0; run->device < run->devices; run->device++) {
+        add_device(run, &text, report);
+    }
+    run->device = device;
+    add(&text, "regions %" PRIu64 " events %" PRIu64 "\n", regions, events);
+    if (text.len != len || memcmp(text.at, report, len) != 0 || regions != run->depth) {
+        fail(run, "the report does not say what the queries answer", 0);
     }
 }

@@ -37,9 +37,7 @@ static void end_line(run *run)
 /* Counts what a call answered, and tells a refusal as accrun prints it. */
 static bool is_done(run *run, uint32_t status, const lw_fault *fault)
 {
-    uint8_t text[LW_FAULT_TEXT_MAX];
-    uint64_t len = 0;
-    lw_fault other;
+    char text[LW_FAULT_TEXT_SIZE];
 
     if (fault->status != status || status >= STATUSES) {
         fail(run, "the fault has another status", status);
@@ -51,10 +49,7 @@ static bool is_done(run *run, uint32_t status, const lw_fault *fault)
         }
         return true;
     }
-    if (lw_fault_text(fault, text, sizeof text, &len, &other) != LW_DONE) {
-        fail(run, "a refusal without a text", status);
-    }
-    fprintf(run->wanted, "line %" PRIu64 ": refused %.*s\n", run->line, (int)len, (const char *)text);
+    fprintf(run->wanted, "line %" PRIu64 ": refused %s\n", run->line, lw_fault_text(fault, text, sizeof text, NULL));
     return false;
 }
 
@@ -177,6 +172,12 @@ typedef struct options {
     bool are_first;
 } options;
 
+/* The first queue is that of async without a number, too. */
+lw_async async_of(uint64_t queue)
+{
+    return queue == LW_NO_QUEUE_GIVEN ? LW_ASYNC_SYNC : queue == 0 ? LW_ASYNC_NOVAL : lw_queue((int64_t)queue);
+}
+
 static uint64_t draw_queue(run *run)
 {
     if (is_drawn(run, 60)) {
@@ -228,9 +229,10 @@ static void enter(run *run, const lw_item *items, size_t count)
 {
     uint64_t region = UNTOUCHED;
     lw_fault fault;
-    uint32_t status = lw_enter(&run->table, items, count, &region, &fault);
+    uint32_t status = lw_enter(&run->table, run->device, items, count, &region, &fault);
 
     if (is_answered(run, status, &fault, region)) {
+        run->on[run->depth] = run->device;
         run->regions[run->depth++] = region;
     }
 }
@@ -261,7 +263,7 @@ static void say_enter_data(run *run)
     size_t count = say_directive(run, "enter data", items, OF_ENTER_DATA, LENGTH_OF(OF_ENTER_DATA), &options);
     lw_fault fault;
 
-    is_done(run, lw_enter_data(&run->table, items, count, options.queue, &fault), &fault);
+    is_done(run, lw_enter_data(&run->table, run->device, items, count, async_of(options.queue), &fault), &fault);
 }
 
 static void say_exit_data(run *run)
@@ -271,7 +273,9 @@ static void say_exit_data(run *run)
     size_t count = say_directive(run, "exit data", items, OF_EXIT_DATA, LENGTH_OF(OF_EXIT_DATA), &options);
     lw_fault fault;
 
-    is_done(run, lw_exit_data(&run->table, items, count, options.has_word, options.queue, &fault), &fault);
+    is_done(run,
+            lw_exit_data(&run->table, run->device, items, count, options.has_word, async_of(options.queue), &fault),
+            &fault);
 }
 
 static void say_update(run *run)
@@ -281,7 +285,8 @@ static void say_update(run *run)
     size_t count = say_directive(run, "update", items, OF_UPDATE, LENGTH_OF(OF_UPDATE), &options);
     lw_fault fault;
 
-    is_done(run, lw_update(&run->table, items, count, options.has_word, options.queue, &fault), &fault);
+    is_done(run, lw_update(&run->table, run->device, items, count, options.has_word, async_of(options.queue), &fault),
+            &fault);
 }
 
 /* A directive without items. No script can say that, so the script has one with an empty section, which does as little:
@@ -299,12 +304,12 @@ static void say_nothing(run *run)
     case 1:
         say(run, "enter data create(a[0:0])");
         end_line(run);
-        is_done(run, lw_enter_data(&run->table, NULL, 0, LW_NO_QUEUE_GIVEN, &fault), &fault);
+        is_done(run, lw_enter_data(&run->table, run->device, NULL, 0, LW_ASYNC_SYNC, &fault), &fault);
         break;
     case 2:
         say(run, "update self(a[0:0])");
         end_line(run);
-        is_done(run, lw_update(&run->table, NULL, 0, false, LW_NO_QUEUE_GIVEN, &fault), &fault);
+        is_done(run, lw_update(&run->table, run->device, NULL, 0, false, LW_ASYNC_SYNC, &fault), &fault);
         break;
     default: /* a write of no bytes */
         say(run, "exit data delete(a[0:0])");
@@ -325,7 +330,7 @@ static void say_wait(run *run)
         say(run, "(%" PRIu64 ")", queue);
     }
     end_line(run);
-    status = lw_wait(&run->table, queue, &made, &fault);
+    status = lw_wait(&run->table, run->device, queue, &made, &fault);
     is_answered(run, status, &fault, made);
 }
 
@@ -338,7 +343,7 @@ static void say_step(run *run)
 
     say(run, "step(%" PRIu64 ")", queue);
     end_line(run);
-    status = lw_step(&run->table, queue, &made, &fault);
+    status = lw_step(&run->table, run->device, queue, &made, &fault);
     if (is_answered(run, status, &fault, made) && made == 0) {
         fprintf(run->wanted, "idle\n");
     }
@@ -417,7 +422,7 @@ static void say_peek(run *run)
 
     say(run, "peek %s", section.name);
     end_line(run);
-    if (is_found(run, lw_device_read(&run->table, section.start, bytes, section.len, &fault))) {
+    if (is_found(run, lw_device_read(&run->table, run->device, section.start, bytes, section.len, &fault))) {
         want_bytes(run, bytes, section.len);
     } else {
         fprintf(run->wanted, "none\n");
@@ -431,7 +436,7 @@ static void say_present(run *run)
 
     say(run, "present %s", section.name);
     end_line(run);
-    is_found(run, lw_is_present(&run->table, section.start, section.len, &present));
+    is_found(run, lw_is_present(&run->table, run->device, section.start, section.len, &present));
     fprintf(run->wanted, "%s\n", present == 1 ? "yes" : "no");
 }
 
@@ -442,7 +447,7 @@ static void say_address(run *run)
 
     say(run, "address %s", byte.name);
     end_line(run);
-    if (is_found(run, lw_device_address(&run->table, byte.address, &place))) {
+    if (is_found(run, lw_device_address(&run->table, run->device, byte.address, &place))) {
         fprintf(run->wanted, "0x%" PRIx64 "\n", place);
     } else if (place == UNTOUCHED) {
         fprintf(run->wanted, "none\n");
@@ -518,8 +523,9 @@ static void work_on(run *run, const task *task, const section *lent, uint64_t le
     }
 }
 
-/* A kernel in the innermost region. The script tells a source that is not in host memory as its item 1. */
-static void say_kernel(run *run)
+/* A kernel in the innermost region, on its device. The script tells a source that is not in host memory as its item
+   1. */
+static void say_kernel_there(run *run)
 {
     static task task;
     uint64_t lease = UNTOUCHED;
@@ -553,6 +559,30 @@ static void say_kernel(run *run)
     }
 }
 
+static void say_kernel(run *run)
+{
+    const uint64_t device = run->device;
+
+    run->device = run->on[run->depth - 1];
+    say_kernel_there(run);
+    run->device = device;
+}
+
+/* Later lines are for another device. Where there is none of the number, the table refuses each call there. */
+static void say_turn(run *run)
+{
+    const uint64_t device = draw(run, run->devices + is_drawn(run, 8));
+    const lw_fault fault = {.status = LW_NO_DEVICE, .value = device};
+
+    say(run, "set device_num(%" PRIu64 ")", device);
+    end_line(run);
+    if (device >= run->devices) {
+        is_done(run, LW_NO_DEVICE, &fault);
+        return;
+    }
+    run->device = device;
+}
+
 /* ---- All of them ---- */
 
 void say_arrays(run *run)
@@ -569,7 +599,7 @@ void say_statement(run *run, kind kind)
         [ENTER] = say_data,     [LEAVE] = say_end_data, [ENTER_DATA] = say_enter_data, [EXIT_DATA] = say_exit_data,
         [UPDATE] = say_update,  [WAIT] = say_wait,      [STEP] = say_step,             [WRITE] = say_write,
         [POINT] = say_point,    [KERNEL] = say_kernel,  [ASK] = say_question,          [NOTHING] = say_nothing,
-        [UNSAID] = make_unsaid,
+        [UNSAID] = make_unsaid, [TURN] = say_turn,
     };
 
     STATEMENTS[kind](run);

@@ -20,7 +20,7 @@ enum {
     ARRAYS_MAX = 8,
     BYTES_MAX = 1 << 17,   /* how long a section may be whose bytes are read */
     REPORT_MAX = 1 << 16,  /* how long a report may be */
-    STATUSES = LW_ABSENT + 1
+    STATUSES = LW_BAD_VERSION + 1
 };
 
 /* What is done in one turn. */
@@ -38,14 +38,16 @@ typedef enum kind {
     ASK,
     NOTHING, /* a call with an empty array: NULL, and a length of 0 */
     UNSAID,  /* a call that no script can say */
+    TURN,    /* to another device */
     KINDS
 } kind;
 
-/* What a run is about: the sizes of its two memories, and what it does how often. */
+/* What a run is about: the sizes of its memories, and what it does how often. */
 typedef struct profile {
     const char *name;
     uint64_t host;    /* the size of host memory in bytes */
-    uint64_t device;  /* the size of device memory in bytes */
+    uint64_t device;  /* the size of each device's memory in bytes */
+    uint64_t devices; /* how many devices there are, if not one */
     uint32_t arrays;  /* how many arrays there are in host memory */
     uint32_t longest; /* how many bytes each of them has at most */
     uint32_t items;   /* how many items a directive has, but for a few */
@@ -66,8 +68,11 @@ typedef struct run {
     const profile *profile;
     uint64_t state; /* of the random numbers */
     lw_table table;
+    uint64_t devices;
+    uint64_t device; /* that of the calls */
     array arrays[ARRAYS_MAX];
     uint64_t regions[REGIONS_MAX]; /* the open regions, the innermost one last */
+    uint64_t on[REGIONS_MAX];      /* the device of each */
     size_t depth;
     uint64_t left;  /* the region that was exited last, or 0 */
     uint64_t spent; /* the lease that was brought back last, or 0 */
@@ -127,6 +132,9 @@ section draw_readable(run *run);
 manner draw_manner(run *run, manner manner);
 
 /* ---- statements.c: what a script can say ---- */
+
+/* The async clause of a queue, or that of LW_NO_QUEUE_GIVEN. */
+lw_async async_of(uint64_t queue);
 
 /* Makes a call of this kind, and says it in the script. */
 void say_statement(run *run, kind kind);

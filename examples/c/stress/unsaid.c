@@ -100,15 +100,15 @@ static uint32_t make(run *run, directive directive, const lw_item *items, size_t
 
     switch (directive) {
     case DATA:
-        status = lw_enter(&run->table, items, count, &region, fault);
+        status = lw_enter(&run->table, run->device, items, count, &region, fault);
         want_untouched(run, "a region that was not entered has a number", region);
         return status;
     case ENTERING:
-        return lw_enter_data(&run->table, items, count, queue, fault);
+        return lw_enter_data(&run->table, run->device, items, count, async_of(queue), fault);
     case EXITING:
-        return lw_exit_data(&run->table, items, count, is_drawn(run, 2), queue, fault);
+        return lw_exit_data(&run->table, run->device, items, count, is_drawn(run, 2), async_of(queue), fault);
     default:
-        return lw_update(&run->table, items, count, is_drawn(run, 2), queue, fault);
+        return lw_update(&run->table, run->device, items, count, is_drawn(run, 2), async_of(queue), fault);
     }
 }
 
@@ -166,18 +166,33 @@ static void far_section(run *run)
 /* A queue of a number that no script can write. */
 static void far_queue(run *run)
 {
-    uint64_t queue = one_of(run, UINT64_MAX - 1, UINT64_C(1) << 32, UINT64_C(1) << 63);
+    uint64_t queue = one_of(run, UINT64_MAX - 2, UINT64_C(1) << 32, UINT64_C(1) << 63);
     lw_fault wanted = unless_full(run, refusal(LW_NO_QUEUE, 0, queue));
     uint64_t made = UNTOUCHED;
     lw_fault fault;
     uint32_t status = make(run, (enum directive)(ENTERING + draw(run, DIRECTIVES - ENTERING)), NULL, 0, queue, &fault);
 
     want(run, "async in a queue far away", status, &fault, wanted);
-    status = lw_wait(&run->table, queue, &made, &fault);
+    status = lw_wait(&run->table, run->device, queue, &made, &fault);
     want(run, "a wait for a queue far away", status, &fault, wanted);
-    status = lw_step(&run->table, queue, &made, &fault);
+    status = lw_step(&run->table, run->device, queue, &made, &fault);
     want(run, "a step of a queue far away", status, &fault, wanted);
     want_untouched(run, "a refused wait or step tells a number", made);
+}
+
+/* A directive on a device that is not there. */
+static void far_device(run *run)
+{
+    const uint64_t device = run->device;
+    const lw_fault wanted = unless_full(run, refusal(LW_NO_DEVICE, 0, one_of(run, run->devices, UINT64_MAX, 99)));
+    lw_fault fault;
+    directive directive = (enum directive)(ENTERING + draw(run, DIRECTIVES - ENTERING));
+    uint32_t status;
+
+    run->device = wanted.status == LW_NO_DEVICE ? wanted.value : run->devices;
+    status = make(run, directive, NULL, 0, LW_NO_QUEUE_GIVEN, &fault);
+    run->device = device;
+    want(run, "a directive on no device", status, &fault, wanted);
 }
 
 /* A step of an empty queue is no event. */
@@ -190,11 +205,11 @@ static void empty_step(run *run)
     for (uint64_t queue = 0; queue < QUEUES; queue++) {
         uint64_t len = 0;
 
-        lw_queue_len(&run->table, queue, &len);
+        lw_queue_len(&run->table, run->device, queue, &len);
         if (len == 0) {
             lw_fault wanted = unless_full(run, refusal(LW_DONE, 0, 0));
 
-            status = lw_step(&run->table, queue, &made, &fault);
+            status = lw_step(&run->table, run->device, queue, &made, &fault);
             want(run, "a step of an empty queue", status, &fault, wanted);
             if (made != (status == LW_DONE ? 0 : UNTOUCHED)) {
                 fail(run, "a step of an empty queue tells a number", status);
@@ -247,8 +262,8 @@ static void ended_handle(run *run)
     lw_fault fault;
 
     lw_table_end(&ended);
-    want(run, "data without a table", lw_enter(&ended, NULL, 0, &number, &fault), &fault, wanted);
-    want(run, "update without a table", lw_update(&ended, NULL, 0, true, 99, &fault), &fault, wanted);
+    want(run, "data without a table", lw_enter(&ended, 0, NULL, 0, &number, &fault), &fault, wanted);
+    want(run, "update without a table", lw_update(&ended, 0, NULL, 0, true, lw_queue(99), &fault), &fault, wanted);
     want(run, "a lease without a table", lw_gather(&ended, run->spent, &fault), &fault, wanted);
     want(run, "a report without a table", lw_report(&ended, NULL, 0, &number, &fault), &fault, wanted);
     want_status(run, "events without a table", lw_events(&ended, &number), LW_ENDED);
@@ -259,11 +274,10 @@ static void ended_handle(run *run)
 /* A table of wrong limits does not take the place of one that is there. */
 static void wrong_limits(run *run)
 {
-    lw_limits limits;
+    lw_limits limits = LW_LIMITS;
     lw_fault fault;
 
-    lw_limits_default(&limits);
-    limits.host = one_of(run, 24, 0, UINT64_MAX);
+    limits.host = one_of(run, 24, 8, UINT64_MAX);
     want(run, "a table of wrong limits", lw_table_new(&run->table, &limits, &fault), &fault,
          refusal(LW_BAD_CONFIG, 0, 0));
 }
@@ -277,7 +291,7 @@ static void far_bytes(run *run)
     uint32_t status = lw_host_read(&run->table, UINT64_MAX - draw(run, 8), bytes, sizeof bytes, &fault);
 
     want(run, "a read past the last address", status, &fault, refusal(LW_OUT_OF_HOST, 0, 0));
-    status = lw_device_read(&run->table, UINT64_MAX - draw(run, 8), bytes, sizeof bytes, &fault);
+    status = lw_device_read(&run->table, run->device, UINT64_MAX - draw(run, 8), bytes, sizeof bytes, &fault);
     want(run, "a read of the device past the last address", status, &fault, refusal(LW_ABSENT, 0, 0));
     status = lw_host_write(&run->table, UINT64_MAX - draw(run, 8), bytes, sizeof bytes, &fault);
     want(run, "a write past the last address", status, &fault, unless_full(run, refusal(LW_OUT_OF_HOST, 0, 0)));
@@ -291,7 +305,7 @@ static void no_bytes(run *run)
     uint32_t status = lw_host_read(&run->table, start, NULL, 0, &fault);
 
     want(run, "a read of no bytes", status, &fault, refusal(LW_DONE, 0, 0));
-    status = lw_device_read(&run->table, start, NULL, 0, &fault);
+    status = lw_device_read(&run->table, run->device, start, NULL, 0, &fault);
     want(run, "a read of no bytes of the device", status, &fault, refusal(LW_ABSENT, 0, 0));
 }
 
@@ -299,34 +313,20 @@ static void short_report(run *run)
 {
     static char report[REPORT_MAX];
     size_t len = report_of(run, report);
-    size_t size = draw(run, len);
+    size_t size = draw(run, len + 1);
     uint64_t told = UNTOUCHED;
     lw_fault fault;
     uint32_t status;
 
     memset(report, '.', len);
-    status = lw_report(&run->table, size == 0 ? NULL : (uint8_t *)report, size, &told, &fault);
-    want(run, "a report into a buffer that is too short", status, &fault, refusal(LW_BAD_LENGTH, 0, len));
-    want_untouched(run, "a refused report has a length", told);
+    status = lw_report(&run->table, size == 0 ? NULL : report, size, &told, &fault);
+    want(run, "a report into a buffer that is too short", status, &fault, refusal(LW_BAD_LENGTH, 0, len + 1));
+    if (told != len) {
+        fail(run, "a refused report has another length", status);
+    }
     if (strspn(report, ".") != len) {
         fail(run, "a refused report writes into its buffer", status);
     }
-}
-
-/* The text of what is no refusal, and one into a buffer that is too short. */
-static void wrong_text(run *run)
-{
-    lw_fault told = refusal((uint32_t)one_of(run, 0, 18, UINT32_MAX), 0, 0);
-    uint8_t text[LW_FAULT_TEXT_MAX];
-    uint64_t len = UNTOUCHED;
-    lw_fault fault;
-    uint32_t status = lw_fault_text(&told, text, sizeof text, &len, &fault);
-
-    want(run, "the text of no refusal", status, &fault, refusal(LW_ABSENT, 0, 0));
-    told = refusal(LW_DEVICE_FULL, UINT64_MAX, UINT64_MAX);
-    status = lw_fault_text(&told, text, sizeof text - 1, &len, &fault);
-    want(run, "a text into a buffer that is too short", status, &fault, refusal(LW_BAD_LENGTH, 0, sizeof text));
-    want_untouched(run, "a refused text has a length", len);
 }
 
 /* ---- All of them ---- */
@@ -334,8 +334,8 @@ static void wrong_text(run *run)
 void make_unsaid(run *run)
 {
     static void (*const CALLS[])(struct run *run) = {
-        wrong_clause, too_many_items, far_section,  far_queue, empty_step, no_region,    no_lease,
-        ended_handle, wrong_limits,   far_bytes, no_bytes,   short_report, wrong_text,
+        wrong_clause, too_many_items, far_section,  far_queue, far_device, empty_step,   no_region,
+        no_lease,     ended_handle,   wrong_limits, far_bytes, no_bytes,   short_report,
     };
     static char before[REPORT_MAX];
     static char after[REPORT_MAX];
@@ -355,7 +355,7 @@ static lw_counters_of counters_of(run *run, const section *lent)
 {
     lw_counters_of counters = {0, 0};
 
-    if (lw_counters(&run->table, lent->start, lent->len, &counters) != LW_DONE) {
+    if (lw_counters(&run->table, run->device, lent->start, lent->len, &counters) != LW_DONE) {
         fail(run, "what is lent is not mapped", 0);
     }
     return counters;
@@ -369,7 +369,7 @@ static void want_lent(run *run, const section *lent)
     uint64_t lease = UNTOUCHED;
     lw_fault fault;
     lw_fault wanted;
-    uint32_t status = lw_update(&run->table, &item, 1, is_drawn(run, 2), LW_NO_QUEUE_GIVEN, &fault);
+    uint32_t status = lw_update(&run->table, run->device, &item, 1, is_drawn(run, 2), LW_ASYNC_SYNC, &fault);
 
     /* The number of the block is not known before; each of these calls tells the same. */
     wanted = unless_full(run, refusal(LW_LENT, 0, fault.value));
@@ -379,7 +379,7 @@ static void want_lent(run *run, const section *lent)
     want_untouched(run, "a refused loan has a lease", lease);
     if (counters.dynamic > 0) {
         item.clause = LW_DELETE;
-        status = lw_exit_data(&run->table, &item, 1, is_drawn(run, 2), LW_NO_QUEUE_GIVEN, &fault);
+        status = lw_exit_data(&run->table, run->device, &item, 1, is_drawn(run, 2), LW_ASYNC_SYNC, &fault);
         want(run, "exit data of a lent block", status, &fault, wanted);
     }
     if (counters.structured > 0 && run->depth == 1) { /* so this region holds it */
@@ -399,7 +399,7 @@ void make_unsaid_of_lent(run *run, const section *lent, uint64_t lease)
 
     report_of(run, before);
     want_lent(run, lent);
-    status = lw_device_read(&run->table, lent->start, bytes, lent->len, &fault);
+    status = lw_device_read(&run->table, run->device, lent->start, bytes, lent->len, &fault);
     want(run, "a read of a lent block", status, &fault, refusal(LW_ABSENT, 0, 0));
     status = lw_lease_read(&run->table, lease, bytes, lent->len + 1, &fault);
     want(run, "a lease is read into a buffer that is too long", status, &fault, wrong_length);

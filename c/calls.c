@@ -1,0 +1,211 @@
+/*
+ * What stands between a program in C and the proved calls: a fault that may be NULL, limits that may be those of
+ * another header, names and texts that end with a zero. It is not proved, and decides nothing of a table.
+ */
+#include "proved.h"
+#include <stdio.h>
+#include <string.h>
+
+/* ---- Faults ---- */
+
+/* Where a call tells its fault: beside what it was given where that is NULL. */
+#define PLACE(fault) ((fault) != NULL ? (fault) : &(lw_fault){0})
+
+const char *lw_status_name(uint32_t status)
+{
+    static const char *const names[] = {
+        [LW_DONE] = "Done",
+        [LW_MEMORY] = "Memory",
+        [LW_BAD_CONFIG] = "BadConfig",
+        [LW_NO_TICKETS] = "NoTickets",
+        [LW_NO_ALLOWANCE] = "NoAllowance",
+        [LW_TOO_MANY_ITEMS] = "TooManyItems",
+        [LW_TRACE_FULL] = "TraceFull",
+        [LW_OUT_OF_HOST] = "OutOfHost",
+        [LW_MISALIGNED] = "Misaligned",
+        [LW_NO_QUEUE] = "NoQueue",
+        [LW_PARTLY_PRESENT] = "PartlyPresent",
+        [LW_NOT_PRESENT] = "NotPresent",
+        [LW_COUNTER_FULL] = "CounterFull",
+        [LW_LENT] = "Lent",
+        [LW_DEVICE_FULL] = "DeviceFull",
+        [LW_QUEUE_FULL] = "QueueFull",
+        [LW_NO_REGION] = "NoRegion",
+        [LW_NO_LEASE] = "NoLease",
+        [LW_NO_DEVICE] = "NoDevice",
+        [LW_ENDED] = "Ended",
+        [LW_BAD_CLAUSE] = "BadClause",
+        [LW_BAD_LENGTH] = "BadLength",
+        [LW_ABSENT] = "Absent",
+        [LW_BAD_VERSION] = "BadVersion",
+    };
+    const char *name = status < sizeof names / sizeof *names ? names[status] : NULL;
+
+    return name != NULL ? name : "";
+}
+
+/* ---- Texts ---- */
+
+const char *lw_fault_text(const lw_fault *told, char *buffer, size_t size, uint64_t *len)
+{
+    char text[LW_FAULT_TEXT_SIZE];
+    uint64_t wanted = 0;
+
+    if (lamwiest_fault_text(told, (uint8_t *)text, sizeof text - 1, &wanted, PLACE(NULL)) != LW_DONE) {
+        wanted = strlen(strcpy(text, lw_status_name(told->status)));
+    }
+    text[wanted] = '\0';
+    if (len != NULL) {
+        *len = wanted;
+    }
+    if (size != 0) {
+        snprintf(buffer, size, "%s", text);
+    }
+    return buffer;
+}
+
+uint32_t lw_report(lw_table *table, char *buffer, size_t size, uint64_t *len, lw_fault *fault)
+{
+    lw_fault told;
+    uint64_t wanted = 0;
+    uint32_t status = lamwiest_report(table, (uint8_t *)buffer, size != 0 ? size - 1 : 0, &wanted, &told);
+
+    if (status == LW_BAD_LENGTH) {
+        wanted = told.value++;
+    } else if (status == LW_DONE) {
+        buffer[wanted] = '\0';
+    }
+    if (len != NULL && wanted != 0) {
+        *len = wanted;
+    }
+    *PLACE(fault) = told;
+    return status;
+}
+
+/* ---- Tables ---- */
+
+/* The first version whose limits begin with their size, and how many bytes they had in it. */
+enum { FIRST_VERSION = 2000, FIRST_SIZE = offsetof(lw_limits, devices) + sizeof(uint64_t) };
+
+/* A program that was compiled with the header of 0.1.0 calls it. The limits that it writes are of no version. */
+void lw_limits_default(void *limits);
+void lw_limits_default(void *limits)
+{
+    memset(limits, 0, offsetof(lw_limits, host));
+}
+
+/* Limits that a program does not have yet are 0. */
+uint32_t lw_table_new(lw_table *table, const lw_limits *limits, lw_fault *fault)
+{
+    const size_t first = offsetof(lw_limits, host);
+    limit_fields fields = {0};
+    uint32_t status;
+
+    if (limits != NULL) {
+        if (limits->version < FIRST_VERSION || limits->size < FIRST_SIZE || limits->size > sizeof *limits) {
+            *PLACE(fault) = (lw_fault){.status = LW_BAD_VERSION, .value = LW_VERSION};
+            return LW_BAD_VERSION;
+        }
+        memcpy(&fields, (const char *)limits + first, limits->size - first);
+    }
+    status = lamwiest_table_new(table, &fields, PLACE(fault));
+    if (status == LW_DONE) {
+        table->arrays = 0;
+    }
+    return status;
+}
+
+uint32_t lw_rebase(lw_table *table, uint64_t *folded, lw_fault *fault)
+{
+    return lamwiest_rebase(table, folded, PLACE(fault));
+}
+
+uint32_t lw_array(lw_table *table, uint64_t len, uint64_t *start, lw_fault *fault)
+{
+    uint32_t status = lamwiest_array(table, table->arrays, len, start, PLACE(fault));
+
+    if (status == LW_DONE) {
+        table->arrays = *start - LW_HOST_BASE + len;
+    }
+    return status;
+}
+
+/* ---- Directives ---- */
+
+uint32_t lw_enter(lw_table *table, uint64_t device, const lw_item *items, size_t count, uint64_t *region,
+                  lw_fault *fault)
+{
+    return lamwiest_enter(table, device, items, count, region, PLACE(fault));
+}
+
+uint32_t lw_exit(lw_table *table, uint64_t region, lw_fault *fault)
+{
+    return lamwiest_exit(table, region, PLACE(fault));
+}
+
+uint32_t lw_enter_data(lw_table *table, uint64_t device, const lw_item *items, size_t count, lw_async async,
+                       lw_fault *fault)
+{
+    return lamwiest_enter_data(table, device, items, count, (uint64_t)async.number, PLACE(fault));
+}
+
+uint32_t lw_exit_data(lw_table *table, uint64_t device, const lw_item *items, size_t count, uint32_t finalize,
+                      lw_async async, lw_fault *fault)
+{
+    return lamwiest_exit_data(table, device, items, count, finalize, (uint64_t)async.number, PLACE(fault));
+}
+
+uint32_t lw_update(lw_table *table, uint64_t device, const lw_item *items, size_t count, uint32_t if_present,
+                   lw_async async, lw_fault *fault)
+{
+    return lamwiest_update(table, device, items, count, if_present, (uint64_t)async.number, PLACE(fault));
+}
+
+uint32_t lw_wait(lw_table *table, uint64_t device, uint64_t queue, uint64_t *made, lw_fault *fault)
+{
+    return lamwiest_wait(table, device, queue, made, PLACE(fault));
+}
+
+uint32_t lw_step(lw_table *table, uint64_t device, uint64_t queue, uint64_t *made, lw_fault *fault)
+{
+    return lamwiest_step(table, device, queue, made, PLACE(fault));
+}
+
+/* ---- Bytes ---- */
+
+uint32_t lw_host_write(lw_table *table, uint64_t start, const void *bytes, size_t len, lw_fault *fault)
+{
+    return lamwiest_host_write(table, start, bytes, len, PLACE(fault));
+}
+
+uint32_t lw_host_read(lw_table *table, uint64_t start, void *bytes, size_t len, lw_fault *fault)
+{
+    return lamwiest_host_read(table, start, bytes, len, PLACE(fault));
+}
+
+uint32_t lw_device_read(lw_table *table, uint64_t device, uint64_t start, void *bytes, size_t len, lw_fault *fault)
+{
+    return lamwiest_device_read(table, device, start, bytes, len, PLACE(fault));
+}
+
+/* ---- Leases ---- */
+
+uint32_t lw_lend(lw_table *table, uint64_t region, uint64_t start, uint64_t len, uint64_t *lease, lw_fault *fault)
+{
+    return lamwiest_lend(table, region, start, len, lease, PLACE(fault));
+}
+
+uint32_t lw_lease_read(lw_table *table, uint64_t lease, void *bytes, size_t len, lw_fault *fault)
+{
+    return lamwiest_lease_read(table, lease, bytes, len, PLACE(fault));
+}
+
+uint32_t lw_lease_write(lw_table *table, uint64_t lease, const void *bytes, size_t len, lw_fault *fault)
+{
+    return lamwiest_lease_write(table, lease, bytes, len, PLACE(fault));
+}
+
+uint32_t lw_gather(lw_table *table, uint64_t lease, lw_fault *fault)
+{
+    return lamwiest_gather(table, lease, PLACE(fault));
+}

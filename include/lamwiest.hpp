@@ -1,0 +1,285 @@
+// Lamwiest for C++11 and later, over lamwiest.h, which tells what each call does. A table, a region and a lease are
+// objects that end with their block. A call that is refused throws lamwiest::Refused, and changes nothing.
+#ifndef LAMWIEST_HPP
+#define LAMWIEST_HPP
+
+#include "lamwiest.h"
+#include <cstddef>
+#include <cstdint>
+#include <stdexcept>
+#include <string>
+#include <type_traits>
+#include <vector>
+
+namespace lamwiest {
+
+// A call was refused, and changed nothing.
+class Refused : public std::runtime_error {
+public:
+    explicit Refused(const lw_fault &fault) : std::runtime_error(text(fault)), fault(fault) {}
+
+    const lw_fault fault;
+
+private:
+    static std::string text(const lw_fault &fault)
+    {
+        char text[LW_FAULT_TEXT_SIZE];
+        return lw_fault_text(&fault, text, sizeof text, nullptr);
+    }
+};
+
+// Throws where a call was refused.
+inline void must(uint32_t status, const lw_fault &fault)
+{
+    if (status != LW_DONE) {
+        throw Refused(fault);
+    }
+}
+
+// So many elements of T in host memory, from a host address on.
+template <class T> struct Span {
+    static_assert(std::is_trivially_copyable<T>::value, "elements are copied byte by byte");
+
+    uint64_t start;
+    std::size_t count;
+
+    uint64_t len() const { return count * sizeof(T); }
+
+    // The elements [first:count] of these.
+    Span part(std::size_t first, std::size_t count) const { return Span{start + first * sizeof(T), count}; }
+};
+
+// ---- Items of data clauses. pointer: the host address of the pointer to the section's data, or 0 ----
+
+template <class T> lw_item item(uint32_t clause, Span<T> section, uint64_t pointer)
+{
+    lw_item item = {clause, section.start, section.len(), pointer};
+    return item;
+}
+
+template <class T> lw_item copy(Span<T> a, uint64_t pointer = 0) { return item(LW_COPY, a, pointer); }
+template <class T> lw_item copyin(Span<T> a, uint64_t pointer = 0) { return item(LW_COPYIN, a, pointer); }
+template <class T> lw_item copyout(Span<T> a, uint64_t pointer = 0) { return item(LW_COPYOUT, a, pointer); }
+template <class T> lw_item copyout_zero(Span<T> a, uint64_t pointer = 0) { return item(LW_COPYOUT_ZERO, a, pointer); }
+template <class T> lw_item create(Span<T> a, uint64_t pointer = 0) { return item(LW_CREATE, a, pointer); }
+template <class T> lw_item create_zero(Span<T> a, uint64_t pointer = 0) { return item(LW_CREATE_ZERO, a, pointer); }
+template <class T> lw_item no_create(Span<T> a, uint64_t pointer = 0) { return item(LW_NO_CREATE, a, pointer); }
+template <class T> lw_item present(Span<T> a, uint64_t pointer = 0) { return item(LW_PRESENT, a, pointer); }
+template <class T> lw_item delete_(Span<T> a, uint64_t pointer = 0) { return item(LW_DELETE, a, pointer); }
+template <class T> lw_item self(Span<T> a) { return item(LW_SELF, a, 0); }
+template <class T> lw_item device(Span<T> a) { return item(LW_DEVICE, a, 0); }
+
+// attach and detach name the pointer itself.
+inline lw_item attach(uint64_t pointer) { return item(LW_ATTACH, Span<char>{pointer, 0}, 0); }
+inline lw_item detach(uint64_t pointer) { return item(LW_DETACH, Span<char>{pointer, 0}, 0); }
+
+typedef std::vector<lw_item> Items;
+
+// Host memory and the memories of devices, with what is mapped between them. It is used by one thread at a time.
+class Table {
+public:
+    // All limits as by default.
+    Table() { begin(nullptr); }
+    explicit Table(const lw_limits &limits) { begin(&limits); }
+    Table(const Table &) = delete;
+    Table &operator=(const Table &) = delete;
+    ~Table() { lw_table_end(&table); }
+
+    // For the calls of lamwiest.h that have no method here.
+    lw_table *get() { return &table; }
+
+    // Host addresses for an array.
+    template <class T> Span<T> array(std::size_t count)
+    {
+        Span<T> array = {0, count};
+        lw_fault fault;
+        must(lw_array(&table, array.len(), &array.start, &fault), fault);
+        return array;
+    }
+
+    template <class T> void write(Span<T> to, const T *elements)
+    {
+        lw_fault fault;
+        must(lw_host_write(&table, to.start, elements, to.len(), &fault), fault);
+    }
+
+    // As many elements as the vector has, from the first on.
+    template <class T> void write(Span<T> to, const std::vector<T> &elements)
+    {
+        write(to.part(0, elements.size()), elements.data());
+    }
+
+    template <class T> std::vector<T> read(Span<T> from)
+    {
+        std::vector<T> elements(from.count);
+        lw_fault fault;
+        must(lw_host_read(&table, from.start, elements.data(), from.len(), &fault), fault);
+        return elements;
+    }
+
+    // What a device has of them.
+    template <class T> std::vector<T> read_device(Span<T> from, uint64_t device = 0)
+    {
+        std::vector<T> elements(from.count);
+        lw_fault fault;
+        must(lw_device_read(&table, device, from.start, elements.data(), from.len(), &fault), fault);
+        return elements;
+    }
+
+    void enter_data(const Items &items, lw_async async = LW_ASYNC_SYNC, uint64_t device = 0)
+    {
+        lw_fault fault;
+        must(lw_enter_data(&table, device, items.data(), items.size(), async, &fault), fault);
+    }
+
+    void exit_data(const Items &items, lw_async async = LW_ASYNC_SYNC, uint64_t device = 0)
+    {
+        lw_fault fault;
+        must(lw_exit_data(&table, device, items.data(), items.size(), 0, async, &fault), fault);
+    }
+
+    void exit_data_finalize(const Items &items, lw_async async = LW_ASYNC_SYNC, uint64_t device = 0)
+    {
+        lw_fault fault;
+        must(lw_exit_data(&table, device, items.data(), items.size(), 1, async, &fault), fault);
+    }
+
+    void update(const Items &items, lw_async async = LW_ASYNC_SYNC, uint64_t device = 0)
+    {
+        lw_fault fault;
+        must(lw_update(&table, device, items.data(), items.size(), 0, async, &fault), fault);
+    }
+
+    void update_if_present(const Items &items, lw_async async = LW_ASYNC_SYNC, uint64_t device = 0)
+    {
+        lw_fault fault;
+        must(lw_update(&table, device, items.data(), items.size(), 1, async, &fault), fault);
+    }
+
+    // Makes all copies of all queues of a device, or of one, and returns how many they were.
+    uint64_t wait(uint64_t queue = LW_NO_QUEUE_GIVEN, uint64_t device = 0)
+    {
+        uint64_t made = 0;
+        lw_fault fault;
+        must(lw_wait(&table, device, queue, &made, &fault), fault);
+        return made;
+    }
+
+    template <class T> bool is_present(Span<T> section, uint64_t device = 0)
+    {
+        uint64_t present = 0;
+        lw_is_present(&table, device, section.start, section.len(), &present);
+        return present != 0;
+    }
+
+    // Makes room in the trace again, and returns how many events it had.
+    uint64_t rebase()
+    {
+        uint64_t folded = 0;
+        lw_fault fault;
+        must(lw_rebase(&table, &folded, &fault), fault);
+        return folded;
+    }
+
+    // The report that accrun prints.
+    std::string report()
+    {
+        uint64_t len = 0;
+        lw_fault fault;
+        lw_report(&table, nullptr, 0, &len, &fault);
+        std::vector<char> text(len + 1);
+        must(lw_report(&table, text.data(), text.size(), &len, &fault), fault);
+        return std::string(text.data(), len);
+    }
+
+private:
+    void begin(const lw_limits *limits)
+    {
+        lw_fault fault;
+        must(lw_table_new(&table, limits, &fault), fault);
+    }
+
+    lw_table table = LW_NO_TABLE;
+};
+
+// A data construct (OpenACC 3.3, section 2.6.5), entered where it is made and exited at the end of its block.
+class Region {
+public:
+    Region(Table &table, const Items &items, uint64_t device = 0) : table(table)
+    {
+        lw_fault fault;
+        must(lw_enter(table.get(), device, items.data(), items.size(), &number, &fault), fault);
+    }
+    Region(const Region &) = delete;
+    Region &operator=(const Region &) = delete;
+
+    // A destructor can't throw: a region whose exit is refused, as while a block is lent that ends with it, stays open.
+    ~Region()
+    {
+        if (is_open) {
+            lw_exit(table.get(), number, nullptr);
+        }
+    }
+
+    // The end of the construct, which tells where it is refused. The region is open still then.
+    void exit()
+    {
+        lw_fault fault;
+        must(lw_exit(table.get(), number, &fault), fault);
+        is_open = false;
+    }
+
+    Table &table;
+    uint64_t number = 0;
+
+private:
+    bool is_open = true;
+};
+
+// The device's elements of a section, lent to a kernel (section 2.5). At the end of its block the device has them
+// again, as the kernel left them.
+template <class T> class Lease {
+public:
+    Lease(Region &region, Span<T> section) : elements(section.count), table(region.table)
+    {
+        lw_fault fault;
+        must(lw_lend(table.get(), region.number, section.start, section.len(), &number, &fault), fault);
+        lw_lease_read(table.get(), number, elements.data(), section.len(), nullptr);
+    }
+    Lease(const Lease &) = delete;
+    Lease &operator=(const Lease &) = delete;
+
+    // A destructor can't throw: a lease that is refused stays out until its table ends.
+    ~Lease()
+    {
+        if (is_out) {
+            lw_lease_write(table.get(), number, elements.data(), elements.size() * sizeof(T), nullptr);
+            lw_gather(table.get(), number, nullptr);
+        }
+    }
+
+    // Brings it back, and tells where that is refused. The lease is out still then.
+    void gather()
+    {
+        lw_fault fault;
+        must(lw_lease_write(table.get(), number, elements.data(), elements.size() * sizeof(T), &fault), fault);
+        must(lw_gather(table.get(), number, &fault), fault);
+        is_out = false;
+    }
+
+    T &operator[](std::size_t place) { return elements[place]; }
+    T *data() { return elements.data(); }
+    std::size_t size() const { return elements.size(); }
+    T *begin() { return elements.data(); }
+    T *end() { return elements.data() + elements.size(); }
+
+private:
+    std::vector<T> elements;
+    Table &table;
+    uint64_t number = 0;
+    bool is_out = true;
+};
+
+} // namespace lamwiest
+
+#endif

@@ -1,0 +1,432 @@
+//! Lamwiest, the data environment of an OpenACC 3.3 runtime, in safe Rust over the library for C.
+//!
+//! A [`Table`] is host memory and the memories of devices, with what is mapped between them. A [`Region`] borrows its
+//! table, so no table ends and no region is exited too early; it is the table, too, for calls within it. A call that is
+//! refused returns [`Refused`], and changes nothing.
+//!
+//! ```no_run
+//! use lamwiest::{Clause, Limits, Table};
+//!
+//! let mut table = Table::new(Limits::default())?;
+//! let a = table.array::<f64>(4)?;
+//! table.write(a, &[1.0, 2.0, 3.0, 4.0])?;
+//! let mut region = table.region(0, &[a.item(Clause::Copy)])?;
+//! region.run(a, |a| a.reverse())?;
+//! region.exit()?;
+//! assert_eq!(table.read(a)?, [4.0, 3.0, 2.0, 1.0]);
+//! # Ok::<(), lamwiest::Refused>(())
+//! ```
+
+use std::error::Error;
+use std::ffi::{c_char, CStr};
+use std::fmt;
+use std::marker::PhantomData;
+use std::mem::{self, size_of};
+use std::ops::{Deref, DerefMut};
+
+mod raw;
+
+/// The limits of a table, as `lw_limits` has them. Each that is 0 is as it is by default.
+#[derive(Clone, Copy, Debug, Default)]
+pub struct Limits {
+    /// The size of host memory in bytes: a multiple of 16 up to 67,108,864; by default 65,536.
+    pub host: u64,
+    /// The size of each device's memory, as that of the host.
+    pub device: u64,
+    /// How many data regions may be open at a time: up to 65,536; by default 64.
+    pub regions: u64,
+    /// How many events there may be in all: up to 2^40; by default 2^40.
+    pub tickets: u64,
+    /// The greatest value of a counter: up to 4,294,967,295, as by default.
+    pub counter_max: u64,
+    /// How many transfers may wait in one queue: up to 4,096; by default 256.
+    pub queue_cap: u64,
+    /// How many events the stored trace may have until [`Table::rebase`]: up to 16,777,216; by default 262,144.
+    pub trace_cap: u64,
+    /// How many devices there are: up to 4; by default 1.
+    pub devices: u64,
+}
+
+/// A call was refused, and changed nothing.
+#[derive(Clone, Copy, Debug, PartialEq, Eq)]
+pub struct Refused {
+    /// The status of `lamwiest.h`.
+    pub status: u32,
+    /// The place of the item that is refused; 0 where the refusal names none.
+    pub item: u64,
+    /// The other number of the refusal; 0 where it has none.
+    pub value: u64,
+}
+
+impl Refused {
+    /// The name of the refusal, as `DeviceFull`.
+    pub fn name(&self) -> &'static str {
+        // SAFETY: the name is static, and ends with a zero.
+        unsafe { CStr::from_ptr(raw::lw_status_name(self.status)) }.to_str().unwrap_or("")
+    }
+}
+
+impl fmt::Display for Refused {
+    fn fmt(&self, f: &mut fmt::Formatter<'_>) -> fmt::Result {
+        let told = raw::Fault { status: self.status, item: self.item, value: self.value };
+        let mut text = [0 as c_char; raw::FAULT_TEXT_SIZE];
+        // SAFETY: the buffer is as long as is told, and the text in it ends with a zero.
+        let text = unsafe {
+            raw::lw_fault_text(&told, text.as_mut_ptr(), text.len(), std::ptr::null_mut());
+            CStr::from_ptr(text.as_ptr())
+        };
+        f.write_str(&text.to_string_lossy())
+    }
+}
+
+impl Error for Refused {}
+
+/// Makes a call that answers a number into the first place, and a refusal into the second. A call that answers no
+/// number leaves a 0 there.
+fn made(call: impl FnOnce(&mut u64, &mut raw::Fault) -> u32) -> Result<u64, Refused> {
+    let (mut number, mut fault) = (0, raw::Fault::default());
+    if call(&mut number, &mut fault) == raw::DONE {
+        Ok(number)
+    } else {
+        Err(Refused { status: fault.status, item: fault.item, value: fault.value })
+    }
+}
+
+/// What may stand in an array.
+///
+/// # Safety
+///
+/// The type has no padding, and any bytes are one of its values.
+pub unsafe trait Element: Copy + Default {}
+
+macro_rules! elements {
+    ($($name:ty)*) => { $(unsafe impl Element for $name {})* };
+}
+elements!(u8 u16 u32 u64 usize i8 i16 i32 i64 isize f32 f64);
+
+/// So many elements in host memory, from a host address on.
+#[derive(Debug)]
+pub struct Span<E> {
+    start: u64,
+    count: usize,
+    of: PhantomData<E>,
+}
+
+impl<E> Clone for Span<E> {
+    fn clone(&self) -> Self {
+        *self
+    }
+}
+
+impl<E> Copy for Span<E> {}
+
+impl<E: Element> Span<E> {
+    /// The elements from a host address on. A section that is not in host memory is refused where it is used.
+    pub fn at(start: u64, count: usize) -> Span<E> {
+        Span { start, count, of: PhantomData }
+    }
+
+    /// The host address of the first element.
+    pub fn start(&self) -> u64 {
+        self.start
+    }
+
+    /// How many bytes they are.
+    pub fn len(&self) -> u64 {
+        self.count.saturating_mul(size_of::<E>()) as u64
+    }
+
+    /// Whether there is none.
+    pub fn is_empty(&self) -> bool {
+        self.count == 0
+    }
+
+    /// The elements `[first:count]` of these.
+    pub fn part(&self, first: usize, count: usize) -> Span<E> {
+        Span::at(self.start + (first * size_of::<E>()) as u64, count)
+    }
+
+    /// The item of a data clause that names these.
+    pub fn item(&self, clause: Clause) -> Item {
+        self.item_with(clause, 0)
+    }
+
+    /// The same, with the host address of the pointer to them, which is attached on entry and detached on exit.
+    pub fn item_with(&self, clause: Clause, pointer: u64) -> Item {
+        Item(raw::Item { clause: clause as u32, start: self.start, len: self.len(), pointer })
+    }
+}
+
+/// The clauses (OpenACC 3.3, sections 2.6 and 2.7), each with the directives that have it. Another is `BadClause`.
+#[derive(Clone, Copy, Debug, PartialEq, Eq)]
+#[repr(u32)]
+pub enum Clause {
+    /// Of regions.
+    Copy = 1,
+    /// Of regions and of `enter data`.
+    Copyin = 2,
+    /// Of regions and of `exit data`.
+    Copyout = 3,
+    /// Of regions.
+    CopyoutZero = 4,
+    /// Of regions and of `enter data`.
+    Create = 5,
+    /// Of regions and of `enter data`.
+    CreateZero = 6,
+    /// Of regions.
+    NoCreate = 7,
+    /// Of regions.
+    Present = 8,
+    /// Of regions and of `enter data`: of a pointer's own eight bytes.
+    Attach = 9,
+    /// Of `exit data`.
+    Delete = 10,
+    /// Of `exit data`: of a pointer's own eight bytes.
+    Detach = 11,
+    /// Of `update`: to the host.
+    ToSelf = 12,
+    /// Of `update`: to the device.
+    ToDevice = 13,
+}
+
+/// One item of a data clause.
+#[derive(Clone, Copy, Debug)]
+#[repr(transparent)]
+pub struct Item(raw::Item);
+
+/// The `async` clause (section 2.16).
+#[derive(Clone, Copy, Debug, PartialEq, Eq)]
+pub enum Async {
+    /// There is none: copies are made at once.
+    Sync,
+    /// Without an argument: they wait in queue 0.
+    NoValue,
+    /// They wait in the queue of this number, from 0 to 15.
+    Queue(u32),
+}
+
+impl Async {
+    fn raw(self) -> raw::Async {
+        let number = match self {
+            Async::Sync => -2,
+            Async::NoValue => -1,
+            Async::Queue(number) => i64::from(number),
+        };
+        raw::Async { number }
+    }
+}
+
+fn raw_items(items: &[Item]) -> *const raw::Item {
+    items.as_ptr().cast()
+}
+
+/// Host memory and the memories of devices, with what is mapped between them. It ends when it is dropped.
+///
+/// Each call below is safe: the handle is the table's own and is borrowed for the call alone, and arrays are passed
+/// with their own lengths. All else that can be wrong is a [`Refused`].
+pub struct Table(raw::Table);
+
+impl Table {
+    /// A new table, on which nothing is mapped.
+    pub fn new(limits: Limits) -> Result<Table, Refused> {
+        let begun = raw::Limits {
+            size: size_of::<raw::Limits>() as u32,
+            version: raw::VERSION,
+            host: limits.host,
+            device: limits.device,
+            regions: limits.regions,
+            tickets: limits.tickets,
+            counter_max: limits.counter_max,
+            queue_cap: limits.queue_cap,
+            trace_cap: limits.trace_cap,
+            full: 0,
+            devices: limits.devices,
+        };
+        let mut table = Table(raw::Table::NONE);
+        // SAFETY: as `Table` tells.
+        made(|_, fault| unsafe { raw::lw_table_new(&mut table.0, &begun, fault) })?;
+        Ok(table)
+    }
+
+    /// Host addresses for an array.
+    pub fn array<E: Element>(&mut self, count: usize) -> Result<Span<E>, Refused> {
+        let len = Span::<E>::at(0, count).len();
+        // SAFETY: as `Table` tells.
+        let start = made(|start, fault| unsafe { raw::lw_array(&mut self.0, len, start, fault) })?;
+        Ok(Span::at(start, count))
+    }
+
+    /// The host writes elements, as many as these are, from the first on.
+    pub fn write<E: Element>(&mut self, to: Span<E>, elements: &[E]) -> Result<(), Refused> {
+        let (bytes, len) = (elements.as_ptr().cast(), mem::size_of_val(elements));
+        // SAFETY: as `Table` tells.
+        made(|_, fault| unsafe { raw::lw_host_write(&mut self.0, to.start, bytes, len, fault) })?;
+        Ok(())
+    }
+
+    /// What the host has.
+    pub fn read<E: Element>(&mut self, from: Span<E>) -> Result<Vec<E>, Refused> {
+        let mut elements = vec![E::default(); from.count];
+        let (bytes, len) = (elements.as_mut_ptr().cast(), mem::size_of_val(&elements[..]));
+        // SAFETY: as `Table` tells.
+        made(|_, fault| unsafe { raw::lw_host_read(&mut self.0, from.start, bytes, len, fault) })?;
+        Ok(elements)
+    }
+
+    /// What a device has of them. It is `Absent` where they are not mapped, or lent.
+    pub fn read_device<E: Element>(&mut self, device: u64, from: Span<E>) -> Result<Vec<E>, Refused> {
+        let mut elements = vec![E::default(); from.count];
+        let (bytes, len) = (elements.as_mut_ptr().cast(), mem::size_of_val(&elements[..]));
+        // SAFETY: as `Table` tells.
+        made(|_, fault| unsafe { raw::lw_device_read(&mut self.0, device, from.start, bytes, len, fault) })?;
+        Ok(elements)
+    }
+
+    /// Carries out `enter data` (section 2.6.6).
+    pub fn enter_data(&mut self, device: u64, items: &[Item], asynchronous: Async) -> Result<(), Refused> {
+        let (first, count) = (raw_items(items), items.len());
+        // SAFETY: as `Table` tells.
+        made(|_, fault| unsafe {
+            raw::lw_enter_data(&mut self.0, device, first, count, asynchronous.raw(), fault)
+        })?;
+        Ok(())
+    }
+
+    /// Carries out `exit data` (section 2.6.6).
+    pub fn exit_data(
+        &mut self,
+        device: u64,
+        items: &[Item],
+        finalize: bool,
+        asynchronous: Async,
+    ) -> Result<(), Refused> {
+        let (first, count, finalize) = (raw_items(items), items.len(), u32::from(finalize));
+        // SAFETY: as `Table` tells.
+        made(|_, fault| unsafe {
+            raw::lw_exit_data(&mut self.0, device, first, count, finalize, asynchronous.raw(), fault)
+        })?;
+        Ok(())
+    }
+
+    /// Carries out `update`.
+    pub fn update(
+        &mut self,
+        device: u64,
+        items: &[Item],
+        if_present: bool,
+        asynchronous: Async,
+    ) -> Result<(), Refused> {
+        let (first, count, if_present) = (raw_items(items), items.len(), u32::from(if_present));
+        // SAFETY: as `Table` tells.
+        made(|_, fault| unsafe {
+            raw::lw_update(&mut self.0, device, first, count, if_present, asynchronous.raw(), fault)
+        })?;
+        Ok(())
+    }
+
+    /// Makes all copies of a queue of a device, or those of all its queues, and returns how many they were.
+    pub fn wait(&mut self, device: u64, queue: Option<u32>) -> Result<u64, Refused> {
+        let queue = queue.map_or(raw::NO_QUEUE_GIVEN, u64::from);
+        // SAFETY: as `Table` tells.
+        made(|count, fault| unsafe { raw::lw_wait(&mut self.0, device, queue, count, fault) })
+    }
+
+    /// Makes room in the trace again, and returns how many events it had.
+    pub fn rebase(&mut self) -> Result<u64, Refused> {
+        // SAFETY: as `Table` tells.
+        made(|folded, fault| unsafe { raw::lw_rebase(&mut self.0, folded, fault) })
+    }
+
+    /// The report that `accrun` prints.
+    pub fn report(&mut self) -> Result<String, Refused> {
+        let mut len = 0;
+        // SAFETY: no byte is written where there is no room. The call tells how long the text is.
+        unsafe { raw::lw_report(&mut self.0, std::ptr::null_mut(), 0, &mut len, &mut raw::Fault::default()) };
+        let mut text = vec![0; len as usize + 1];
+        let (at, size) = (text.as_mut_ptr(), text.len());
+        // SAFETY: as `Table` tells.
+        made(|len, fault| unsafe { raw::lw_report(&mut self.0, at.cast(), size, len, fault) })?;
+        text.truncate(len as usize);
+        Ok(String::from_utf8_lossy(&text).into_owned())
+    }
+
+    /// Enters a data region (section 2.6.5). It is exited when it is dropped.
+    pub fn region(&mut self, device: u64, items: &[Item]) -> Result<Region<'_>, Refused> {
+        let (first, count) = (raw_items(items), items.len());
+        // SAFETY: as `Table` tells.
+        let number = made(|number, fault| unsafe {
+            raw::lw_enter(&mut self.0, device, first, count, number, fault)
+        })?;
+        Ok(Region { table: self, number })
+    }
+}
+
+impl Drop for Table {
+    fn drop(&mut self) {
+        // SAFETY: as `Table` tells.
+        unsafe { raw::lw_table_end(&mut self.0) };
+    }
+}
+
+/// An open data region. Calls within it are made on it as on its table; so an inner region ends before it.
+pub struct Region<'table> {
+    table: &'table mut Table,
+    number: u64,
+}
+
+impl Region<'_> {
+    /// Runs a kernel on the device's elements of a section (section 2.5), and returns what it returns. After a kernel
+    /// that panics they stay lent until the table ends.
+    pub fn run<E: Element, T>(
+        &mut self,
+        section: Span<E>,
+        kernel: impl FnOnce(&mut [E]) -> T,
+    ) -> Result<T, Refused> {
+        let mut elements = vec![E::default(); section.count];
+        let (bytes, len) = (elements.as_mut_ptr(), mem::size_of_val(&elements[..]));
+        let table = &mut self.table.0;
+        // SAFETY: as `Table` tells.
+        let lease = made(|lease, fault| unsafe {
+            raw::lw_lend(table, self.number, section.start, section.len(), lease, fault)
+        })?;
+        made(|_, fault| unsafe { raw::lw_lease_read(table, lease, bytes.cast(), len, fault) })?;
+        let answer = kernel(&mut elements);
+        let bytes = elements.as_ptr();
+        made(|_, fault| unsafe { raw::lw_lease_write(table, lease, bytes.cast(), len, fault) })?;
+        made(|_, fault| unsafe { raw::lw_gather(table, lease, fault) })?;
+        Ok(answer)
+    }
+
+    /// The end of the construct. To drop the region is the same, without a word where that is refused.
+    pub fn exit(mut self) -> Result<(), Refused> {
+        let exited = self.try_exit();
+        mem::forget(self);
+        exited
+    }
+
+    fn try_exit(&mut self) -> Result<(), Refused> {
+        // SAFETY: as `Table` tells.
+        made(|_, fault| unsafe { raw::lw_exit(&mut self.table.0, self.number, fault) })?;
+        Ok(())
+    }
+}
+
+impl Deref for Region<'_> {
+    type Target = Table;
+
+    fn deref(&self) -> &Table {
+        self.table
+    }
+}
+
+impl DerefMut for Region<'_> {
+    fn deref_mut(&mut self) -> &mut Table {
+        self.table
+    }
+}
+
+impl Drop for Region<'_> {
+    fn drop(&mut self) {
+        let _ = self.try_exit();
+    }
+}

@@ -159,7 +159,7 @@ impl Marks {
         let pointer = Pointer {
             place,
             target,
-            stands: true,
+            stands: !self.is_racing(section),
         };
         self.pointers
             .retain(|other| other.place != place || other.target != target);

@@ -14,7 +14,7 @@ pub struct Pointer {
     pub place: u64,
     /// The host address that it got.
     pub target: u64,
-    /// Whether nothing else has been written there since.
+    /// Whether nothing else has been written there since, and no copy that waits may do so.
     pub stands: bool,
 }
 

@@ -2,6 +2,7 @@
 
 use crate::emitters::Emitter;
 use crate::faults::{EmitFault, Reason};
+use crate::pointers::{POINTER_LEN, pointer_section};
 use acc_base::{Config, Directive, Fault, List, MEMORY_MAX, Section};
 use acc_read::{ScriptKernel, Statement, Trouble, line_at};
 use acc_script::Session;
@@ -96,8 +97,28 @@ pub fn follow_on_twin<R: Threads + Wait + Sync + AllocGlobal>(
     Ok(())
 }
 
-/// Flips all bits of a section's bytes on the device.
+/// Flips all bits of a section's bytes on the device, but those of its attached pointers.
 fn flip<R: Threads + Wait + Sync + AllocGlobal>(
+    rt: &R,
+    twin: &mut Session,
+    section: Section,
+) -> Result<(), Fault> {
+    flip_all(rt, twin, section)?;
+    let end = section.start.saturating_add(section.len);
+    let mut start = section.start;
+    for _ in 0..section.len / POINTER_LEN {
+        let len = end.saturating_sub(start);
+        let Some(attached) = twin.table.next_attached(DEVICE, Section { start, len }) else {
+            break;
+        };
+        flip_all(rt, twin, pointer_section(attached.pointer))?;
+        start = attached.pointer.saturating_add(POINTER_LEN);
+    }
+    Ok(())
+}
+
+/// Flips all bits of a section's bytes on the device.
+fn flip_all<R: Threads + Wait + Sync + AllocGlobal>(
     rt: &R,
     twin: &mut Session,
     section: Section,
@@ -106,13 +127,11 @@ fn flip<R: Threads + Wait + Sync + AllocGlobal>(
         return Ok(());
     };
     let kernel = ScriptKernel::Xor(255);
-    twin.perform(
-        rt,
-        Statement::Kernel {
-            region,
-            kernel,
-            section,
-        },
-    )?;
+    let statement = Statement::Kernel {
+        region,
+        kernel,
+        section,
+    };
+    twin.perform(rt, statement)?;
     Ok(())
 }

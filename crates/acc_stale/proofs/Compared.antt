@@ -19,6 +19,12 @@ outdated_at written own place d e mark r h filled is =
     filled_by (get_or written place d) (get_or own place e) mark r filled is
     ∙ sym (ap₂ (λ x y. filled_against x y mark) (slice_get-get_or written place d w) (slice_get-get_or own place e o))
 
+pub overrun_at : (after own : List ℕ) (place : ℕ) (d e : ℕ) (mark r : Mark) → place < min (length after) (length own) → r ≡ (if get_or after place d == get_or own place e then New else Behind) → r ≡ outrun after own place mark
+overrun_at after own place d e mark r h is =
+    let a : place < length after = grind (arith, h) in
+    let o : place < length own = grind (arith, h) in
+    is ∙ sym (ap₂ (λ x y. against x y mark) (slice_get-get_or after place d a) (slice_get-get_or own place e o))
+
 other_by : (b a o : ℕ) (mark r : Mark) → b ≢ a → r ≡ (if a == o then New else Behind) → r ≡ where_other (Some b) (Some a) mark (against (Some a) (Some o) mark)
 other_by b a o mark r ne e =
     let differ : (b == a) ≡ false = grind (arith, nat_tests, ne) in

@@ -4,3 +4,4 @@ pub mod Kept
 pub mod Compared
 pub mod Found
 pub mod Steps
+pub mod Written

@@ -78,6 +78,10 @@ device_outdated p attached written own k = on_mapped p attached (outdated writte
 abbrev pub kernel_wrote : Mapped → List Attachment → List ℕ → List ℕ → List ℕ → Known → Known
 kernel_wrote p attached before after own k = on_section p attached (rewritten before after (outrun after own)) (on_mapped p attached (rewritten before after (filled New)) k)
 
+-- the same of a kernel that left each byte another one
+abbrev pub kernel_wrote_all : Mapped → List Attachment → List ℕ → List ℕ → Known → Known
+kernel_wrote_all p attached after own k = on_section p attached (outrun after own) (on_mapped p attached (filled New) k)
+
 -- ---- questions
 
 -- the first bytes of a section of host memory that are not new

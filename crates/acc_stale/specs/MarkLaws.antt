@@ -49,6 +49,13 @@ outdated_past written own place mark past =
       | inr h ↦ ap (λ o. filled_against (slice_get written place) o mark) (slice_get_past own place h) ∙ filled_none_right (slice_get written place) mark
     ]
 
+pub outrun_all_past : (written own : List ℕ) (place : ℕ) (mark : Mark) → min (length written) (length own) ≤ place → outrun written own place mark ≡ mark
+outrun_all_past written own place mark past =
+    elim (ended (length written) (length own) place past) [
+      | inl h ↦ ap (λ o. against o (slice_get own place) mark) (slice_get_past written place h) ∙ against_none_left (slice_get own place) mark
+      | inr h ↦ ap (λ o. against (slice_get written place) o mark) (slice_get_past own place h) ∙ against_none_right (slice_get written place) mark
+    ]
+
 -- whatever becomes of others
 rewritten_so : (change : Change) (before after : List ℕ) (place : ℕ) (mark : Mark) → min (length before) (length after) ≤ place → rewritten before after change place mark ≡ mark
 rewritten_so change before after place mark past =

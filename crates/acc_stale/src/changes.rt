@@ -7,7 +7,7 @@ ghost use Rattle.acc_base.specs.Attachments.{is_skipped, pointer_at};
 ghost use Rattle.acc_base.specs.Section.{covers};
 ghost use Rattle.acc_stale.specs.declared.marks.Mark.TheVariants.{New};
 ghost use Rattle.acc_stale.specs.Marks.{Change as Changes, each, beside_pointers, filled, copied, outdated, outrun, rewritten, against, IsKept};
-ghost use Rattle.acc_stale.specs.MarkLaws.{outdated_past, outrun_past, rewritten_past};
+ghost use Rattle.acc_stale.specs.MarkLaws.{outdated_past, outrun_all_past, outrun_past, rewritten_past};
 
 use crate::marks::{Mark, clipped};
 use acc_base::{Attachment, Fault};
@@ -207,6 +207,39 @@ impl Compared for Outrun<'_> {
     }
 
     ghost stays = { λ c place mark past. outrun_past c.before.now c.after.now c.own.now place mark past };
+}
+
+/// A kernel left each byte of the device another one: those of the host are behind that are not the same.
+#[derive(Clone, Copy)]
+pub(crate) struct Overrun<'a> {
+    /// The bytes as the kernel left them.
+    pub after: &'a [u8],
+    /// The bytes that the host has.
+    pub own: &'a [u8],
+}
+
+impl Change for Overrun<'_> {
+    ghost change = { λ c. outrun c.after.now c.own.now };
+
+    fn apply(&self, section: &mut [Mark]) {
+        change_each(section, self);
+    }
+}
+
+impl Compared for Overrun<'_> {
+    ghost compared = { λ c. outrun c.after.now c.own.now };
+
+    ghost size = { λ c. min (length c.after.now) (length c.own.now) };
+
+    fn len(&self) -> usize {
+        self.after.len().min(self.own.len())
+    }
+
+    fn mark(&self, place: usize, _mark: Mark) -> Mark {
+        against(self.after[place], self.own[place])
+    }
+
+    ghost stays = { λ c place mark past. outrun_all_past c.after.now c.own.now place mark past };
 }
 
 /// The mark of a byte where the other memory was written.

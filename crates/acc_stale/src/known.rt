@@ -7,9 +7,9 @@ ghost use Rattle.acc_base.specs.Attachments.{pointer_at, count_at};
 ghost use Rattle.acc_base.specs.Section.{host_base};
 ghost use Rattle.acc_stale.specs.Marks.{filled};
 ghost use Rattle.acc_stale.specs.Events.{mapped_at, mapped_behind, known_made};
-ghost use Rattle.acc_stale.specs.Known.{all_new, on_host, on_device, on_mapped, on_section, born, copied_in, copied_out, pointer_aimed, pointer_left, host_wrote, device_outdated, kernel_wrote, mark_born, stale_host, stale_device};
+ghost use Rattle.acc_stale.specs.Known.{all_new, on_host, on_device, on_mapped, on_section, born, copied_in, copied_out, pointer_aimed, pointer_left, host_wrote, device_outdated, kernel_wrote, kernel_wrote_all, mark_born, stale_host, stale_device};
 
-use crate::changes::{Change, Copied, Filled, Outdated, Outrun, Pointers, Rewritten};
+use crate::changes::{Change, Copied, Filled, Outdated, Outrun, Overrun, Pointers, Rewritten};
 use crate::marks::{Mark, Marks, Run};
 use acc_base::{Attachment, DEVICE_BASE, Fault, HOST_BASE, Section, Transfer};
 use std::alloc::Global;
@@ -228,6 +228,30 @@ impl Known {
         let p = block.section(section);
         self.change_mapped(p, attached, &Rewritten { before, after })?;
         let change = Outrun { before, after, own };
+        let at = offset_of(section);
+        self.host
+            .change_beside(self.alloc, at, section.len, p.beside(attached), &change)
+    }
+
+    /// The same of a kernel that left each byte of the section another one: the bytes as it found them are not asked for.
+    ///
+    /// # Errors
+    ///
+    /// As [`Known::made`].
+    pub fn kernel_wrote_all(
+        &mut self,
+        block: Placed,
+        section: Section,
+        attached: &[Attachment],
+        after: &[u8],
+        own: &[u8],
+    ) -> Result<(), Fault>
+        ensures ok { OnOk result (self.new ≡ kernel_wrote_all (mapped_at block section) attached.now after.now own.now self.old) }
+        ensures only { IfErr result (λ fault. fault ≡ Memory) }
+    {
+        let p = block.section(section);
+        self.change_mapped(p, attached, &Filled(Mark::New))?;
+        let change = Overrun { after, own };
         let at = offset_of(section);
         self.host
             .change_beside(self.alloc, at, section.len, p.beside(attached), &change)

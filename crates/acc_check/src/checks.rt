@@ -16,8 +16,16 @@ pub(crate) struct Kernel {
     pub kernel: ScriptKernel,
     /// The section that is lent to it.
     pub section: Section,
-    /// The bytes that the device has of the section before.
+    /// The bytes that the device has of the section before; none where the kernel leaves each byte another one.
     pub before: Vec<u8>,
+}
+
+/// Whether a kernel leaves each byte another one, whatever it was.
+pub(crate) fn leaves_others(kernel: ScriptKernel) -> bool {
+    match kernel {
+        ScriptKernel::Add(number) | ScriptKernel::Xor(number) => number != 0,
+        _ => false,
+    }
 }
 
 /// Checks the lines of a script, each when it has run.
@@ -114,16 +122,29 @@ impl Check {
             section,
         } = statement
         {
-            let device = table.device_of_region(*region);
-            if let Some(bytes) = table.device_read(device, *section) {
-                self.kernel = Some(Kernel {
-                    kernel: *kernel,
-                    section: *section,
-                    before: Vec::from_slice(self.alloc, bytes)?,
-                });
-            }
+            self.kernel = Some(Kernel {
+                kernel: *kernel,
+                section: *section,
+                before: self.bytes_before(*region, *kernel, *section, table)?,
+            });
         }
         Ok(())
+    }
+
+    /// The bytes that a device has before a kernel runs, where they have to be compared.
+    fn bytes_before(
+        &self,
+        region: u64,
+        kernel: ScriptKernel,
+        section: Section,
+        table: &Table,
+    ) -> Result<Vec<u8>, Fault> {
+        if leaves_others(kernel) {
+            return Ok(Vec::new(self.alloc));
+        }
+        let device = table.device_of_region(region);
+        let bytes = table.device_read(device, section).unwrap_or(&[]);
+        Ok(Vec::from_slice(self.alloc, bytes)?)
     }
 
     /// Sees a line after it ran, and puts what it read that is stale. `shown` is the section of host memory that it
@@ -200,7 +221,12 @@ impl Check {
     }
 
     /// Finds what a kernel reads that is stale, when its block is lent.
-    pub(crate) fn find_in_kernel(&mut self, table: &Table, device: u64) -> Result<(), Fault> {
+    pub(crate) fn find_in_kernel(
+        &mut self,
+        table: &Table,
+        device: u64,
+        block: u64,
+    ) -> Result<(), Fault> {
         let Some(kernel) = &self.kernel else {
             return Ok(());
         };
@@ -216,7 +242,7 @@ impl Check {
         if let Some(source) = source {
             self.find_in_host(table, source, 1)?;
         }
-        if let Some(held) = self.placed(table, device, section) {
+        if let Some(held) = self.account.block(device, block) {
             self.find_on_device(held.placed, section)?;
         }
         Ok(())

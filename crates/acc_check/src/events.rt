@@ -1,7 +1,7 @@
 //! What each event does to the bytes that are told of it.
 
 use crate::accounts::{Held, Waiting};
-use crate::checks::Check;
+use crate::checks::{Check, leaves_others};
 use crate::histories::{Deed, Done};
 use acc_base::{Aim, Did, Event, Fault, Found, Section, Step, Task, Transfer};
 use acc_stale::{Placed, transfer_of};
@@ -40,7 +40,7 @@ impl Check {
                 };
                 self.see_write(table, section)
             }
-            Event::Lent { .. } => self.find_in_kernel(table, device),
+            Event::Lent { block, .. } => self.find_in_kernel(table, device, *block),
             Event::Gathered { block, .. } => self.see_kernel(table, device, *block),
             _ => Ok(()),
         }
@@ -292,28 +292,28 @@ impl Check {
         else {
             return Ok(());
         };
-        let placed = held.placed;
-        let after = table.device_read(device, kernel.section);
-        if let (Some(after), Some(own)) = (after, table.host_read(kernel.section)) {
-            if kernel.before.as_slice() == after {
-                return Ok(());
-            }
-            let attached = self.account.attached(self.alloc, placed)?;
-            self.known.kernel_wrote(
-                placed,
-                kernel.section,
-                &attached,
-                &kernel.before,
-                after,
-                own,
-            )?;
+        let (placed, section) = (held.placed, kernel.section);
+        let after = table.device_read(device, section);
+        let (Some(after), Some(own)) = (after, table.host_read(section)) else {
+            return Ok(());
+        };
+        let attached = self.account.attached(self.alloc, placed)?;
+        if leaves_others(kernel.kernel) {
+            self.known
+                .kernel_wrote_all(placed, section, &attached, after, own)?;
+            return self.note(device, Deed::KernelWrote, section);
+        }
+        let before = kernel.before.as_slice();
+        if before != after {
+            self.known
+                .kernel_wrote(placed, section, &attached, before, after, own)?;
             let done = Done {
                 line: self.line,
                 deed: Deed::KernelWrote,
                 device,
-                section: kernel.section,
+                section,
             };
-            self.history.add_kernel(done, &kernel.before, after)?;
+            self.history.add_kernel(done, before, after)?;
         }
         Ok(())
     }

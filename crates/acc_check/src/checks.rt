@@ -1,7 +1,7 @@
 //! The check of a script: what its lines read is told where it is stale.
 
 use crate::accounts::{Account, Held};
-use crate::findings::{Finding, Kind, Note, put_drop, put_finding, put_leak, put_needless};
+use crate::findings::{Finding, Kind, Note, Origin, put_drop, put_finding, put_leak, put_needless};
 use crate::histories::{Cause, History, has_address};
 use acc_base::{Config, Directive, Fault, Found, Item, Section, Transfer, UpdateClause};
 use acc_read::{Names, Page, ScriptKernel, Statement};
@@ -35,8 +35,8 @@ pub struct Check {
     pub(crate) known: Known,
     pub(crate) account: Account,
     pub(crate) history: History,
-    /// Whether that is told too which may be meant.
-    tells_all: bool,
+    /// What is told, and how.
+    telling: Telling,
     /// Mappings that ended while the device had newer bytes, which nobody read so far.
     drops: Vec<Held>,
     /// What updates copied that was equal already.
@@ -51,6 +51,16 @@ pub struct Check {
     seen: usize,
     /// How many findings there were.
     count: u64,
+}
+
+/// What a check tells, and how.
+#[derive(Clone, Copy)]
+pub struct Telling {
+    /// Whether that is told too which may be meant: copies over newer bytes, newer bytes that are dropped, and copies that
+    /// change nothing.
+    pub all: bool,
+    /// Whether each finding is an object of JSON, on a line of its own.
+    pub json: bool,
 }
 
 /// Updates of bytes that were equal already.
@@ -74,20 +84,19 @@ pub struct Line<'a> {
 }
 
 impl Check {
-    /// Returns the check of a script that is yet to run on a table of these limits. With `tells_all` it also tells what
-    /// may be meant: copies over newer bytes, newer bytes that are dropped, and copies that change nothing.
+    /// Returns the check of a script that is yet to run on a table of these limits.
     ///
     /// # Errors
     ///
     /// [`Fault::Memory`] alone.
-    pub fn new(alloc: Global, config: Config, tells_all: bool) -> Result<Check, Fault> {
+    pub fn new(alloc: Global, config: Config, telling: Telling) -> Result<Check, Fault> {
         let (host, device) = (config.host() as u32, config.device() as u32);
         Ok(Check {
             alloc,
             known: Known::new(alloc, host, config.devices() as usize, device)?,
             account: Account::new(alloc),
             history: History::new(alloc),
-            tells_all,
+            telling,
             drops: Vec::new(alloc),
             needless: Needless {
                 copies: 0,
@@ -99,6 +108,11 @@ impl Check {
             seen: 0,
             count: 0,
         })
+    }
+
+    /// What is known of all bytes, behind the lines so far.
+    pub fn known(&self) -> &Known {
+        &self.known
     }
 
     /// How many findings there were so far.
@@ -113,7 +127,7 @@ impl Check {
     /// [`Fault::Memory`] alone.
     pub fn before(&mut self, statement: &Statement<'_>, table: &Table) -> Result<(), Fault> {
         self.kernel = None;
-        if let (true, Statement::Direct(directive)) = (self.tells_all, statement) {
+        if let (true, Statement::Direct(directive)) = (self.telling.all, statement) {
             self.count_needless(directive, table);
         }
         if let Statement::Kernel {
@@ -174,7 +188,7 @@ impl Check {
             self.find_in_host(table, section, 0)?;
         }
         for finding in self.findings.iter() {
-            put_finding(page, names, line, *finding);
+            put_finding(page, names, line, self.telling.json, *finding);
         }
         self.count = self.count.saturating_add(self.findings.len() as u64);
         self.findings.clear();
@@ -183,6 +197,7 @@ impl Check {
 
     /// Puts what is mapped still at the end, and what was dropped or copied in vain, where all is told.
     pub fn end(&mut self, page: &mut Page, names: &Names, file: Option<&str>, table: &Table) {
+        let json = self.telling.json;
         for device in 0..table.config().devices() {
             let mut from = 0;
             for _ in 0..=table.events() {
@@ -197,17 +212,22 @@ impl Check {
                     Some(held) => held.line,
                     None => 0,
                 };
-                put_leak(page, names, file, line, range);
+                put_leak(page, names, Origin::line(file, line, json), range);
                 self.count = self.count.saturating_add(1);
                 from = range.start.saturating_add(range.len);
             }
         }
         for held in self.drops.iter() {
-            put_drop(page, names, file, held.line, held.section);
+            put_drop(
+                page,
+                names,
+                Origin::line(file, held.line, json),
+                held.section,
+            );
             self.count = self.count.saturating_add(1);
         }
         if self.needless.copies > 0 {
-            put_needless(page, file, self.line, self.needless);
+            put_needless(page, Origin::line(file, self.line, json), self.needless);
             self.count = self.count.saturating_add(1);
         }
     }
@@ -334,7 +354,7 @@ impl Check {
 
     /// Finds what a copy is about to overwrite that is newer.
     pub(crate) fn find_overwritten(&mut self, placed: Placed, t: Transfer) -> Result<(), Fault> {
-        if !self.tells_all {
+        if !self.telling.all {
             return Ok(());
         }
         let (from, over) = if t.out {
@@ -364,7 +384,7 @@ impl Check {
 
     /// Keeps a mapping that ends, unless the device has older bytes than the host.
     pub(crate) fn note_drop(&mut self, held: Held) -> Result<(), Fault> {
-        if self.tells_all && !is_behind(self.known.stale_device(held.placed, held.section)) {
+        if self.telling.all && !is_behind(self.known.stale_device(held.placed, held.section)) {
             let line = self.line;
             self.drops.push(Held { line, ..held })?;
         }

@@ -1,7 +1,8 @@
 //! What is found, and how it is told.
 
 use crate::checks::{Line, Needless};
-use crate::histories::{Cause, Deed, Done};
+use crate::histories::{Cause, Done};
+use crate::objects::{open_object, put_field, put_note_fields, put_section_fields};
 use acc_base::Section;
 use acc_read::{Names, Page, before_comment, is_word_byte};
 use acc_table::Mapped;
@@ -48,6 +49,20 @@ pub(crate) enum Note {
     Copyin,
 }
 
+impl Note {
+    /// The word before the parenthesis, and where it is to be written.
+    pub fn words(self) -> Option<(&'static str, &'static str)> {
+        match self {
+            Note::None => None,
+            Note::UpdateSelf => Some(("update self", "before it")),
+            Note::UpdateDevice => Some(("update device", "before it")),
+            Note::Wait(_) => Some(("wait", "before it")),
+            Note::Copyout => Some(("copyout", "where its mapping ends")),
+            Note::Copyin => Some(("copyin", "where it is mapped, or update the device")),
+        }
+    }
+}
+
 /// Bytes that are read and stale.
 #[derive(Clone, Copy)]
 pub(crate) struct Finding {
@@ -63,108 +78,172 @@ pub(crate) struct Finding {
     pub cause: Cause,
 }
 
-/// Puts a finding, and what to write.
-pub(crate) fn put_finding(page: &mut Page, names: &Names, line: Line<'_>, finding: Finding) {
-    let column = column_of(line.text, finding.nth);
-    put_place(page, line.file, line.number, column);
+/// Where a finding is told, and how.
+#[derive(Clone, Copy)]
+pub(crate) struct Origin<'a> {
+    /// The file of the script, if it has one.
+    pub file: Option<&'a str>,
+    /// The number of the line.
+    pub line: u64,
+    /// The column in it, from 1 on.
+    pub column: u64,
+    /// Whether it is told as an object of JSON.
+    pub json: bool,
+}
+
+impl<'a> Origin<'a> {
+    /// A whole line.
+    pub fn line(file: Option<&'a str>, line: u64, json: bool) -> Origin<'a> {
+        Origin {
+            file,
+            line,
+            column: 1,
+            json,
+        }
+    }
+}
+
+/// Puts a finding of a line, and what to write.
+pub(crate) fn put_finding(
+    page: &mut Page,
+    names: &Names,
+    line: Line<'_>,
+    json: bool,
+    finding: Finding,
+) {
+    let origin = Origin {
+        file: line.file,
+        line: line.number,
+        column: column_of(line.text, finding.nth),
+        json,
+    };
+    open(page, names, origin, finding.kind.name(), finding.section);
+    if json {
+        put_note_fields(page, names, finding);
+        return close(page, origin);
+    }
+    close(page, origin);
+    put_done(page, origin, finding.cause.written);
+    put_done(page, origin, finding.cause.missed);
+    put_note(page, names, origin, finding);
+}
+
+/// Begins a finding of a kind about some bytes.
+fn open(page: &mut Page, names: &Names, origin: Origin<'_>, kind: &str, section: Section) {
+    open_kind(page, origin, kind);
+    if origin.json {
+        put_section_fields(page, names, section);
+    } else {
+        put_section(page, names, section);
+    }
+}
+
+/// Begins a finding of a kind.
+fn open_kind(page: &mut Page, origin: Origin<'_>, kind: &str) {
+    if origin.json {
+        return open_object(page, origin, kind);
+    }
+    put_place(page, origin);
     page.text("warning: ");
-    page.text(finding.kind.name());
+    page.text(kind);
     page.text(": ");
-    put_section(page, names, finding.section);
-    page.text("\n");
-    put_done(page, line.file, finding.cause.written);
-    put_done(page, line.file, finding.cause.missed);
-    put_note(page, names, line, column, finding);
+}
+
+fn close(page: &mut Page, origin: Origin<'_>) {
+    page.text(if origin.json { "}\n" } else { "\n" });
 }
 
 /// Puts what a line did that a finding comes from.
-fn put_done(page: &mut Page, file: Option<&str>, done: Option<Done>) {
+fn put_done(page: &mut Page, origin: Origin<'_>, done: Option<Done>) {
     let Some(done) = done else {
         return;
     };
-    put_place(page, file, done.line, 1);
+    let (line, column) = (done.line, 1);
+    put_place(
+        page,
+        Origin {
+            line,
+            column,
+            ..origin
+        },
+    );
     page.text("note: ");
-    page.text(match done.deed {
-        Deed::HostWrote => "written by the host here",
-        Deed::KernelWrote => "written on the device here",
-        Deed::CopiedOut | Deed::CopiedIn => "copied here",
-        Deed::Created => "mapped here with no copy",
-        Deed::Ended => "its mapping ended here with no copy",
-        Deed::KeptOut => "not copied here, since it stays mapped",
-        Deed::KeptIn => "not copied here, since it was mapped before",
-        Deed::QueuedOut | Deed::QueuedIn => "its copy waits in a queue since here",
-    });
+    page.text(done.deed.text());
     page.text("\n");
 }
 
-fn put_note(page: &mut Page, names: &Names, line: Line<'_>, column: u64, finding: Finding) {
-    let (before, behind) = match finding.note {
-        Note::None => return,
-        Note::UpdateSelf => ("update self(", ")' before it"),
-        Note::UpdateDevice => ("update device(", ")' before it"),
-        Note::Wait(_) => ("wait(", ")' before it"),
-        Note::Copyout => ("copyout(", ")' where its mapping ends"),
-        Note::Copyin => ("copyin(", ")' where it is mapped, or update the device"),
+fn put_note(page: &mut Page, names: &Names, origin: Origin<'_>, finding: Finding) {
+    let Some((_, place)) = finding.note.words() else {
+        return;
     };
-    put_place(page, line.file, line.number, column);
+    put_place(page, origin);
     page.text("note: write '");
-    page.text(before);
+    put_clause(page, names, finding);
+    page.text("' ");
+    page.text(place);
+    page.text("\n");
+}
+
+/// Puts what to write.
+pub(crate) fn put_clause(page: &mut Page, names: &Names, finding: Finding) {
+    let Some((word, _)) = finding.note.words() else {
+        return;
+    };
+    page.text(word);
+    page.text("(");
     match finding.note {
         Note::Wait(queue) => page.number(queue),
         _ => put_section(page, names, finding.section),
     }
-    page.text(behind);
-    page.text("\n");
+    page.text(")");
 }
 
 /// Puts a mapping that ended while the device had newer bytes, which nobody read.
-pub(crate) fn put_drop(
-    page: &mut Page,
-    names: &Names,
-    file: Option<&str>,
-    line: u64,
-    section: Section,
-) {
-    put_place(page, file, line, 1);
-    page.text("warning: dropped: ");
-    put_section(page, names, section);
-    page.text("\n");
+pub(crate) fn put_drop(page: &mut Page, names: &Names, origin: Origin<'_>, section: Section) {
+    open(page, names, origin, "dropped", section);
+    close(page, origin);
 }
 
 /// Puts how much was copied by updates that was equal already.
-pub(crate) fn put_needless(page: &mut Page, file: Option<&str>, line: u64, needless: Needless) {
-    put_place(page, file, line, 1);
-    page.text("warning: needless: ");
-    page.number(needless.bytes);
-    page.text(" bytes in ");
-    page.number(needless.copies);
-    page.text(" copies\n");
+pub(crate) fn put_needless(page: &mut Page, origin: Origin<'_>, needless: Needless) {
+    open_kind(page, origin, "needless");
+    if origin.json {
+        put_field(page, "bytes", needless.bytes);
+        put_field(page, "copies", needless.copies);
+    } else {
+        page.number(needless.bytes);
+        page.text(" bytes in ");
+        page.number(needless.copies);
+        page.text(" copies");
+    }
+    close(page, origin);
 }
 
 /// Puts a range that is mapped still, at the line that mapped it.
-pub(crate) fn put_leak(
-    page: &mut Page,
-    names: &Names,
-    file: Option<&str>,
-    line: u64,
-    range: Mapped,
-) {
-    put_place(page, file, line, 1);
-    page.text("warning: leaked: ");
+pub(crate) fn put_leak(page: &mut Page, names: &Names, origin: Origin<'_>, range: Mapped) {
     let section = Section {
         start: range.start,
         len: range.len,
     };
-    put_section(page, names, section);
-    page.text(" structured ");
-    page.number(range.structured);
-    page.text(" dynamic ");
-    page.number(range.dynamic);
-    page.text("\n");
+    open(page, names, origin, "leaked", section);
+    put_counter(page, origin, "structured", range.structured);
+    put_counter(page, origin, "dynamic", range.dynamic);
+    close(page, origin);
 }
 
-fn put_place(page: &mut Page, file: Option<&str>, line: u64, column: u64) {
-    let _ = match file {
+fn put_counter(page: &mut Page, origin: Origin<'_>, name: &str, count: u64) {
+    if origin.json {
+        return put_field(page, name, count);
+    }
+    page.text(" ");
+    page.text(name);
+    page.text(" ");
+    page.number(count);
+}
+
+fn put_place(page: &mut Page, origin: Origin<'_>) {
+    let (line, column) = (origin.line, origin.column);
+    let _ = match origin.file {
         Some(name) => write!(page, "{name}:{line}:{column}: "),
         None => write!(page, "accrun: line {line}: "),
     };

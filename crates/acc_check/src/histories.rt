@@ -37,6 +37,20 @@ pub(crate) enum Deed {
 }
 
 impl Deed {
+    /// What a note says of it.
+    pub fn text(self) -> &'static str {
+        match self {
+            Deed::HostWrote => "written by the host here",
+            Deed::KernelWrote => "written on the device here",
+            Deed::CopiedOut | Deed::CopiedIn => "copied here",
+            Deed::Created => "mapped here with no copy",
+            Deed::Ended => "its mapping ended here with no copy",
+            Deed::KeptOut => "not copied here, since it stays mapped",
+            Deed::KeptIn => "not copied here, since it was mapped before",
+            Deed::QueuedOut | Deed::QueuedIn => "its copy waits in a queue since here",
+        }
+    }
+
     /// Whether it could have copied to host memory, or to a device, and did not.
     fn missed(self, out: bool) -> bool {
         match self {

@@ -7,5 +7,7 @@ mod checks;
 mod events;
 mod findings;
 mod histories;
+mod objects;
 
-pub use checks::{Check, Line};
+pub use checks::{Check, Line, Telling};
+pub use objects::put_string;

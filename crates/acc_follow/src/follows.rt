@@ -8,7 +8,7 @@ use crate::picture_sinks::{Frame, PictureSink, Stop};
 use crate::ran_lines::{RanLine, picture_of};
 use crate::timelines::Timeline;
 use acc_base::{Config, Event, Fault, ScriptFault};
-use acc_check::{Check, Line};
+use acc_check::{Check, Line, Telling};
 use acc_explain::fault_column;
 use acc_log::Log;
 use acc_picture::Caption;
@@ -23,7 +23,7 @@ use std::thread::Threads;
 pub struct Views {
     /// Each statement, before what it prints.
     pub echo: bool,
-    /// A report as an object of JSON.
+    /// A report as an object of JSON, and so what a check finds.
     pub json: bool,
     /// The log: what each call did.
     pub log: bool,
@@ -340,7 +340,11 @@ impl<E: Sink, G: PictureSink> Follower<'_, E, G> {
     fn check_before(&mut self, statement: &Statement<'_>, session: &Session) -> Result<(), Fault> {
         if self.views.check && self.check.is_none() {
             let config = session.table.config();
-            self.check = Some(Check::new(self.alloc, config, self.views.check_all)?);
+            let telling = Telling {
+                all: self.views.check_all,
+                json: self.views.json,
+            };
+            self.check = Some(Check::new(self.alloc, config, telling)?);
         }
         match &mut self.check {
             Some(check) => check.before(statement, &session.table),

@@ -3,6 +3,7 @@
 use crate::page_text::{HEAD, TAIL};
 use crate::ran_lines::RanLine;
 use acc_base::{Fault, ScriptFault};
+use acc_check::put_string;
 use acc_read::{Names, Page};
 use acc_script::Effect;
 use std::alloc::Global;
@@ -178,28 +179,5 @@ fn put_run(page: &mut Page, first: u64, count: u64) {
     if count > 1 {
         page.text("-");
         page.number(first.saturating_add(count - 1));
-    }
-}
-
-/// Puts a text as a string of JSON, which may stand in an element `script`.
-fn put_string(page: &mut Page, text: &[u8]) {
-    page.text("\"");
-    for byte in text {
-        put_byte(page, *byte);
-    }
-    page.text("\"");
-}
-
-/// A `<` might begin the end of the element.
-fn put_byte(page: &mut Page, byte: u8) {
-    match byte {
-        b'"' => page.text("\\\""),
-        b'\\' => page.text("\\\\"),
-        b'\n' => page.text("\\n"),
-        0..=31 | b'<' => {
-            page.text("\\u00");
-            page.digits(&[byte]);
-        }
-        _ => page.bytes(&[byte]),
     }
 }

@@ -328,7 +328,8 @@ impl<E: Sink, G: PictureSink> Follower<'_, E, G> {
         }
         self.check_after(ran, effect)?;
         if self.views.page {
-            self.timeline.add_line(&self.names, ran, effect)?;
+            self.timeline
+                .add_line(&self.names, self.check.as_ref(), ran, effect)?;
         }
         if self.views.explain_faults() {
             self.note_region(number, table.regions())?;
@@ -423,7 +424,7 @@ impl<E: Sink, G: PictureSink> Follower<'_, E, G> {
         if !self.views.pictures || !self.is_picture_due(ran.session) {
             return Ok(());
         }
-        let picture = ran.picture(self.alloc, &self.names)?;
+        let picture = ran.picture(self.alloc, &self.names, self.check.as_ref())?;
         self.pictures
             .keep(Frame::Line(ran.number), picture.whole()?)
     }
@@ -445,7 +446,8 @@ impl<E: Sink, G: PictureSink> Follower<'_, E, G> {
     }
 
     fn draw(&self, session: &Session) -> Result<(), Stop> {
-        let picture = picture_of(self.alloc, session, &self.names, Caption::End)?;
+        let check = self.check.as_ref();
+        let picture = picture_of(self.alloc, session, &self.names, check, Caption::End)?;
         self.pictures.keep(Frame::Last, picture.whole()?)
     }
 

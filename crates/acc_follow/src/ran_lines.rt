@@ -1,6 +1,7 @@
 //! A line of a script that ran, and what there is to tell of it.
 
 use acc_base::{Fault, ScriptFault};
+use acc_check::Check;
 use acc_explain::{explain_fault, explain_refusal, explain_unclosed, is_pragma, warn_of_pragma};
 use acc_picture::{Caption, put_picture};
 use acc_read::{Names, Page, line_at, statement_text};
@@ -81,21 +82,26 @@ impl<'a> RanLine<'a> {
         }
     }
 
-    /// The picture that the line left.
+    /// The picture that the line left, with what a check knows of bytes.
     ///
     /// # Errors
     ///
     /// [`Fault::Memory`] where there is none for it.
-    pub fn picture(self, alloc: Global, names: &Names) -> Result<Page, Fault> {
+    pub fn picture(
+        self,
+        alloc: Global,
+        names: &Names,
+        check: Option<&Check>,
+    ) -> Result<Page, Fault> {
         let caption = Caption::Line {
             number: self.number,
             text: self.statement(),
         };
-        picture_of(alloc, self.session, names, caption)
+        picture_of(alloc, self.session, names, check, caption)
     }
 }
 
-/// The picture of a session's memories.
+/// The picture of a session's memories, with what a check knows of bytes.
 ///
 /// # Errors
 ///
@@ -104,9 +110,11 @@ pub fn picture_of(
     alloc: Global,
     session: &Session,
     names: &Names,
+    check: Option<&Check>,
     caption: Caption<'_>,
 ) -> Result<Page, Fault> {
     let mut page = Page::new(alloc);
-    put_picture(&mut page, alloc, &session.table, names, caption)?;
+    let known = check.map(Check::known);
+    put_picture(&mut page, alloc, &session.table, names, known, caption)?;
     Ok(page)
 }

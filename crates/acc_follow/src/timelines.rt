@@ -3,7 +3,7 @@
 use crate::page_text::{HEAD, TAIL};
 use crate::ran_lines::RanLine;
 use acc_base::{Fault, ScriptFault};
-use acc_check::put_string;
+use acc_check::{Check, put_string};
 use acc_read::{Names, Page};
 use acc_script::Effect;
 use std::alloc::Global;
@@ -43,6 +43,7 @@ impl Timeline {
     pub fn add_line(
         &mut self,
         names: &Names,
+        check: Option<&Check>,
         ran: RanLine<'_>,
         effect: Effect,
     ) -> Result<(), Fault> {
@@ -51,7 +52,7 @@ impl Timeline {
         // A page is of one script, so it names no file.
         ran.explain(&mut reason, self.alloc, names, None, effect);
         self.open_line(ran.line, printed.as_slice(), reason.whole()?);
-        self.add_state(names, ran, effect)?;
+        self.add_state(names, check, ran, effect)?;
         self.lines.text("]");
         Ok(())
     }
@@ -78,13 +79,19 @@ impl Timeline {
 
     /// Adds the state that a line left, where it may have changed something. A kernel that is refused may keep a block
     /// lent.
-    fn add_state(&mut self, names: &Names, ran: RanLine<'_>, effect: Effect) -> Result<(), Fault> {
+    fn add_state(
+        &mut self,
+        names: &Names,
+        check: Option<&Check>,
+        ran: RanLine<'_>,
+        effect: Effect,
+    ) -> Result<(), Fault> {
         let may_change = matches!(effect, Effect::Nothing | Effect::Refused(_));
         if ran.statement().is_empty() || (!may_change && !self.numbers.is_empty()) {
             return Ok(());
         }
         let report = ran.printed(self.alloc, Effect::Reported)?;
-        let picture = ran.picture(self.alloc, names)?;
+        let picture = ran.picture(self.alloc, names, check)?;
         let mut state = Vec::new(self.alloc);
         self.add_pieces(report.as_slice(), &mut state)?;
         self.add_pieces(picture.whole()?, &mut state)?;

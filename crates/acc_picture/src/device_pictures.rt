@@ -2,10 +2,12 @@
 
 use crate::device_rows::{DeviceRow, device_row};
 use crate::gathering::{Part, Stretch, add_attached, add_parts, add_stretches};
+use crate::marks::{Strip, add_device_strips, add_host_strips};
 use crate::places::{LINE_PITCH, MARGIN, group_size, last_from, row_y};
 use crate::queues::{QueueLine, add_queues};
 use acc_base::Attachment;
 use acc_read::Names;
+use acc_stale::Known;
 use acc_table::Table;
 use std::alloc::{AllocError, Global};
 
@@ -24,6 +26,8 @@ pub struct DevicePicture {
     pub attached: Vec<Attachment>,
     /// Its queues that are not empty.
     pub queues: Vec<QueueLine>,
+    /// Bytes that are behind or unfilled, where these are known.
+    pub strips: Option<Vec<Strip>>,
 }
 
 impl DevicePicture {
@@ -45,6 +49,7 @@ impl DevicePicture {
             rows: Vec::new(alloc),
             attached: Vec::new(alloc),
             queues: Vec::new(alloc),
+            strips: None,
         };
         scene.gather(alloc, table, names)?;
         Ok(scene)
@@ -58,6 +63,19 @@ impl DevicePicture {
         add_attached(table, device, &self.parts, &mut self.attached)?;
         add_queues(alloc, table, device, &mut self.queues)?;
         attach_all(&mut self.rows, table, device, &self.attached);
+        Ok(())
+    }
+
+    /// Adds the bytes that are behind or unfilled.
+    ///
+    /// # Errors
+    ///
+    /// Where memory is wanting.
+    pub fn mark(&mut self, alloc: Global, known: &Known) -> Result<(), AllocError> {
+        let mut strips = Vec::new(alloc);
+        add_host_strips(known, &self.parts, &mut strips)?;
+        add_device_strips(known, self.device, &self.stretches, &mut strips)?;
+        self.strips = Some(strips);
         Ok(())
     }
 

@@ -13,6 +13,7 @@ mod device_rows;
 mod gathering;
 mod host_rows;
 mod links;
+mod marks;
 mod pictures;
 mod places;
 mod queues;

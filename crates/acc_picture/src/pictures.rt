@@ -6,6 +6,7 @@ use crate::device_pictures::DevicePicture;
 use crate::gathering::Part;
 use crate::host_rows::host_row;
 use crate::links::{put_kept, put_links};
+use crate::marks::put_strips;
 use crate::places::{
     ATTACHED, DEVICE_ADDRESS, DEVICE_BYTES, DEVICE_X, DYNAMIC, HOST_ADDRESS, HOST_BYTES, HOST_X,
     MARGIN, NAME, ROWS_Y, STRUCTURED, WIDTH, group_size,
@@ -16,6 +17,7 @@ use crate::shapes::{
 };
 use crate::styles::STYLE;
 use acc_read::{Names, Page};
+use acc_stale::Known;
 use acc_table::Table;
 use std::alloc::{AllocError, Global};
 
@@ -36,7 +38,8 @@ pub enum Caption<'a> {
 /// How many letters of a statement are shown at most.
 const STATEMENT_LIMIT: usize = 72;
 
-/// Puts the picture of host memory and of the devices of a table: that of each device stands below the one before.
+/// Puts the picture of host memory and of the devices of a table: that of each device stands below the one before. Where
+/// it is known which bytes are behind or unfilled, these are marked.
 ///
 /// # Errors
 ///
@@ -46,10 +49,11 @@ pub fn put_picture(
     alloc: Global,
     table: &Table,
     names: &Names,
+    known: Option<&Known>,
     caption: Caption<'_>,
 ) -> Result<(), AllocError> {
     let mut scenes = Vec::new(alloc);
-    add_scenes(alloc, table, names, &mut scenes)?;
+    add_scenes(alloc, table, names, known, &mut scenes)?;
     put_scenes(page, alloc, table, names, caption, &scenes);
     Ok(())
 }
@@ -58,10 +62,15 @@ fn add_scenes(
     alloc: Global,
     table: &Table,
     names: &Names,
+    known: Option<&Known>,
     scenes: &mut Vec<DevicePicture>,
 ) -> Result<(), AllocError> {
     for device in 0..table.config().devices() {
-        scenes.push(DevicePicture::new(alloc, table, names, device)?)?;
+        let mut scene = DevicePicture::new(alloc, table, names, device)?;
+        if let Some(known) = known {
+            scene.mark(alloc, known)?;
+        }
+        scenes.push(scene)?;
     }
     Ok(())
 }
@@ -103,6 +112,9 @@ fn put_scene(
     put_heads(page, DEVICE_X, &DEVICE_HEADS);
     put_host_rows(page, alloc, names, scene);
     put_device_rows(page, alloc, names, scene);
+    if let Some(strips) = &scene.strips {
+        put_strips(page, scene.device, strips);
+    }
     put_kept(page, scene);
     put_queues(page, alloc, names, &scene.queues, scene.foot());
     put_arrows(page, table, names, scene);

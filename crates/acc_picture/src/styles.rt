@@ -1,5 +1,14 @@
 //! How the shapes of each class look.
 
+/// The style of bytes that are behind or unfilled, in pictures that show them.
+pub const MARK_STYLE: &str = "<style>
+.behind { fill: #c02000; }
+.unfilled { fill: url(#hatch); }
+</style>
+<defs><pattern id=\"hatch\" width=\"4\" height=\"4\" patternUnits=\"userSpaceOnUse\">\
+<path d=\"M1 0 V4\" stroke=\"#7030a0\" stroke-width=\"2\"/></pattern></defs>
+";
+
 /// The style of all pictures: letters have 12 pixels.
 pub const STYLE: &str = "<style>
 text { font-family: monospace; font-size: 12px; fill: #202020; }

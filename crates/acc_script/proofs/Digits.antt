@@ -1,5 +1,5 @@
 -- The length of a number, and one more hexadecimal digit in front of those before.
-use Rattle.std.proofs.Common.{◌≡◌, ℕ, zero, suc, ◌+◌, ◌-◌, ◌/◌, ◌%◌, ◌^◌, ◌<◌, ◌≤◌, Bool, true, false, cond, List, [], ◌∷◌, ◌++◌, length, drop, refl, sym, ap, ◌∙◌, arith}
+use Rattle.std.proofs.Common.{◌≡◌, ℕ, zero, suc, ◌+◌, ◌-◌, ◌*◌, ◌/◌, ◌%◌, ◌^◌, ◌<◌, ◌≤◌, Bool, true, false, cond, List, [], ◌∷◌, ◌++◌, length, drop, refl, sym, ap, ◌∙◌, arith}
 use Rattle.std.specs.Prelude.{◌==◌, slice_set}
 use Rattle.std.specs.Fmt.{decimal, digits, digits_onto, digit_glyph}
 use Rattle.std.proofs.lemmas.Fmt.{length-decimal-le}
@@ -8,6 +8,29 @@ use Rattle.std.proofs.lemmas.List.{drop-set}
 -- a number has at most twenty digits
 pub short_number : (n : ℕ) → n < 2 ^ 64 → length (decimal n) ≤ 20
 short_number n lt = length-decimal-le 20 n (omega arith) (omega arith) lt
+
+-- numbers below this have as many hexadecimal digits and one more at most
+abbrev places : ℕ → ℕ
+places zero = 16
+places (suc m) = 16 * places m
+
+-- digits in front of a text make it longer by no more than a number has
+short_onto : (m k n : ℕ) (text : List ℕ) → n < places m → length (digits_onto k 16 false n text) ≤ (m + 1) + length text
+short_onto m zero n text lt = omega arith
+short_onto zero (suc k) n text lt =
+    let z : n / 16 ≡ 0 = omega (arith, lt) in rw z (omega arith)
+short_onto (suc m) (suc k) n text lt =
+    let below : n < 16 * places m = lt in
+    by (n / 16 == 0) (digit_glyph false (n % 16) ∷ text) (digits_onto k 16 false (n / 16) (digit_glyph false (n % 16) ∷ text)) (omega arith) (omega (arith, short_onto m k (n / 16) (digit_glyph false (n % 16) ∷ text) (omega (arith, below))))
+  where
+    by : (t : Bool) (xs ys : List ℕ) → length xs ≤ (suc m + 1) + length text → length ys ≤ (suc m + 1) + length text → length (cond t xs ys) ≤ (suc m + 1) + length text
+    by true xs ys h g = h
+    by false xs ys h g = g
+
+-- an address has at most sixteen digits
+pub short_address : (n : ℕ) → n < 2 ^ 64 → length (digits 16 false n) ≤ 16
+unfolding digits
+short_address n lt = let top : places 15 ≡ 2 ^ 64 = refl in omega (arith, short_onto 15 64 n [] (omega (arith, lt, top)))
 
 -- the digits of what is left, in front of those behind
 unfoldable pub digits_left : ℕ → ℕ → List ℕ → List ℕ

@@ -69,7 +69,7 @@ impl Line {
     pub fn put_address(&mut self, number: u64)
         requires room { length self.old ≤ 190 }
         ensures text { self.new ≡ address number ++ self.old }
-        ensures length { length self.new ≤ length self.old + 66 }
+        ensures length { length self.new ≤ length self.old + 18 }
     {
         self.at = put_digits(number, &mut self.bytes, self.at);
         self.put(b"0x");
@@ -121,13 +121,12 @@ fn put_digits(n: u64, bytes: &mut [u8], end: usize) -> usize
     end - 64
 }
 
+// The digits by their values.
+static DIGITS: [u8; 16] = *b"0123456789abcdef";
+
 fn digit(value: u8) -> u8
     requires { value < 16 }
     ensures { result ≡ digit_glyph false value }
 {
-    if value < 10 {
-        b'0' + value
-    } else {
-        b'a' + (value - 10)
-    }
+    DIGITS[value as usize]
 }

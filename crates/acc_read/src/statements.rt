@@ -122,9 +122,23 @@ impl ByteTest for PlainByte {
     }
 }
 
-/// What stands in a line before a comment, without the blanks around it.
+/// What stands in a line before a comment, without the blanks around it. Most lines have no comment.
 pub fn statement_text(line: &[u8]) -> &[u8] {
+    if all_pass::<OutsideByte>(line) {
+        return line.trim_ascii();
+    }
     before_comment(line).trim_ascii()
+}
+
+/// A byte that begins no comment.
+struct OutsideByte;
+
+impl ByteTest for OutsideByte {
+    ghost test = { λ b. not (b == hash) };
+
+    fn passes(byte: u8) -> bool {
+        byte != b'#'
+    }
 }
 
 /// What stands before a comment.

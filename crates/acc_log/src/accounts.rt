@@ -60,6 +60,8 @@ pub struct Account {
     pub device: u64,
     /// The mapped ranges, by device and first address.
     ranges: BTreeMap<(u64, u64), Placed>,
+    /// The range that was named last, with its device. It stands for the one that `ranges` has.
+    near: Option<(u64, Placed)>,
     pointers: BTreeMap<(BlockKey, u64), u64>,
     waiting: Vec<QueuedCopy>,
     regions: Vec<usize>,
@@ -72,6 +74,7 @@ impl Account {
         Account {
             device: 0,
             ranges: BTreeMap::new(alloc),
+            near: None,
             pointers: BTreeMap::new(alloc),
             waiting: Vec::new(alloc),
             regions: Vec::new(alloc),
@@ -85,28 +88,67 @@ impl Account {
     }
 
     /// Returns the mapped range that a section is inside, if the section is not empty and inside one.
-    pub fn inside(&self, section: Section) -> Option<Placed> {
+    pub fn inside(&mut self, section: Section) -> Option<Placed> {
+        match self.near {
+            Some((device, placed))
+                if device == self.device && is_in(section, placed.range.section) => { Some(placed) }
+            _ => self.search(section),
+        }
+    }
+
+    /// The same, of the ranges that were not named last. It is named last then.
+    fn search(&mut self, section: Section) -> Option<Placed> {
+        self.put_back();
         let upto = (self.device, section.start);
         let (key, placed) = self.ranges.range(..=upto).next_back()?;
-        let is_here = key.0 == self.device && is_in(section, placed.range.section);
-        is_here.then_some(*placed)
+        if key.0 != self.device || !is_in(section, placed.range.section) {
+            return None;
+        }
+        self.near = Some((self.device, *placed));
+        Some(*placed)
     }
 
     /// Keeps a range with its counters, in place of what it kept for that address.
     pub fn set(&mut self, placed: Placed) {
-        if self
-            .ranges
-            .insert((self.device, placed.range.section.start), placed)
-            .is_err()
-        {
-            self.wants = true;
+        if !self.is_near(placed) {
+            self.put_back();
+            self.insert(self.device, placed);
         }
+        self.near = Some((self.device, placed));
     }
 
     /// Drops a range whose mapping has ended.
     pub fn remove(&mut self, placed: Placed) {
+        if self.is_near(placed) {
+            self.near = None;
+        }
         self.ranges
             .remove(&(self.device, placed.range.section.start));
+    }
+
+    /// Whether a range was named last.
+    fn is_near(&self, placed: Placed) -> bool {
+        match self.near {
+            Some((device, near)) => {
+                device == self.device && near.range.section.start == placed.range.section.start
+            }
+            None => false,
+        }
+    }
+
+    /// Keeps the range that was named last among the others.
+    fn put_back(&mut self) {
+        if let Some((device, placed)) = self.near {
+            self.near = None;
+            self.insert(device, placed);
+        }
+    }
+
+    fn insert(&mut self, device: u64, placed: Placed) {
+        let key = (device, placed.range.section.start);
+        if self.ranges.insert(key, placed).is_err() {
+            self.wants = true;
+        }
     }
 
     /// Returns how often a pointer is attached in a block, by its host address and the block's number (OpenACC 3.3,

@@ -1,10 +1,11 @@
 //! What the log prints of one item.
 
+ghost use Rattle.std.specs.Prelude.{◌≤◌, length};
+
 use crate::accounts::{Copied, Placed};
 use crate::log_items::LogItem;
 use crate::log_lines::{
-    put_copy, put_item, put_name, put_place, put_pointer, put_queue, put_range, put_section,
-    put_skipped, put_spot,
+    put_absent, put_empty, put_ended, put_item_copy, put_pointer, put_range, put_skipped,
 };
 use crate::logs::Log;
 use acc_base::{Aim, Did, Holding, Range, Section, Step, Task};
@@ -12,10 +13,11 @@ use acc_read::Names;
 
 impl Log {
     /// Puts the lines of an item: its pointer, its copy, its mapping, in the order in which it did something to them.
-    pub(crate) fn tell_item(&mut self, names: &Names, told: LogItem, did: Did) {
-        match told.task {
+    #[inline(always)]
+    pub(crate) fn tell_item(&mut self, names: &Names, told: &LogItem<'_>, did: &Did) {
+        match *told.task {
             Task::Enter { .. } => self.tell_enter(names, told, did),
-            Task::ExitRegion { holding } => self.tell_holding(names, told, holding, did),
+            Task::ExitRegion { holding } => self.tell_holding(names, told, &holding, did),
             Task::ExitData { .. } => {
                 self.tell_aim(names, told, did.aim);
                 self.tell_drop(names, told, did.step);
@@ -24,7 +26,7 @@ impl Log {
         }
     }
 
-    fn tell_enter(&mut self, names: &Names, told: LogItem, did: Did) {
+    fn tell_enter(&mut self, names: &Names, told: &LogItem<'_>, did: &Did) {
         match did.step {
             Step::Born { block, place } => {
                 let bare = Range {
@@ -45,7 +47,7 @@ impl Log {
         self.tell_aim(names, told, did.aim);
     }
 
-    fn tell_counted(&mut self, names: &Names, told: LogItem) {
+    fn tell_counted(&mut self, names: &Names, told: &LogItem<'_>) {
         let Some(found) = self.account.inside(told.section()) else {
             return;
         };
@@ -57,7 +59,7 @@ impl Log {
     }
 
     /// Puts what became of an item that a region held; nothing where its entry did nothing.
-    fn tell_holding(&mut self, names: &Names, told: LogItem, holding: Holding, did: Did) {
+    fn tell_holding(&mut self, names: &Names, told: &LogItem<'_>, holding: &Holding, did: &Did) {
         if holding.aim.is_some() {
             self.tell_aim(names, told, did.aim);
             if matches!(did.aim, Aim::None) {
@@ -72,7 +74,8 @@ impl Log {
     }
 
     /// Puts the lines of an item that leaves: its copy, and its mapping, which ended or was counted once less.
-    fn tell_drop(&mut self, names: &Names, told: LogItem, step: Step) {
+    #[inline(always)]
+    fn tell_drop(&mut self, names: &Names, told: &LogItem<'_>, step: Step) {
         let Step::Dropped { ended, .. } = step else {
             self.tell_nothing(names, told);
             return;
@@ -80,7 +83,7 @@ impl Log {
         let Some(found) = self.account.inside(told.section()) else {
             return;
         };
-        self.reach_item(told, way_out(told.task, ended));
+        self.reach_item(told, way_out(*told.task, ended));
         if ended {
             self.tell_end(names, told, step, found);
             return;
@@ -91,17 +94,15 @@ impl Log {
         self.tell_range(names, told, "dropped", found);
     }
 
-    fn tell_end(&mut self, names: &Names, told: LogItem, step: Step, found: Placed) {
+    fn tell_end(&mut self, names: &Names, told: &LogItem<'_>, step: Step, found: Placed) {
         self.tell_copy(names, told, step, found);
         self.totals.ended = self.totals.ended.saturating_add(1);
         self.account.remove(found);
-        put_section(&mut self.page, told, "ended", found.range.section);
-        put_place(&mut self.page, found.place);
-        put_name(&mut self.page, names, found.range.section);
+        put_ended(&mut self.page, names, told, found);
     }
 
     /// Puts the lines of an item of `update`.
-    fn tell_move(&mut self, names: &Names, told: LogItem, step: Step) {
+    fn tell_move(&mut self, names: &Names, told: &LogItem<'_>, step: Step) {
         match (step, self.account.inside(told.section())) {
             (Step::Moved { .. }, Some(found)) => {
                 self.reach_item(told, "inside");
@@ -113,15 +114,14 @@ impl Log {
 
     /// Puts the line of an item that did nothing. The section is empty or absent, or nothing of `enter data` counts it.
     /// An item of `attach` or `detach` names none, and gets no line.
-    fn tell_nothing(&mut self, names: &Names, told: LogItem) {
+    fn tell_nothing(&mut self, names: &Names, told: &LogItem<'_>) {
         if told.task.names_pointer() {
             return;
         }
         self.reach_pointer(told, "nothing");
         if told.section().len == 0 {
             self.reach_item(told, "empty");
-            put_item(&mut self.page, told, "empty");
-            self.page.text("\n");
+            put_empty(&mut self.page, told);
             return;
         }
         match self.account.inside(told.section()) {
@@ -131,14 +131,16 @@ impl Log {
             }
             None => {
                 self.reach_item(told, "absent");
-                put_section(&mut self.page, told, "absent", told.section());
-                put_name(&mut self.page, names, told.section());
+                put_absent(&mut self.page, names, told, told.section());
             }
         }
     }
 
     /// Puts the line of a range that an item counted or dropped, with the counters that it left.
-    fn tell_range(&mut self, names: &Names, told: LogItem, word: &str, found: Placed) {
+    #[inline(always)]
+    fn tell_range(&mut self, names: &Names, told: &LogItem<'_>, word: &str, found: Placed)
+        requires short { length word.now ≤ 10 }
+    {
         let placed = Placed {
             range: told.task.recounted(found.range),
             place: found.place,
@@ -148,7 +150,7 @@ impl Log {
     }
 
     /// Puts the line of an item's copy, if its step has one: made at once, or put into its queue.
-    fn tell_copy(&mut self, names: &Names, told: LogItem, step: Step, placed: Placed) {
+    fn tell_copy(&mut self, names: &Names, told: &LogItem<'_>, step: Step, placed: Placed) {
         if !told.task.copies(step) {
             return;
         }
@@ -158,35 +160,36 @@ impl Log {
             place: placed.place_of(section.start),
             out: told.task.goes_out(),
         };
-        match told.task.queue() {
-            Some(queue) => self.tell_put(names, told, queue, copied),
-            None => {
-                self.totals.copied(copied.out, copied.section.len);
-                put_item(&mut self.page, told, "copied");
-                put_copy(&mut self.page, copied);
-                put_name(&mut self.page, names, copied.section);
-            }
+        let queue = told.task.queue();
+        match queue {
+            Some(queue) => self.account.put(queue, copied),
+            None => self.totals.copied(copied.out, copied.section.len),
         }
-    }
-
-    fn tell_put(&mut self, names: &Names, told: LogItem, queue: u64, copied: Copied) {
-        self.account.put(queue, copied);
-        put_item(&mut self.page, told, "put");
-        put_copy(&mut self.page, copied);
-        put_queue(&mut self.page, queue);
-        put_name(&mut self.page, names, copied.section);
+        put_item_copy(&mut self.page, names, told, copied, queue);
     }
 
     /// Puts what an item did to its pointer, and keeps how often that is attached now.
-    fn tell_aim(&mut self, names: &Names, told: LogItem, aim: Aim) {
+    #[inline(always)]
+    fn tell_aim(&mut self, names: &Names, told: &LogItem<'_>, aim: Aim) {
+        if !matches!(aim, Aim::None) || told.task.names_pointer() {
+            self.tell_pointer(names, told, aim);
+        }
+    }
+
+    fn tell_pointer(&mut self, names: &Names, told: &LogItem<'_>, aim: Aim) {
         match aim {
             Aim::None => {
-                if told.task.names_pointer() {
-                    self.reach_no_aim(told);
-                    let pointer = told.section().start;
-                    put_pointer(&mut self.page, told, "unattached", pointer);
-                    put_spot(&mut self.page, names, pointer);
-                }
+                self.reach_no_aim(told);
+                let pointer = told.section().start;
+                put_pointer(
+                    &mut self.page,
+                    names,
+                    told,
+                    "unattached",
+                    pointer,
+                    None,
+                    None,
+                );
             }
             Aim::New {
                 pointer,
@@ -195,34 +198,71 @@ impl Log {
             } => {
                 let was = self.account.attached(block, pointer);
                 self.reach_pointer(told, if was > 0 { "another target" } else { "new" });
-                put_pointer(&mut self.page, told, "attached", pointer);
-                self.page.text(" to ");
-                self.page.address(target);
-                self.tell_count(names, block, pointer, 1);
+                self.tell_attached(names, told, block, pointer, Some(target), 1);
             }
             Aim::Again { pointer, block } => {
                 self.reach_pointer(told, "again");
-                put_pointer(&mut self.page, told, "attached", pointer);
                 let count = self.account.attached(block, pointer).saturating_add(1);
-                self.tell_count(names, block, pointer, count);
+                self.tell_attached(names, told, block, pointer, None, count);
             }
             Aim::Less { pointer, block } => {
-                put_pointer(&mut self.page, told, "detached", pointer);
                 let count = self.account.attached(block, pointer).saturating_sub(1);
                 self.reach_pointer(told, if count > 0 { "one of more" } else { "last" });
-                self.tell_count(names, block, pointer, count);
+                self.tell_detached(names, told, block, pointer, count);
             }
             Aim::Cleared { pointer, block } => {
                 let was = self.account.attached(block, pointer);
                 self.reach_pointer(told, if was > 1 { "several" } else { "last" });
-                put_pointer(&mut self.page, told, "detached", pointer);
-                self.tell_count(names, block, pointer, 0);
+                self.tell_detached(names, told, block, pointer, 0);
             }
         }
     }
 
+    /// Puts the line of a pointer that was attached, to a new target where it has one.
+    fn tell_attached(
+        &mut self,
+        names: &Names,
+        told: &LogItem<'_>,
+        block: u64,
+        pointer: u64,
+        target: Option<u64>,
+        count: u64,
+    ) {
+        self.account.attach(block, pointer, count);
+        put_pointer(
+            &mut self.page,
+            names,
+            told,
+            "attached",
+            pointer,
+            target,
+            Some(count),
+        );
+    }
+
+    /// Puts the line of a pointer that was detached.
+    fn tell_detached(
+        &mut self,
+        names: &Names,
+        told: &LogItem<'_>,
+        block: u64,
+        pointer: u64,
+        count: u64,
+    ) {
+        self.account.attach(block, pointer, count);
+        put_pointer(
+            &mut self.page,
+            names,
+            told,
+            "detached",
+            pointer,
+            None,
+            Some(count),
+        );
+    }
+
     /// Counts the row of a clause that is of pointers alone, where its item did nothing.
-    fn reach_no_aim(&mut self, told: LogItem) {
+    fn reach_no_aim(&mut self, told: &LogItem<'_>) {
         let pointer = Section {
             start: told.section().start,
             len: 8,
@@ -234,13 +274,6 @@ impl Log {
             (true, true) => "unattached",
         };
         self.reach_pointer(told, outcome);
-    }
-
-    fn tell_count(&mut self, names: &Names, block: u64, pointer: u64, count: u64) {
-        self.account.attach(block, pointer, count);
-        self.page.text(" count ");
-        self.page.number(count);
-        put_spot(&mut self.page, names, pointer);
     }
 }
 

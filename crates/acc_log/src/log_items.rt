@@ -4,17 +4,17 @@ use acc_base::{Counter, Section, Task};
 
 /// What the log has to know of an item, for every directive alike.
 #[derive(Clone, Copy)]
-pub struct LogItem {
+pub struct LogItem<'a> {
     /// Its place in the directive, counted from 0.
     pub place: usize,
     /// What it asked.
-    pub task: Task,
+    pub task: &'a Task,
 }
 
-impl LogItem {
+impl LogItem<'_> {
     /// The words of its directive.
     pub fn directive(self) -> &'static str {
-        match self.task {
+        match *self.task {
             Task::Enter {
                 counter: Counter::Structured,
                 ..
@@ -31,7 +31,7 @@ impl LogItem {
 
     /// The modifier of its clause, or the option of its directive beside `async`; an empty text where there is none.
     pub fn modifier(self) -> &'static str {
-        match self.task {
+        match *self.task {
             Task::Enter { item, .. } if item.clause.is_zeroed() => "zero",
             Task::ExitData { finalize: true, .. } => "finalize",
             Task::Move {
@@ -49,7 +49,7 @@ impl LogItem {
 
     /// Whether a pointer to its section stands beside it.
     pub fn has_pointer(self) -> bool {
-        match self.task {
+        match *self.task {
             Task::Enter { item, .. } => item.pointer.is_some(),
             Task::ExitRegion { holding } => holding.item.pointer.is_some(),
             Task::ExitData { item, .. } => item.pointer.is_some(),

@@ -1,9 +1,12 @@
-//! The lines of a log.
+//! The lines of a log. Each is put together from its end, and goes to its page in one piece.
+
+ghost use Rattle.std.specs.Prelude.{◌≡◌, ◌+◌, ◌≤◌, [], length};
 
 use crate::accounts::{Copied, Placed};
 use crate::log_items::LogItem;
 use acc_base::{Fault, Section};
-use acc_read::{Names, Page};
+use acc_read::{Names, Page, Spot};
+use acc_script::Line;
 
 /// What each line of a log begins with.
 pub const MARK: &str = "lamwiest: ";
@@ -11,14 +14,36 @@ pub const MARK: &str = "lamwiest: ";
 /// What the line of one thing that a call did begins with.
 const INNER_MARK: &str = "lamwiest:   ";
 
+/// How many bytes the name of an array has at most.
+const NAME_LIMIT: usize = 32;
+
+/// How long a statement is at most for its line to be put together before it goes to its page.
+const TEXT_LIMIT: usize = 128;
+
 /// Puts the line of a statement, by the number of its line.
 pub fn put_head(page: &mut Page, number: u64, text: &[u8]) {
-    page.text(MARK);
-    page.text("line ");
-    page.number(number);
-    page.text(": ");
-    page.bytes(text);
-    page.text("\n");
+    let mut line = Line::new();
+    if text.len() <= TEXT_LIMIT {
+        line.put(b"\n");
+        line.put(text);
+        put_number(&mut line, number);
+        page.bytes(line.as_slice());
+    } else {
+        put_number(&mut line, number);
+        page.bytes(line.as_slice());
+        page.bytes(text);
+        page.text("\n");
+    }
+}
+
+/// Begins the line of a statement with the number of its line.
+#[inline(always)]
+fn put_number(line: &mut Line, number: u64)
+    requires room { length line.old ≤ 200 }
+{
+    line.put(b": ");
+    line.put_number(number);
+    line.put(b"lamwiest: line ");
 }
 
 /// Puts a line with these words.
@@ -30,10 +55,7 @@ pub fn put_inner(page: &mut Page, words: &str) {
 
 /// Puts the line of the device on which a statement did something.
 pub fn put_device(page: &mut Page, device: u64) {
-    page.text(INNER_MARK);
-    page.text("device ");
-    page.number(device);
-    page.text("\n");
+    put_region(page, "device ", device);
 }
 
 /// Puts that a statement was refused, and why.
@@ -44,24 +66,7 @@ pub fn put_refused(page: &mut Page, fault: Fault) {
     page.text("\n");
 }
 
-/// Puts the line of a write of the host.
-pub fn put_written(page: &mut Page, names: &Names, section: Section) {
-    page.text(INNER_MARK);
-    page.text("wrote");
-    put_addresses(page, section);
-    put_name(page, names, section);
-}
-
-/// Puts the line of a copy that was the first of a queue, and was made.
-pub fn put_copied(page: &mut Page, names: &Names, copied: Copied, queue: u64) {
-    page.text(INNER_MARK);
-    page.text("copied");
-    put_copy(page, copied);
-    put_queue(page, queue);
-    put_name(page, names, copied.section);
-}
-
-/// Puts the line of a region that was entered or exited, by its number.
+/// Puts a line with these words and a number, as that of a region that was entered or exited.
 pub fn put_region(page: &mut Page, words: &str, number: u64) {
     page.text(INNER_MARK);
     page.text(words);
@@ -69,105 +74,265 @@ pub fn put_region(page: &mut Page, words: &str, number: u64) {
     page.text("\n");
 }
 
+/// Puts the line of a write of the host.
+pub fn put_written(page: &mut Page, names: &Names, section: Section) {
+    let mut line = Line::new();
+    put_name(&mut line, names, section);
+    put_addresses(&mut line, section);
+    line.put(b"lamwiest:   wrote");
+    page.bytes(line.as_slice());
+}
+
+/// Puts the line of a copy that was the first of a queue, and was made.
+pub fn put_copied(page: &mut Page, names: &Names, copied: Copied, queue: u64) {
+    let mut line = Line::new();
+    put_name(&mut line, names, copied.section);
+    put_queue(&mut line, queue);
+    put_copy(&mut line, copied);
+    line.put(b"lamwiest:   copied");
+    page.bytes(line.as_slice());
+}
+
 /// Puts the line of a loan to a kernel, or of its end, by its serial number (OpenACC 3.3, section 2.5).
-pub fn put_loan(page: &mut Page, names: &Names, word: &str, copied: Copied, serial: u64) {
-    page.text(INNER_MARK);
-    page.text(word);
-    put_addresses(page, copied.section);
-    put_place(page, copied.place);
-    page.text(" serial ");
-    page.number(serial);
-    put_name(page, names, copied.section);
-}
-
-/// Begins the line of an item, by its place in the directive.
-pub fn put_item(page: &mut Page, told: LogItem, word: &str) {
-    page.text(INNER_MARK);
-    page.text("item ");
-    page.number(told.place as u64);
-    page.text(": ");
-    page.text(word);
-}
-
-/// Begins the line of an item with what became of a pointer.
-pub fn put_pointer(page: &mut Page, told: LogItem, word: &str, pointer: u64) {
-    put_item(page, told, word);
-    page.text(" ");
-    page.address(pointer);
-}
-
-/// Begins the line of an item with what became of a section.
-pub fn put_section(page: &mut Page, told: LogItem, word: &str, section: Section) {
-    put_item(page, told, word);
-    put_addresses(page, section);
+pub fn put_loan(page: &mut Page, names: &Names, word: &str, copied: Copied, serial: u64)
+    requires short { length word.now ≤ 10 }
+{
+    let mut line = Line::new();
+    put_name(&mut line, names, copied.section);
+    line.put_number(serial);
+    line.put(b" serial ");
+    put_place(&mut line, copied.place);
+    put_addresses(&mut line, copied.section);
+    line.put(word.as_bytes());
+    line.put(b"lamwiest:   ");
+    page.bytes(line.as_slice());
 }
 
 /// Puts the line of a mapped range with its counters.
-pub fn put_range(page: &mut Page, names: &Names, told: LogItem, word: &str, placed: Placed) {
-    put_section(page, told, word, placed.range.section);
-    put_place(page, placed.place);
-    page.text(" structured ");
-    page.number(placed.range.structured);
-    page.text(" dynamic ");
-    page.number(placed.range.dynamic);
-    put_name(page, names, placed.range.section);
+pub fn put_range(page: &mut Page, names: &Names, told: &LogItem<'_>, word: &str, placed: Placed)
+    requires short { length word.now ≤ 10 }
+{
+    let mut line = Line::new();
+    put_name(&mut line, names, placed.range.section);
+    line.put_number(placed.range.dynamic);
+    line.put(b" dynamic ");
+    line.put_number(placed.range.structured);
+    line.put(b" structured ");
+    put_place(&mut line, placed.place);
+    put_section(&mut line, told, word, placed.range.section);
+    page.bytes(line.as_slice());
+}
+
+/// Puts the line of a range whose mapping has ended.
+pub fn put_ended(page: &mut Page, names: &Names, told: &LogItem<'_>, placed: Placed) {
+    let mut line = Line::new();
+    put_name(&mut line, names, placed.range.section);
+    put_place(&mut line, placed.place);
+    put_section(&mut line, told, "ended", placed.range.section);
+    page.bytes(line.as_slice());
+}
+
+/// Puts the line of a section that is not mapped.
+pub fn put_absent(page: &mut Page, names: &Names, told: &LogItem<'_>, section: Section) {
+    let mut line = Line::new();
+    put_name(&mut line, names, section);
+    put_section(&mut line, told, "absent", section);
+    page.bytes(line.as_slice());
+}
+
+/// Puts the line of a section of no byte.
+pub fn put_empty(page: &mut Page, told: &LogItem<'_>) {
+    let mut line = Line::new();
+    line.put(b"\n");
+    put_item(&mut line, told, "empty");
+    page.bytes(line.as_slice());
+}
+
+/// Puts the line of a copy that was made, or put into a queue.
+pub fn put_item_copy(
+    page: &mut Page,
+    names: &Names,
+    told: &LogItem<'_>,
+    copied: Copied,
+    queue: Option<u64>,
+) {
+    let mut line = Line::new();
+    put_name(&mut line, names, copied.section);
+    if let Some(queue) = queue {
+        put_queue(&mut line, queue);
+    }
+    put_copy(&mut line, copied);
+    put_item(
+        &mut line,
+        told,
+        if queue.is_some() { "put" } else { "copied" },
+    );
+    page.bytes(line.as_slice());
 }
 
 /// Puts the line of a copy that was not made, and why.
-pub fn put_skipped(page: &mut Page, names: &Names, told: LogItem, why: &str) {
-    put_item(page, told, "skipped");
+pub fn put_skipped(page: &mut Page, names: &Names, told: &LogItem<'_>, why: &str)
+    requires short { length why.now ≤ 10 }
+{
     let section = told.section();
-    page.text(way(told.task.goes_out()));
-    put_addresses(page, section);
-    page.text(" ");
-    page.text(why);
-    put_name(page, names, section);
+    let mut line = Line::new();
+    put_name(&mut line, names, section);
+    line.put(why.as_bytes());
+    line.put(b" ");
+    put_addresses(&mut line, section);
+    put_way(&mut line, told.task.goes_out());
+    put_item(&mut line, told, "skipped");
+    page.bytes(line.as_slice());
+}
+
+/// Puts the line of a pointer: what became of it, its new target, and how often it is attached now.
+pub fn put_pointer(
+    page: &mut Page,
+    names: &Names,
+    told: &LogItem<'_>,
+    word: &str,
+    pointer: u64,
+    target: Option<u64>,
+    count: Option<u64>,
+)
+    requires short { length word.now ≤ 10 }
+{
+    let mut line = Line::new();
+    put_spot(&mut line, names, pointer);
+    if let Some(count) = count {
+        line.put_number(count);
+        line.put(b" count ");
+    }
+    if let Some(target) = target {
+        line.put_address(target);
+        line.put(b" to ");
+    }
+    line.put_address(pointer);
+    line.put(b" ");
+    put_item(&mut line, told, word);
+    page.bytes(line.as_slice());
+}
+
+/// Begins the line of an item, by its place in the directive, with a word.
+#[inline(always)]
+fn put_item(line: &mut Line, told: &LogItem<'_>, word: &str)
+    requires room { length line.old ≤ 206 }
+    requires short { length word.now ≤ 10 }
+    ensures { length line.new ≤ 256 }
+{
+    line.put(word.as_bytes());
+    line.put(b": ");
+    line.put_number(told.place as u64);
+    line.put(b"lamwiest:   item ");
+}
+
+/// Begins the line of an item with what became of a section.
+#[inline(always)]
+fn put_section(line: &mut Line, told: &LogItem<'_>, word: &str, section: Section)
+    requires room { length line.old ≤ 165 }
+    requires short { length word.now ≤ 10 }
+    ensures { length line.new ≤ 256 }
+{
+    put_addresses(line, section);
+    put_item(line, told, word);
 }
 
 /// Puts the direction of a copy, its host address, its length in bytes and its device address.
-pub fn put_copy(page: &mut Page, copied: Copied) {
-    page.text(way(copied.out));
-    put_addresses(page, copied.section);
-    put_place(page, copied.place);
+#[inline(always)]
+fn put_copy(line: &mut Line, copied: Copied)
+    requires room { length line.old ≤ 120 }
+    ensures { length line.new ≤ length line.old + 66 }
+{
+    put_place(line, copied.place);
+    put_addresses(line, copied.section);
+    put_way(line, copied.out);
 }
 
-fn put_addresses(page: &mut Page, section: Section) {
-    page.text(" ");
-    page.address(section.start);
-    page.text(" ");
-    page.number(section.len);
+/// Puts the direction of a copy.
+#[inline(always)]
+fn put_way(line: &mut Line, out: bool)
+    requires room { length line.old ≤ 250 }
+    ensures { length line.new ≤ length line.old + 4 }
+{
+    if out {
+        line.put(b" out");
+    } else {
+        line.put(b" in");
+    }
+}
+
+/// Puts the first address of a section, and its length in bytes.
+#[inline(always)]
+fn put_addresses(line: &mut Line, section: Section)
+    requires room { length line.old ≤ 165 }
+    ensures { length line.new ≤ length line.old + 40 }
+{
+    line.put_number(section.len);
+    line.put(b" ");
+    line.put_address(section.start);
+    line.put(b" ");
 }
 
 /// Puts a device address, behind `at`.
-pub fn put_place(page: &mut Page, place: u64) {
-    page.text(" at ");
-    page.address(place);
+#[inline(always)]
+fn put_place(line: &mut Line, place: u64)
+    requires room { length line.old ≤ 190 }
+    ensures { length line.new ≤ length line.old + 22 }
+{
+    line.put_address(place);
+    line.put(b" at ");
 }
 
 /// Puts the number of a queue, behind `queue`.
-pub fn put_queue(page: &mut Page, queue: u64) {
-    page.text(" queue ");
-    page.number(queue);
+#[inline(always)]
+fn put_queue(line: &mut Line, queue: u64)
+    requires room { length line.old ≤ 120 }
+    ensures { length line.new ≤ length line.old + 27 }
+{
+    line.put_number(queue);
+    line.put(b" queue ");
 }
 
-/// Ends a line with the name of a section, where one array has it.
-pub fn put_name(page: &mut Page, names: &Names, section: Section) {
-    if let Some(spot) = names.within(section) {
-        page.text(" name ");
-        spot.put_part(page, section.len);
+/// Ends a line with the name of a section, where one array has it: `a[8:4]`, or `a` where it is the whole array.
+#[inline(always)]
+fn put_name(line: &mut Line, names: &Names, section: Section)
+    requires none { line.old ≡ [] }
+    ensures { length line.new ≤ 82 }
+{
+    line.put(b"\n");
+    let Some(spot) = names.within(section) else {
+        return;
+    };
+    if spot.offset != 0 || section.len != spot.array.whole().len {
+        line.put(b"]");
+        line.put_number(section.len);
+        line.put(b":");
+        line.put_number(spot.offset);
+        line.put(b"[");
     }
-    page.text("\n");
+    line.put(name_of(spot));
+    line.put(b" name ");
 }
 
-/// Ends a line with the name of a byte, where an array has it.
-pub fn put_spot(page: &mut Page, names: &Names, address: u64) {
+/// Ends a line with the name of a byte, where an array has it: `a[8]`.
+fn put_spot(line: &mut Line, names: &Names, address: u64)
+    requires none { line.old ≡ [] }
+    ensures { length line.new ≤ 61 }
+{
+    line.put(b"\n");
     if let Some(spot) = names.spot(address) {
-        page.text(" name ");
-        spot.put_byte(page);
+        line.put(b"]");
+        line.put_number(spot.offset);
+        line.put(b"[");
+        line.put(name_of(spot));
+        line.put(b" name ");
     }
-    page.text("\n");
 }
 
-fn way(out: bool) -> &'static str {
-    if out { " out" } else { " in" }
+/// The name of an array, of which there is room for as many bytes as a script may give it.
+#[inline(always)]
+fn name_of(spot: Spot<'_>) -> &[u8]
+    ensures { length result.now ≤ 32 }
+{
+    &spot.name[..spot.name.len().min(NAME_LIMIT)]
 }

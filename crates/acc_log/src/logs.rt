@@ -95,8 +95,8 @@ impl Log {
         match statement {
             Statement::Direct(directive) => {
                 let place = place as usize;
-                if let Some(task) = directive.task(place) {
-                    self.reach_item(LogItem { place, task }, outcome);
+                if let Some(task) = &directive.task(place) {
+                    self.reach_item(&LogItem { place, task }, outcome);
                 }
             }
             Statement::Kernel { section, .. } if section.len == 0 => self.reach("kernel", "empty"),
@@ -104,8 +104,15 @@ impl Log {
         }
     }
 
-    /// Counts the row of what became of an item.
-    pub(crate) fn reach_item(&mut self, told: LogItem, outcome: &'static str) {
+    /// Counts the row of what became of an item, where rows are counted.
+    #[inline(always)]
+    pub(crate) fn reach_item(&mut self, told: &LogItem<'_>, outcome: &'static str) {
+        if self.rows.is_some() {
+            self.count_item(told, outcome);
+        }
+    }
+
+    fn count_item(&mut self, told: &LogItem<'_>, outcome: &'static str) {
         let (directive, clause) = (told.directive(), told.task.word());
         let is_queued = told.task.queue().is_some();
         if is_queued {
@@ -118,13 +125,20 @@ impl Log {
         }
     }
 
-    /// Counts the row of what became of the pointer of an item.
-    pub(crate) fn reach_pointer(&mut self, told: LogItem, outcome: &'static str) {
+    /// Counts the row of what became of the pointer of an item, where rows are counted.
+    #[inline(always)]
+    pub(crate) fn reach_pointer(&mut self, told: &LogItem<'_>, outcome: &'static str) {
+        if self.rows.is_some() {
+            self.count_pointer(told, outcome);
+        }
+    }
+
+    fn count_pointer(&mut self, told: &LogItem<'_>, outcome: &'static str) {
         let (directive, clause) = (told.directive(), told.task.word());
         if told.task.names_pointer() {
             self.reach_clause((directive, clause, told.modifier()), outcome);
         } else if told.has_pointer() {
-            let clause = match told.task {
+            let clause = match *told.task {
                 Task::ExitRegion { .. } => "",
                 _ => clause,
             };
@@ -224,8 +238,8 @@ impl Log {
     /// Puts the lines of the items that an event names.
     fn tell_items(&mut self, names: &Names, event: &Event) {
         for (place, did) in event.did().iter().enumerate() {
-            if let Some(task) = event.task(place) {
-                self.tell_item(names, LogItem { place, task }, *did);
+            if let Some(task) = &event.task(place) {
+                self.tell_item(names, &LogItem { place, task }, did);
             }
         }
     }
@@ -236,8 +250,8 @@ impl Log {
             return;
         };
         for (place, did) in event.did().iter().enumerate().rev() {
-            if let Some(task) = entry.exit_task(place) {
-                self.tell_item(names, LogItem { place, task }, *did);
+            if let Some(task) = &entry.exit_task(place) {
+                self.tell_item(names, &LogItem { place, task }, did);
             }
         }
     }

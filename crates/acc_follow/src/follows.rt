@@ -235,7 +235,7 @@ impl<'a, E, G> Follower<'a, E, G> {
 
 impl<O: Sink, E: Sink, G: PictureSink> Watcher<O> for Follower<'_, E, G> {
     fn before(&mut self, _number: u64, _line: &[u8], statement: &Statement<'_>, session: &Session) {
-        if self.check_before(statement, session).is_err() {
+        if self.views.check && self.check_before(statement, session).is_err() {
             self.halt(Stop::Fault(Fault::Memory));
         }
         if let (true, Statement::Declare { name, array }) = (self.views.name_arrays(), statement) {
@@ -307,16 +307,28 @@ impl<E: Sink, G: PictureSink> Follower<'_, E, G> {
     {
         self.tell(ran, effect)?;
         self.write_told(writer)?;
-        self.draw_line(ran)
+        if self.views.pictures {
+            self.draw_line(ran)?;
+        }
+        Ok(())
     }
 
-    /// Puts what a line did into the log, and explains it.
+    /// Puts what a line did into the log, and what is asked for beside that.
+    #[inline(always)]
     fn tell(&mut self, ran: RanLine<'_>, effect: Effect) -> Result<(), Fault> {
         let (number, table) = (ran.number, &ran.session.table);
         if self.views.log {
             self.log
                 .tell(&self.names, number, ran.statement(), table, effect)?;
         }
+        if self.views.check || self.views.explain_faults() {
+            self.tell_more(ran, effect)?;
+        }
+        Ok(())
+    }
+
+    /// Explains what a line did, and puts what it read that is stale.
+    fn tell_more(&mut self, ran: RanLine<'_>, effect: Effect) -> Result<(), Fault> {
         if self.views.explain {
             ran.explain(
                 &mut self.log.page,
@@ -332,14 +344,14 @@ impl<E: Sink, G: PictureSink> Follower<'_, E, G> {
                 .add_line(&self.names, self.check.as_ref(), ran, effect)?;
         }
         if self.views.explain_faults() {
-            self.note_region(number, table.regions())?;
+            self.note_region(ran.number, ran.session.table.regions())?;
         }
         Ok(())
     }
 
-    /// Lets the check see a statement before it runs. It begins with the first one.
+    /// Lets the check that is asked for see a statement before it runs. It begins with the first one.
     fn check_before(&mut self, statement: &Statement<'_>, session: &Session) -> Result<(), Fault> {
-        if self.views.check && self.check.is_none() {
+        if self.check.is_none() {
             let config = session.table.config();
             let telling = Telling {
                 all: self.views.check_all,
@@ -419,9 +431,9 @@ impl<E: Sink, G: PictureSink> Follower<'_, E, G> {
         Ok(())
     }
 
-    /// Draws what a line left, where pictures are asked for, and it is a directive or a kernel that was done.
+    /// Draws what a line left, where it is a directive or a kernel that was done.
     fn draw_line(&mut self, ran: RanLine<'_>) -> Result<(), Stop> {
-        if !self.views.pictures || !self.is_picture_due(ran.session) {
+        if !self.is_picture_due(ran.session) {
             return Ok(());
         }
         let picture = ran.picture(self.alloc, &self.names, self.check.as_ref())?;

@@ -102,7 +102,7 @@ const OF_LINES: &[Row] = &[
     ("trace", "WHAT", "What the trace keeps"),
     ("events", "N", "How many events it may have"),
     ("echo", "", "Write each statement before its output"),
-    ("json", "", "Write the report as JSON"),
+    ("json", "", "Write reports, and what --check finds, as JSON"),
     ("log", "", "Tell what each call did"),
     ("explain", "WHEN", "Tell why a line is at fault or refused"),
     ("check", "HOW", "Tell reads of stale bytes"),

@@ -94,6 +94,12 @@ void lw_limits_default(void *limits)
     memset(limits, 0, offsetof(lw_limits, host));
 }
 
+/* Whether the library knows limits of this version and size. */
+static int is_known(const lw_limits *limits)
+{
+    return limits->version >= FIRST_VERSION && limits->size >= FIRST_SIZE && limits->size <= sizeof *limits;
+}
+
 /* Limits that a program does not have yet are 0. */
 uint32_t lw_table_new(lw_table *table, const lw_limits *limits, lw_fault *fault)
 {
@@ -102,7 +108,7 @@ uint32_t lw_table_new(lw_table *table, const lw_limits *limits, lw_fault *fault)
     uint32_t status;
 
     if (limits != NULL) {
-        if (limits->version < FIRST_VERSION || limits->size < FIRST_SIZE || limits->size > sizeof *limits) {
+        if (!is_known(limits)) {
             *PLACE(fault) = (lw_fault){.status = LW_BAD_VERSION, .value = LW_VERSION};
             return LW_BAD_VERSION;
         }
@@ -111,6 +117,22 @@ uint32_t lw_table_new(lw_table *table, const lw_limits *limits, lw_fault *fault)
     status = lamwiest_table_new(table, &fields, PLACE(fault));
     if (status == LW_DONE) {
         table->arrays = 0;
+    }
+    return status;
+}
+
+uint32_t lw_limits_of(lw_table *table, lw_limits *limits)
+{
+    const size_t first = offsetof(lw_limits, host);
+    limit_fields fields = {0};
+    uint32_t status;
+
+    if (!is_known(limits)) {
+        return LW_BAD_VERSION;
+    }
+    status = lamwiest_limits_of(table, &fields);
+    if (status == LW_DONE) {
+        memcpy((char *)limits + first, &fields, limits->size - first);
     }
     return status;
 }

@@ -337,6 +337,18 @@ uint32_t lw_regions(lw_table *table, uint64_t *regions);
    open. */
 uint32_t lw_innermost(lw_table *table, uint64_t *region);
 
+/* The limits of a table, as it has them. Limits begin as LW_LIMITS here too, and those are written which the program's
+   header has. LW_BAD_VERSION as of lw_table_new. */
+uint32_t lw_limits_of(lw_table *table, lw_limits *limits);
+
+/* What is left of two limits. */
+typedef struct lw_left_over {
+    uint64_t tickets; /* how many more events there may be */
+    uint64_t regions; /* how many more data regions may be open */
+} lw_left_over;
+
+uint32_t lw_left(lw_table *table, lw_left_over *left);
+
 /* events: how many events there were in all. Each accepted directive, write, loan and gather is one, but for the step
    of an empty queue. */
 uint32_t lw_events(lw_table *table, uint64_t *events);

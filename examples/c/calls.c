@@ -360,6 +360,31 @@ static uint32_t innermost(lw_table *table, const row *row, uint64_t *number, lw_
     return asked(lw_innermost(table, number), fault);
 }
 
+/* What is left of the events, or of the regions. */
+static uint32_t events_left(lw_table *table, const row *row, uint64_t *number, lw_fault *fault)
+{
+    lw_left_over left;
+    uint32_t status = lw_left(table, &left);
+
+    (void)row;
+    if (status == LW_DONE) {
+        *number = left.tickets;
+    }
+    return asked(status, fault);
+}
+
+static uint32_t regions_left(lw_table *table, const row *row, uint64_t *number, lw_fault *fault)
+{
+    lw_left_over left;
+    uint32_t status = lw_left(table, &left);
+
+    (void)row;
+    if (status == LW_DONE) {
+        *number = left.regions;
+    }
+    return asked(status, fault);
+}
+
 static uint32_t queue_len(lw_table *table, const row *row, uint64_t *number, lw_fault *fault)
 {
     return asked(lw_queue_len(table, row->device, row->at, number), fault);
@@ -415,6 +440,8 @@ static const row USUAL[] = {
     {"host read of no bytes", host_read, .at = 0, DONE},
     {"host read past its end", host_read, .at = END, .len = 1, REFUSED(LW_OUT_OF_HOST, 0, 0)},
     {"both writes are events", events, ANSWERS(2)},
+    {"of a thousand these are left", events_left, ANSWERS(998)},
+    {"both regions are left", regions_left, ANSWERS(2)},
     {"no region is open", innermost, REFUSED(LW_ABSENT, 0, 0)},
 
     {"data", enter, {{LW_COPY, A, 16, 0}}, 1, ANSWERS(1)},
@@ -427,6 +454,8 @@ static const row USUAL[] = {
     {"data without items", enter, .count = 0, ANSWERS(2)},
     {"which did nothing", did, .at = 0, REFUSED(LW_ABSENT, 0, 0)},
     {"the second is the innermost", innermost, ANSWERS(2)},
+    {"no region is left", regions_left, ANSWERS(0)},
+    {"as many events fewer", events_left, ANSWERS(996)},
     {"data in as many regions as may be", enter, {{LW_PRESENT, A, 16, 0}}, 1, REFUSED(LW_NO_ALLOWANCE, 0, 0)},
     {"end data", leave, .at = 2, DONE},
     {"end data twice", leave, .at = 2, REFUSED(LW_NO_REGION, 0, 2)},
@@ -908,6 +937,22 @@ static const struct {
     {"devices", offsetof(lw_limits, devices), 1, 4},
 };
 
+/* A table tells its limits: the one at a place, and what the others are by default. */
+static void check_told(lw_table *table, size_t place, uint64_t limit)
+{
+    lw_limits wanted = LW_LIMITS, told = LW_LIMITS;
+
+    wanted.host = wanted.device = 65536;
+    wanted.regions = 64;
+    wanted.tickets = UINT64_C(1) << 40;
+    wanted.counter_max = UINT64_C(4294967295);
+    wanted.queue_cap = 256;
+    wanted.trace_cap = 262144;
+    wanted.devices = 1;
+    memcpy((uint8_t *)&wanted + place, &limit, sizeof limit);
+    check(lw_limits_of(table, &told) == LW_DONE && memcmp(&told, &wanted, sizeof told) == 0, "limits", "they are told");
+}
+
 /* What a table with one limit other than by default answers. A table that it had stays where it is refused. */
 static uint32_t status_with(size_t place, uint64_t limit)
 {
@@ -921,6 +966,9 @@ static uint32_t status_with(size_t place, uint64_t limit)
     memcpy((uint8_t *)&limits + place, &limit, sizeof limit);
     status = lw_table_new(&table, &limits, &fault);
     check(fault.status == status && lw_events(&table, &number) == LW_DONE, "table", "the handle has no table");
+    if (status == LW_DONE && limit != 0) {
+        check_told(&table, place, limit);
+    }
     lw_table_end(&table);
     return status;
 }
@@ -964,6 +1012,7 @@ static void check_versions(void)
         check(strcmp(lw_fault_text(&fault, text, sizeof text, NULL), "36 BadVersion library 2000") == 0, "versions",
               "the text");
         check(lw_table_new(&table, &limits, NULL) == LW_BAD_VERSION && table.at == NULL, "versions", "without a fault");
+        check(lw_limits_of(&table, &limits) == LW_BAD_VERSION, "versions", "limits are told in wrong ones");
     }
 }
 

@@ -10,6 +10,9 @@ use Rattle.acc_base.specs.declared.mappings.Found.{Found}
 use Rattle.acc_base.specs.declared.mappings.Found.TheVariants.{Inside}
 use Rattle.acc_base.specs.Ranges.{where_is}
 use Rattle.acc_base.specs.Records.{Records}
+use Rattle.acc_base.specs.Limits.{Limits}
+use Rattle.acc_base.specs.Devices.{open_regions}
+use Rattle.acc_base.specs.Calls.{World, event_count}
 use Rattle.acc_table.specs.declared.calls.Mapped.{Mapped}
 use Rattle.acc_table.specs.Queries.{mapped_from}
 use Rattle.lamwiest_c.specs.declared.statuses.TheConstants.{ENDED, ABSENT}
@@ -17,8 +20,10 @@ use Rattle.lamwiest_c.specs.declared.statuses.Refusal.{Refusal}
 use Rattle.lamwiest_c.specs.declared.statuses.Refusal.TheVariants.{OfTable}
 use Rattle.lamwiest_c.specs.declared.lookups.RawAttached.{RawAttached}
 use Rattle.lamwiest_c.specs.declared.lookups.RawEnded.{RawEnded}
+use Rattle.lamwiest_c.specs.declared.lookups.RawLeft.{RawLeft}
 use Rattle.lamwiest_c.specs.declared.queries.RawCounters.{RawCounters}
 use Rattle.lamwiest_c.specs.declared.queries.RawMapped.{RawMapped}
+use Rattle.lamwiest_c.specs.declared.tables.RawLimits.{RawLimits}
 use Rattle.lamwiest_c.specs.Environments.{DataEnvironment}
 use Rattle.lamwiest_c.specs.Answers.{Told, section_at}
 
@@ -71,3 +76,11 @@ raw_ended e = record { place = e.place; size = e.size; pins = e.pins }
 -- a mapped range as C sees it
 abbrev pub raw_mapped : Mapped → RawMapped
 raw_mapped m = record { start = m.start; len = m.len; place = m.place; structured = m.structured; dynamic = m.dynamic; lent = number_of_bool m.lent }
+
+-- the limits of a table as C sees them
+abbrev pub raw_limits : Limits → RawLimits
+raw_limits l = record { host = l.host; device = l.device; regions = l.regions; tickets = l.tickets; counter_max = l.counter_max; queue_cap = l.queue_cap; trace_cap = l.trace_cap; full = number_of_bool l.full; devices = l.devices }
+
+-- how many more events and open regions there may be
+unfoldable pub left_of : World → RawLeft
+left_of w = record { tickets = w.limits.tickets - event_count w.history; regions = w.limits.regions - open_regions w.state }

@@ -1,17 +1,19 @@
-//! What a table has beside its mapped ranges: attached pointers, ended blocks, open regions. These are queries as those
-//! of `queries.rt`.
+//! What a table has beside its mapped ranges: attached pointers, ended blocks, open regions, its limits and what is left
+//! of them. These are queries as those of `queries.rt`.
 
-ghost use Rattle.std.specs.Prelude.{◌≡◌, option_map};
+ghost use Rattle.std.specs.Prelude.{◌≡◌, Some, option_map};
 ghost use Rattle.acc_base.specs.Devices.{view};
 ghost use Rattle.acc_base.specs.Waits.{ended_from};
 ghost use Rattle.acc_table.specs.Queries.{first_attached, newest_of};
 ghost use Rattle.lamwiest_c.specs.Answers.{section_at};
-ghost use Rattle.lamwiest_c.specs.Finds.{IsAskedOf, raw_attached, raw_ended};
+ghost use Rattle.lamwiest_c.specs.Finds.{IsAskedOf, raw_attached, raw_ended, raw_limits, left_of};
 
 use crate::handles::{Handle, put_back, take_out};
-use crate::queries::found;
+use crate::queries::{found, number_of_bool};
 use crate::statuses::{ABSENT, ENDED};
-use acc_base::{Attachment, Ended, Section};
+use crate::tables::RawLimits;
+use acc_base::{Attachment, Config, Ended, Section};
+use acc_table::Table;
 use std::alloc::Global;
 
 /// An attached pointer (OpenACC 3.3, section 2.6.8).
@@ -38,6 +40,16 @@ pub struct RawEnded {
     pub pins: u64,
 }
 
+/// What is left of two limits of a table.
+#[repr(C)]
+#[derive(Clone, Copy)]
+pub struct RawLeft {
+    /// How many more events there may be.
+    pub tickets: u64,
+    /// How many more data regions may be open.
+    pub regions: u64,
+}
+
 fn raw_attached(attached: Attachment) -> RawAttached
     ensures { result ≡ raw_attached attached }
 {
@@ -55,6 +67,22 @@ fn raw_ended(ended: Ended) -> RawEnded
         place: ended.place,
         size: ended.size,
         pins: ended.pins,
+    }
+}
+
+fn raw_limits(config: Config) -> RawLimits
+    ensures { result ≡ raw_limits config }
+{
+    RawLimits {
+        host: config.host(),
+        device: config.device(),
+        regions: config.regions(),
+        tickets: config.tickets(),
+        counter_max: config.counter_max(),
+        queue_cap: config.queue_cap(),
+        trace_cap: config.trace_cap(),
+        full: number_of_bool(config.full()),
+        devices: config.devices(),
     }
 }
 
@@ -119,4 +147,44 @@ pub extern "C" fn lw_innermost(alloc: Global, table: &mut Handle, region: &mut u
     let answer = environment.table.innermost();
     put_back(table, environment);
     found(answer, region)
+}
+
+/// Writes the limits of the table: none of them is 0.
+#[unsafe(no_mangle)]
+pub extern "C" fn lamwiest_limits_of(
+    alloc: Global,
+    table: &mut Handle,
+    limits: &mut RawLimits,
+) -> u32
+    ensures { IsAskedOf table.old.value table.new.value (λ e. Some (raw_limits e.world.limits)) result limits.old limits.new }
+{
+    let Some(environment) = take_out(alloc, table) else {
+        return ENDED;
+    };
+    let answer = raw_limits(environment.table.config());
+    put_back(table, environment);
+    found(Some(answer), limits)
+}
+
+#[tactic(auto, unfolding(crate::specs::Finds::left_of))]
+fn left_of(table: &Table) -> RawLeft
+    ensures { result ≡ left_of table.now }
+{
+    RawLeft {
+        tickets: table.ticket_book(),
+        regions: table.region_book(),
+    }
+}
+
+/// Writes how many more events there may be, and how many more data regions may be open.
+#[unsafe(no_mangle)]
+pub extern "C" fn lw_left(alloc: Global, table: &mut Handle, left: &mut RawLeft) -> u32
+    ensures { IsAskedOf table.old.value table.new.value (λ e. Some (left_of e.world)) result left.old left.new }
+{
+    let Some(environment) = take_out(alloc, table) else {
+        return ENDED;
+    };
+    let answer = left_of(&environment.table);
+    put_back(table, environment);
+    found(Some(answer), left)
 }

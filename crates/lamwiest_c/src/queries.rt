@@ -48,7 +48,7 @@ pub struct RawMapped {
 }
 
 /// 1 for yes and 0 for no, as C reads them.
-fn number_of_bool(truth: bool) -> u64
+pub fn number_of_bool(truth: bool) -> u64
     ensures { result ≡ number_of_bool truth }
 {
     if truth { 1 } else { 0 }

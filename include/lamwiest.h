@@ -327,6 +327,15 @@ typedef struct lw_ended_mapping {
 /* Such a block, that of least place at or above a device address. LW_ABSENT where there is none. */
 uint32_t lw_ended_block(lw_table *table, uint64_t device, uint64_t from, lw_ended_mapping *ended);
 
+/* Addresses of a device side by side that no block takes, as many as there are. */
+typedef struct lw_free_range {
+    uint64_t place; /* the device address of the first one */
+    uint64_t size;  /* how many bytes they have */
+} lw_free_range;
+
+/* Such addresses, those of least place at or above a device address. LW_ABSENT where there are none. */
+uint32_t lw_hole(lw_table *table, uint64_t device, uint64_t from, lw_free_range *hole);
+
 /* used: how many bytes of the device's memory all its blocks take. */
 uint32_t lw_used(lw_table *table, uint64_t device, uint64_t *used);
 

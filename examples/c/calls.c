@@ -354,6 +354,20 @@ static uint32_t ended_block(lw_table *table, const row *row, uint64_t *number, l
     return asked(status, fault);
 }
 
+/* The place of a hole and its size, as one number. */
+#define HOLE(place, size) ((uint64_t)(place) << 16 | (size))
+
+static uint32_t hole(lw_table *table, const row *row, uint64_t *number, lw_fault *fault)
+{
+    lw_free_range told;
+    uint32_t status = lw_hole(table, row->device, row->at, &told);
+
+    if (status == LW_DONE) {
+        *number = HOLE(told.place, told.size);
+    }
+    return asked(status, fault);
+}
+
 static uint32_t innermost(lw_table *table, const row *row, uint64_t *number, lw_fault *fault)
 {
     (void)row;
@@ -443,6 +457,8 @@ static const row USUAL[] = {
     {"of a thousand these are left", events_left, ANSWERS(998)},
     {"both regions are left", regions_left, ANSWERS(2)},
     {"no region is open", innermost, REFUSED(LW_ABSENT, 0, 0)},
+    {"all of the device is a hole", hole, .at = 0, ANSWERS(HOLE(LW_DEVICE_BASE, 64))},
+    {"there is none behind its first address", hole, .at = LW_DEVICE_BASE + 1, REFUSED(LW_ABSENT, 0, 0)},
 
     {"data", enter, {{LW_COPY, A, 16, 0}}, 1, ANSWERS(1)},
     {"what it did", did, .at = 0, ANSWERS(DID(LW_BORN, 0, 1, 0, LW_DEVICE_BASE))},
@@ -493,6 +509,7 @@ static const row USUAL[] = {
     {"the range behind it", range_at, .at = A + 16, REFUSED(LW_ABSENT, 0, 0)},
     {"the range before it", range_at, .at = A - 1, REFUSED(LW_ABSENT, 0, 0)},
     {"used", used, ANSWERS(16)},
+    {"the hole behind what is used", hole, .at = LW_DEVICE_BASE, ANSWERS(HOLE(LW_DEVICE_BASE + 16, 48))},
     {"regions", regions, ANSWERS(1)},
 
     {"enter data async", enter_data, {{LW_COPYIN, B, 16, 0}}, 1, .async = 3, DONE},
@@ -642,6 +659,9 @@ static const row DEVICES[] = {
     {"used on the last", used, .device = 3, ANSWERS(16)},
     {"used on the first", used, ANSWERS(0)},
     {"used on none", used, .device = 4, ANSWERS(0)},
+    {"the hole of the last", hole, .at = 0, .device = 3, ANSWERS(HOLE(LW_DEVICE_BASE_OF(3) + 16, 48))},
+    {"the first is free", hole, .at = 0, ANSWERS(HOLE(LW_DEVICE_BASE, 64))},
+    {"no hole on none", hole, .at = 0, .device = 4, REFUSED(LW_ABSENT, 0, 0)},
     {"regions on all", regions, ANSWERS(1)},
 
     {"lend on the device of the region", lend, .region = 1, .at = A, .len = 16, ANSWERS(1)},

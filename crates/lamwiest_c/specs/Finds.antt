@@ -1,17 +1,20 @@
 -- What a query of C finds.
-use Rattle.std.specs.Prelude.{ℕ, ◌≡◌, ◌+◌, ◌-◌, Bool, if◌then◌else◌, nat_le, List, length, Option, None, Some, Result, Ok, Err, MatchOption}
+use Rattle.std.specs.Prelude.{ℕ, ◌≡◌, ◌<◌, ◌≤◌, ◌+◌, ◌-◌, Bool, if◌then◌else◌, nat_le, List, length, Option, None, Some, option_map, Result, Ok, Err, MatchOption}
 use Rattle.acc_base.specs.declared.addresses.TheConstants.{HOST_BASE}
 use Rattle.acc_base.specs.declared.faults.Fault.TheVariants.{OutOfHost}
 use Rattle.acc_base.specs.Blocks.{rounded}
 use Rattle.acc_base.specs.declared.attachments.Attachment.{Attachment}
 use Rattle.acc_base.specs.declared.mappings.Counters.{Counters}
 use Rattle.acc_base.specs.declared.mappings.Ended.{Ended}
+use Rattle.acc_base.specs.declared.mappings.Hole.{Hole}
 use Rattle.acc_base.specs.declared.mappings.Found.{Found}
 use Rattle.acc_base.specs.declared.mappings.Found.TheVariants.{Inside}
 use Rattle.acc_base.specs.Ranges.{where_is}
 use Rattle.acc_base.specs.Records.{Records}
-use Rattle.acc_base.specs.Limits.{Limits}
-use Rattle.acc_base.specs.Devices.{open_regions}
+use Rattle.acc_base.specs.Limits.{Limits, limits_on}
+use Rattle.acc_base.specs.Section.{device_memory}
+use Rattle.acc_base.specs.Devices.{view, open_regions}
+use Rattle.acc_base.specs.Holes.{IsNextHole}
 use Rattle.acc_base.specs.Calls.{World, event_count}
 use Rattle.acc_table.specs.declared.calls.Mapped.{Mapped}
 use Rattle.acc_table.specs.Queries.{mapped_from}
@@ -20,6 +23,7 @@ use Rattle.lamwiest_c.specs.declared.statuses.Refusal.{Refusal}
 use Rattle.lamwiest_c.specs.declared.statuses.Refusal.TheVariants.{OfTable}
 use Rattle.lamwiest_c.specs.declared.lookups.RawAttached.{RawAttached}
 use Rattle.lamwiest_c.specs.declared.lookups.RawEnded.{RawEnded}
+use Rattle.lamwiest_c.specs.declared.lookups.RawHole.{RawHole}
 use Rattle.lamwiest_c.specs.declared.lookups.RawLeft.{RawLeft}
 use Rattle.lamwiest_c.specs.declared.queries.RawCounters.{RawCounters}
 use Rattle.lamwiest_c.specs.declared.queries.RawMapped.{RawMapped}
@@ -84,3 +88,16 @@ raw_limits l = record { host = l.host; device = l.device; regions = l.regions; t
 -- how many more events and open regions there may be
 unfoldable pub left_of : World → RawLeft
 left_of w = record { tickets = w.limits.tickets - event_count w.history; regions = w.limits.regions - open_regions w.state }
+
+-- a hole as C sees it
+abbrev pub raw_hole : Hole → RawHole
+raw_hole h = record { place = h.place; size = h.size }
+
+-- the hole of a device of least place at or above a device address, and none on a device that is not there
+pub record IsHoleOf (e : DataEnvironment) (device from : ℕ) (h : Option Hole) : Type 0 where
+  pub there : device < e.world.limits.devices → IsNextHole from (device_memory (limits_on device e.world.limits)) (view device e.world.state).records.blocks h
+  pub none : e.world.limits.devices ≤ device → h ≡ None
+
+abbrev pub IsHoleAsked : Option DataEnvironment → Option DataEnvironment → ℕ → ℕ → ℕ → RawHole → RawHole → Type 0
+IsHoleAsked handle same device from status old new =
+    (same ≡ handle) × MatchOption handle ((status ≡ ENDED) × (new ≡ old)) (λ e. (h : Option Hole) × IsHoleOf e device from h × IsFoundOrAbsent (option_map raw_hole h) status old new)

@@ -1,18 +1,18 @@
-//! What a table has beside its mapped ranges: attached pointers, ended blocks, open regions, its limits and what is left
-//! of them. These are queries as those of `queries.rt`.
+//! What a table has beside its mapped ranges: attached pointers, ended blocks, holes, open regions, its limits and what
+//! is left of them. These are queries as those of `queries.rt`.
 
 ghost use Rattle.std.specs.Prelude.{◌≡◌, Some, option_map};
 ghost use Rattle.acc_base.specs.Devices.{view};
 ghost use Rattle.acc_base.specs.Waits.{ended_from};
 ghost use Rattle.acc_table.specs.Queries.{first_attached, newest_of};
 ghost use Rattle.lamwiest_c.specs.Answers.{section_at};
-ghost use Rattle.lamwiest_c.specs.Finds.{IsAskedOf, raw_attached, raw_ended, raw_limits, left_of};
+ghost use Rattle.lamwiest_c.specs.Finds.{IsAskedOf, IsHoleAsked, raw_attached, raw_ended, raw_hole, raw_limits, left_of};
 
 use crate::handles::{Handle, put_back, take_out};
 use crate::queries::{found, number_of_bool};
 use crate::statuses::{ABSENT, ENDED};
 use crate::tables::RawLimits;
-use acc_base::{Attachment, Config, Ended, Section};
+use acc_base::{Attachment, Config, Ended, Hole, Section};
 use acc_table::Table;
 use std::alloc::Global;
 
@@ -38,6 +38,16 @@ pub struct RawEnded {
     pub size: u64,
     /// How many copies that wait name it.
     pub pins: u64,
+}
+
+/// Free addresses of a device that lie side by side, as many as there are.
+#[repr(C)]
+#[derive(Clone, Copy)]
+pub struct RawHole {
+    /// The device address of its first byte.
+    pub place: u64,
+    /// Its size in bytes.
+    pub size: u64,
 }
 
 /// What is left of two limits of a table.
@@ -67,6 +77,15 @@ fn raw_ended(ended: Ended) -> RawEnded
         place: ended.place,
         size: ended.size,
         pins: ended.pins,
+    }
+}
+
+fn raw_hole(hole: Hole) -> RawHole
+    ensures { result ≡ raw_hole hole }
+{
+    RawHole {
+        place: hole.place,
+        size: hole.size,
     }
 }
 
@@ -131,6 +150,28 @@ pub extern "C" fn lw_ended_block(
     put_back(table, environment);
     match answer {
         Some(told) => found(Some(raw_ended(told)), ended),
+        None => ABSENT,
+    }
+}
+
+/// Writes the hole of a device of least place at or above a device address; returns `ABSENT` where there is none.
+#[unsafe(no_mangle)]
+pub extern "C" fn lw_hole(
+    alloc: Global,
+    table: &mut Handle,
+    device: u64,
+    from: u64,
+    hole: &mut RawHole,
+) -> u32
+    ensures { IsHoleAsked table.old.value table.new.value device from result hole.old hole.new }
+{
+    let Some(environment) = take_out(alloc, table) else {
+        return ENDED;
+    };
+    let answer = environment.table.hole(device, from);
+    put_back(table, environment);
+    match answer {
+        Some(told) => found(Some(raw_hole(told)), hole),
         None => ABSENT,
     }
 }

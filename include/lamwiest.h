@@ -346,16 +346,18 @@ uint32_t lw_regions(lw_table *table, uint64_t *regions);
    open. */
 uint32_t lw_innermost(lw_table *table, uint64_t *region);
 
-/* The limits of a table, as it has them. Limits begin as LW_LIMITS here too, and those are written which the program's
-   header has. LW_BAD_VERSION as of lw_table_new. */
+/* The limits of a table: one that was 0 when the table began is told as it is by default. Limits begin as LW_LIMITS
+   here too, and those are written which the program's header has. LW_BAD_VERSION, as of lw_table_new, is told before
+   all else. */
 uint32_t lw_limits_of(lw_table *table, lw_limits *limits);
 
-/* What is left of two limits. */
+/* What is left of two limits of a table. */
 typedef struct lw_left_over {
     uint64_t tickets; /* how many more events there may be */
     uint64_t regions; /* how many more data regions may be open */
 } lw_left_over;
 
+/* left: how many more events and open data regions there may be, on all devices. */
 uint32_t lw_left(lw_table *table, lw_left_over *left);
 
 /* events: how many events there were in all. Each accepted directive, write, loan and gather is one, but for the step

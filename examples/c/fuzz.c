@@ -135,9 +135,12 @@ static uint32_t look(lw_table *table, uint64_t what, lw_fault *fault)
     lw_ended_mapping ended;
     lw_counters_of counters;
     lw_item_did did[4];
+    lw_free_range free_range;
+    lw_left_over left_over;
+    lw_limits limits = LW_LIMITS;
     uint64_t told;
 
-    switch (what % 12) {
+    switch (what % 17) {
     case 0:
         return lw_host_read(table, at, bytes, len % BYTES, fault);
     case 1:
@@ -167,6 +170,21 @@ static uint32_t look(lw_table *table, uint64_t what, lw_fault *fault)
         break;
     case 10:
         fault->status = lw_queue_len(table, device, number(), &told);
+        break;
+    case 11:
+        fault->status = lw_hole(table, device, at, &free_range);
+        break;
+    case 12:
+        fault->status = lw_left(table, &left_over);
+        break;
+    case 13:
+        fault->status = lw_limits_of(table, &limits);
+        break;
+    case 14:
+        fault->status = lw_attachment(table, device, at, &told);
+        break;
+    case 15:
+        fault->status = lw_innermost(table, &told);
         break;
     default:
         fault->status = lw_dids(table, did, take(1) % 5);

@@ -88,6 +88,7 @@ impl Directive {
             _ => 0,
         }
     }
+
     /// What its item of a place asks, from 0 on in written order. The exit from a region names no item.
     pub fn task(&self, place: usize) -> Option<Task>
         ensures { result ≡ slice_get (tasks_with self.now []) place }

@@ -190,7 +190,7 @@ pub extern "C" fn lw_innermost(alloc: Global, table: &mut Handle, region: &mut u
     found(answer, region)
 }
 
-/// Writes the limits of the table: none of them is 0.
+/// Writes the limits of the table. One that was 0 when the table began is told as it is by default.
 #[unsafe(no_mangle)]
 pub extern "C" fn lamwiest_limits_of(
     alloc: Global,

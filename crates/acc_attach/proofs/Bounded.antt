@@ -1,9 +1,9 @@
 -- Counters of blocks up to one: none is found of a block above it, and changes keep or raise it.
 use Rattle.std.proofs.Common.{ℕ, ◌≡◌, ◌/◌, ◌^◌, ◌<◌, ◌≤◌, refl, sym, ap, Bool, true, false, cond, List, Option, None, arith}
-use Rattle.std.specs.Prelude.{◌==◌, not, nat_lt, find, option_map, unwrap_or}
+use Rattle.std.specs.Prelude.{◌==◌, ◌&&◌, not, nat_lt, nat_le, find, option_map, unwrap_or}
 use Rattle.std.proofs.lemmas.Bool.Decides.{nat_tests}
 use Rattle.acc_base.specs.declared.attachments.Attachment.{Attachment}
-use Rattle.acc_base.specs.Attachments.{is_of, count_at}
+use Rattle.acc_base.specs.Attachments.{is_of, count_at, next_pointer}
 use Rattle.acc_base.proofs.Elements.{AllByRecursion-weaker, AllByRecursion-filter, AllByRecursion-map, find-none}
 use Rattle.acc_base.proofs.InPlace.{IsPut, all-put}
 use Rattle.acc_ordered.specs.Listing.{KeyValue, keyed, with_entry, without_key, with_value, value_written}
@@ -20,6 +20,10 @@ none_of_above highest block pointer es up above = sym (ap (λ (o : Option Attach
 
 pub none_from_above : (highest block pointer : ℕ) (es : List (KeyValue ℕ)) → AreUpTo highest es → highest < block → None ≡ find (is_from block pointer) (counters_in es)
 none_from_above highest block pointer es up above = sym (all_fail highest block (is_from block pointer) es up above (λ e less. let t : nat_lt (e.key / 2 ^ 64) block ≡ true = grind (arith, nat_tests) in rw t refl))
+
+-- no pointer of such a block is attached
+pub no_pointer_above : (highest block : ℕ) (es : List (KeyValue ℕ)) → AreUpTo highest es → highest < block → next_pointer block 0 (counters_in es) ≡ None
+no_pointer_above highest block es up above = ap (option_map (λ a. a.pointer)) (all_fail highest block (λ a. a.block == block && nat_le 0 a.pointer) es up above (λ e less. let t : (e.key / 2 ^ 64 == block) ≡ false = grind (arith, nat_tests) in rw t refl))
 
 -- ---- changes
 

@@ -224,6 +224,9 @@ impl CounterList {
         ensures counters { self.new.counters ≡ without_attachments block self.old.counters }
         ensures room { self.old.room ≤ self.new.room }
     {
+        if self.highest < block {
+            return;
+        }
         let mut near = Place::default();
         loop {
             let (next, place) = self.next_near(block, 0, near);

@@ -78,6 +78,7 @@ impl EndedBlocks {
     }
 
     /// A block is given back, whose mapping has ended or not.
+    #[inline(always)]
     pub fn leave(&mut self, place: u64, ended: bool)
         requires there { ended ≡ true → IsSome (at_key place self.old.entries) }
         requires mapped { ended ≡ false → 1 ≤ self.old.mapped }

@@ -16,3 +16,4 @@ pub mod Written
 pub mod HalfFull
 pub mod Listed
 mod Inserted
+mod Removed

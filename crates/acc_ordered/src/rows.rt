@@ -51,6 +51,19 @@ fn insert_copy<T: Copy>(items: &mut Vec<T>, place: usize, item: T)
     items[place] = item;
 }
 
+/// Takes out the item at a place of a list. It takes fewer steps than to take out what cannot be copied.
+#[inline]
+fn remove_copy<T: Copy>(items: &mut Vec<T>, place: usize)
+    requires { place < vec_len items.old }
+    ensures items { items.new.items ≡ remove items.old.items place }
+    ensures len { vec_len items.new + 1 ≡ vec_len items.old }
+    ensures capacity { vec_capacity items.new ≡ vec_capacity items.old }
+{
+    let len = items.len();
+    items.copy_within(place + 1..len, place);
+    items.truncate(len - 1);
+}
+
 impl<K: Key, T: Copy> Row<K, T> {
     /// A row without entries.
     pub fn new(alloc: Global) -> Result<Row<K, T>, Fault>
@@ -109,8 +122,8 @@ impl<K: Key, T: Copy> Row<K, T> {
         requires { place < length self.old }
         ensures { self.new ≡ remove self.old place }
     {
-        self.keys.remove(place);
-        self.values.remove(place);
+        remove_copy(&mut self.keys, place);
+        remove_copy(&mut self.values, place);
     }
 
     /// Gives the entry at a place another value.

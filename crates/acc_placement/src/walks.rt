@@ -27,6 +27,7 @@ fn visit<'a>(tree: &'a Link, steps: &mut Steps) -> Option<&'a Node>
 }
 
 /// The first hole that is at least so large. Each node on the way is a step.
+#[inline(always)]
 pub fn find_large(tree: &Link, size: u64, steps: &mut Steps) -> Option<(u64, u64)>
     requires some { 0 < size }
     requires limit { steps.old + height_of tree.now < 2 ^ 33 }
@@ -35,18 +36,17 @@ pub fn find_large(tree: &Link, size: u64, steps: &mut Steps) -> Option<(u64, u64
     ensures least { 0 < length (holes_in tree.now) → steps.old < steps.new }
     ensures steps { steps.new ≤ steps.old + height_of tree.now }
 {
-    match visit(tree, steps) {
-        None => None,
-        Some(node) => {
-            if node.greatest_left >= size {
-                find_large(&node.left, size, steps)
-            } else if node.size >= size {
-                Some((node.place, node.size))
-            } else {
-                find_large(&node.right, size, steps)
-            }
+    let mut rest = tree;
+    'down: while let Some(node) = visit(rest, steps) {
+        if node.greatest_left >= size {
+            rest = &node.left;
+        } else if node.size >= size {
+            return Some((node.place, node.size));
+        } else {
+            rest = &node.right;
         }
     }
+    None
 }
 
 /// The first hole from a place on that is at least so large. Trees without one so large are not entered. So the walk

@@ -203,6 +203,11 @@ impl Present {
         self.laws();
         match self.locate(section, blocks, near, &mut Steps::new()) {
             Ok(located) => located,
+            Err((None, place)) => Located {
+                found: Found::Absent,
+                range: None,
+                place,
+            },
             Err((next, place)) => {
                 let (found, range) = self.find_from(section, blocks, next);
                 Located {

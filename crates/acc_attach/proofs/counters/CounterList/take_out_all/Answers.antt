@@ -1,5 +1,7 @@
-use Rattle.std.proofs.Common.{◌≡◌, Some, sym, ap, ◌∙◌, arith}
+use Rattle.std.proofs.Common.{◌≡◌, Some, sym, ap, ◌∙◌, subst, arith}
 use Rattle.acc_base.specs.Attachments.{without_attachments, next_pointer}
+use Rattle.acc_attach.specs.Kept.{CountersState, counters_in}
+use Rattle.acc_attach.proofs.Bounded.{no_pointer_above}
 use Rattle.acc_attach.proofs.Keyed.{next_attached, none_left, forgotten_first, shorter}
 use Rattle.acc_attach.proofs.counters.CounterList.take_out_all.Goals as goal
 
@@ -19,3 +21,9 @@ loop-pointer-smaller c =
 
 pub returns-in_default-clause-counters : goal.returns-in_default-clause-counters
 returns-in_default-clause-counters c = sym (none_left c.args.block c.loop-pointer.self.counters (sym c.next_near-next.ensures ∙ c.in_default.is)) ∙ c.loop-pointer.invariant.counters
+
+pub returns-then-self-block-clause-counters : goal.returns-then-self-block-clause-counters
+returns-then-self-block-clause-counters c =
+    let es = c.self.inside.counts.entries in
+    subst (λ (s : CountersState). s.counters ≡ without_attachments c.args.block s.counters) c.self.view_is
+    (sym (none_left c.args.block (counters_in es) (no_pointer_above c.self.inside.highest c.args.block es c.self.invariant c.if-self-block.true)))

@@ -7,7 +7,7 @@ use Rattle.acc_clauses.specs.declared.acted.Acted.{Acted}
 use Rattle.acc_base.specs.declared.events.Step.TheVariants.{Born}
 use Rattle.acc_base.specs.Tasks.{section_of}
 use Rattle.acc_clauses.specs.Spans.{AreSpans}
-use Rattle.acc_clauses.specs.Acts.{lens_born}
+use Rattle.acc_clauses.specs.Acts.{lens_born, pointers_of, pointers_in}
 use Rattle.acc_clauses.proofs.Spanned.{spans-none}
 use Rattle.acc_clauses.specs.Overlays.{IsDraft, tasks_in, dids_in, birth_by, births_of, lens_of, end_by, ended_of, with_aim}
 
@@ -49,6 +49,19 @@ length-ended_of (x ∷ xs) = omega (arith, length-ended_of xs, length-end_by x.d
 -- there is a place for one more length
 pub few_lens : (xs : List Acted) (lens : List ℕ) (spans : List (ℕ × ℕ)) (ended : List ℕ) → IsDraft xs lens spans ended → length xs < 64 → length lens < 64
 few_lens xs lens spans ended draft few = let same : length lens ≡ length (births_of xs) = ap length draft.lens_are ∙ length-map (births_of xs) (λ (b : ℕ × ℕ). b.1) in omega (arith, same, few, length-births_of xs)
+
+-- one more task takes what its own aim takes
+pub pointers_in-push : (xs : List Acted) (x : Acted) → pointers_in (dids_in (xs ++ x ∷ [])) ≡ pointers_in (dids_in xs) + pointers_of x.did.aim
+pointers_in-push [] x = omega arith
+pointers_in-push (y ∷ xs) x = omega (arith, pointers_in-push xs x)
+
+one_pointer : (aim : Aim) → pointers_of aim ≤ 1
+one_pointer aim = grind (arith, nat_tests)
+
+-- a task takes one attachment counter more at most
+pub few_pointers : (xs : List Acted) → pointers_in (dids_in xs) ≤ length xs
+few_pointers [] = omega arith
+few_pointers (x ∷ xs) = omega (arith, few_pointers xs, one_pointer x.did.aim)
 
 -- the lengths that births have
 pub lens_born-births : (xs : List Acted) → lens_born (tasks_in xs) (dids_in xs) ≡ lens_of (births_of xs)
@@ -92,5 +105,7 @@ drafted_aimed xs x aim lens spans ended draft =
     }
 
 pub ruleset tally_laws = (spans-none, births_of-push, ended_of-push, length-births_of, length-ended_of, append-nil)
+
+pub ruleset pointer_laws = (pointers_in-push, few_pointers)
 
 pub ruleset lens_laws = (lens_born-births)

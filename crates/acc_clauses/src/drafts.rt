@@ -2,17 +2,19 @@
 
 ghost use Rattle.std.specs.Prelude.{List, [], ◌∷◌, ◌++◌, ◌≡◌, ◌<◌, ◌≤◌, length, true};
 ghost use Rattle.acc_clauses.specs.Words.{Counters, Found};
-ghost use Rattle.acc_clauses.specs.Overlays.{IsDraft, births_of, lens_of, ended_of, with_aim, found_over, counters_over};
+ghost use Rattle.acc_clauses.specs.Overlays.{IsDraft, births_of, lens_of, ended_of, with_aim, found_over, counters_over, dids_in};
+ghost use Rattle.acc_clauses.specs.Acts.{pointers_in};
 ghost use Rattle.acc_clauses.specs.Spans.{AreSpans};
 ghost use Rattle.acc_clauses.specs.declared.acted.Acted.{Acted};
 
 use crate::acted::Acted;
 use crate::outlines::Outline;
+use crate::pointers::pointers_of;
 use crate::recent::Recent;
 use crate::rows::section_of;
 use crate::slates::Slate;
 use crate::spans::add_birth;
-use acc_base::{Aim, Did, Section, Step};
+use acc_base::{Aim, Section, Step};
 use acc_present::Place;
 use std::marker::Model;
 
@@ -30,6 +32,8 @@ pub(crate) struct Draft {
     spans: Slate<(u64, u64)>,
     // The blocks whose mappings they end.
     ended: Slate<u64>,
+    // How many attachment counters more they take.
+    pointers: u64,
     // What look-ups see of them at a glance.
     outline: Outline,
 }
@@ -37,14 +41,15 @@ pub(crate) struct Draft {
 impl Model for Draft {
     ghost use Rattle.std.specs.Prelude.{List, ◌≡◌, ◌≤◌, length};
     ghost use Rattle.acc_clauses.specs.declared.acted.Acted.{Acted};
-    ghost use Rattle.acc_clauses.specs.Overlays.{IsDraft};
+    ghost use Rattle.acc_clauses.specs.Overlays.{IsDraft, dids_in};
     ghost use Rattle.acc_clauses.specs.Outlined.{IsOutlined};
+    ghost use Rattle.acc_clauses.specs.Acts.{pointers_in};
 
     ghost Value = { List Acted };
 
     ghost view = { λ d. d.acts };
 
-    ghost invariant = { λ d. IsDraft d.acts d.lens d.spans d.ended × IsOutlined d.acts d.outline };
+    ghost invariant = { λ d. IsDraft d.acts d.lens d.spans d.ended × IsOutlined d.acts d.outline × (d.pointers ≡ pointers_in (dids_in d.acts)) };
 }
 
 // Notes the birth or the end that the task makes, after these tasks.
@@ -99,6 +104,7 @@ impl Draft {
             lens: Slate::new(),
             spans: Slate::new(),
             ended: Slate::new(),
+            pointers: 0,
             outline: Outline::new(),
         }
     }
@@ -111,10 +117,12 @@ impl Draft {
         self.lens.clear();
         self.spans.clear();
         self.ended.clear();
+        self.pointers = 0;
         self.outline = Outline::new();
     }
 
     /// One more task was judged. The range that it changes may stand at the place, or where it maps one, right behind it.
+    #[tactic(auto, using(crate::proofs::Drafted::pointer_laws))]
     #[inline(always)]
     pub(crate) fn push(&mut self, x: Acted, place: Place)
         requires { length self.old < 64 }
@@ -130,20 +138,20 @@ impl Draft {
             x,
             self.acts.as_slice(),
         );
+        self.pointers += pointers_of(x.did.aim);
         self.outline.add(&x);
         self.acts.push(x);
     }
 
     /// This became of the pointer of the task that was judged last.
+    #[tactic(auto, using(crate::proofs::Drafted::pointer_laws))]
     pub(crate) fn aim(&mut self, aim: Aim)
         ensures { (xs : List Acted) (x : Acted) → self.old ≡ xs ++ x ∷ [] → self.new ≡ xs ++ with_aim aim x ∷ [] }
     {
-        if let Some(x) = self.acts.pop() {
-            let did = Did {
-                step: x.did.step,
-                aim,
-            };
-            self.acts.push(Acted { task: x.task, did });
+        if let Some(mut x) = self.acts.pop() {
+            self.pointers = self.pointers - pointers_of(x.did.aim) + pointers_of(aim);
+            x.did.aim = aim;
+            self.acts.push(x);
         }
     }
 
@@ -187,6 +195,13 @@ impl Draft {
         ensures { result.now ≡ ended_of self.now }
     {
         self.ended.as_slice()
+    }
+
+    /// How many attachment counters more they take.
+    pub(crate) fn pointers(&self) -> u64
+        ensures { result ≡ pointers_in (dids_in self.now) }
+    {
+        self.pointers
     }
 
     /// Whether none of the tasks maps an address of a section, which is not empty.

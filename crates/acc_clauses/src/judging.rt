@@ -74,6 +74,7 @@ fn checked(view: &View<'_>, n: u64, task: Task) -> Result<(), Fault>
 
 // The section is mapped to a new block, where the device has a place for it.
 #[tactic(auto, using(crate::proofs::Laws::plan_laws))]
+#[inline(never)]
 fn born(view: &View<'_>, draft: &Draft, n: u64, section: Section) -> Result<Step, Fault>
     requires planned { IsPlanned view.now.limits draft.now view.now.state.records }
     requires entering { list_all enters (tasks_in draft.now) ≡ true }
@@ -109,13 +110,12 @@ fn enter_absent(
     ensures { result ≡ enter_absent clause view.now.limits n section (records_after draft.now view.now.state.records) }
 {
     match clause {
-        RegionClause::Copy => born(view, draft, n, section),
-        RegionClause::Copyin => born(view, draft, n, section),
-        RegionClause::Copyout { .. } => born(view, draft, n, section),
-        RegionClause::Create { .. } => born(view, draft, n, section),
-        RegionClause::NoCreate => Ok(Step::Nothing),
+        RegionClause::Copy
+        | RegionClause::Copyin
+        | RegionClause::Copyout { .. }
+        | RegionClause::Create { .. } => born(view, draft, n, section),
+        RegionClause::NoCreate | RegionClause::Attach => Ok(Step::Nothing),
         RegionClause::Present => Err(Fault::NotPresent { item: n }),
-        RegionClause::Attach => Ok(Step::Nothing),
     }
 }
 

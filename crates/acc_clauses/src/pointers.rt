@@ -7,10 +7,8 @@ ghost use Rattle.acc_base.specs.declared.attachments.Aim.TheVariants.{Less};
 ghost use Rattle.acc_base.specs.Bytes.{host_byte};
 ghost use Rattle.acc_base.specs.Pointers.{pointer_written};
 ghost use Rattle.acc_clauses.specs.Contents.{AreMarked, beside, room_of, bare_state};
-ghost use Rattle.acc_clauses.specs.Acts.{CanAttach, CanDetach, CanAim, IsAimedBy, pointers_of, pointers_in};
-ghost use Rattle.acc_clauses.specs.Overlays.{dids_in};
+ghost use Rattle.acc_clauses.specs.Acts.{CanAttach, CanDetach, CanAim, IsAimedBy, pointers_of};
 
-use crate::acted::Acted;
 use crate::copies::{run_in, start_of};
 use crate::environments::Environment;
 use crate::sections::pointer_at;
@@ -85,7 +83,7 @@ pub(crate) fn aim_on(environment: &mut Environment, host: &HostMem, aim: Aim)
 }
 
 /// How many attachment counters more an attachment takes.
-fn pointers_of(aim: Aim) -> u64
+pub(crate) fn pointers_of(aim: Aim) -> u64
     ensures value { result ≡ pointers_of aim }
     ensures most { result ≤ 1 }
 {
@@ -93,16 +91,4 @@ fn pointers_of(aim: Aim) -> u64
         Aim::New { .. } => 1,
         Aim::None | Aim::Again { .. } | Aim::Less { .. } | Aim::Cleared { .. } => 0,
     }
-}
-
-/// How many attachment counters more these tasks take.
-pub(crate) fn pointers_in(acts: &[Acted]) -> u64
-    requires few { length acts.now ≤ 64 }
-    ensures { result ≡ pointers_in (dids_in acts.now) }
-{
-    let mut count = 0;
-    for x in acts {
-        count += pointers_of(x.did.aim);
-    }
-    count
 }

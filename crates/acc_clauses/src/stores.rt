@@ -24,7 +24,6 @@ use crate::lending::{check_lease, plan_loan};
 use crate::notes::count_holdings;
 use crate::planning::{self, queue_in, regions_entered};
 use crate::plans::Plan;
-use crate::pointers::pointers_in;
 use crate::running::act_all;
 use crate::spares::Spare;
 use crate::views::View;
@@ -151,7 +150,7 @@ impl Store {
         let regions = regions_entered(directive);
         let holdings = count_holdings(directive, acts);
         self.device
-            .reserve(plan.lens(), regions, holdings, pointers_in(acts))
+            .reserve(plan.lens(), regions, holdings, plan.draft.pointers())
     }
 
     /// Does a directive for which this plan was made on this state of the store, and for which room was made. It

@@ -6,7 +6,7 @@ use Rattle.acc_queues.specs.Queued.{spare_at}
 use Rattle.acc_clauses.specs.Overlays.{dids_in, puts_in}
 use Rattle.acc_clauses.specs.Contents.{Contents}
 use Rattle.acc_clauses.specs.Devices.{contents_beside}
-use Rattle.acc_clauses.specs.Planned.{IsPlanOf, holdings_by}
+use Rattle.acc_clauses.specs.Planned.{Planned, IsPlanOf, holdings_by}
 use Rattle.acc_clauses.specs.Acts.{HasRoomFor, HasPutRoom, pointers_in}
 use Rattle.acc_clauses.proofs.Asking.{asked_with}
 use Rattle.acc_clauses.proofs.Events.{planned_judged}
@@ -56,4 +56,4 @@ returns-clause-room c =
     room_made c.reserve.result d p room
     (subst (λ ls. OnOk c.reserve.result (HasRoomFor ls room)) c.lens.ensures.lens c.reserve.ensures.room)
     (rw (← c.regions_entered-regions.ensures, ← count) c.reserve.ensures.room_region)
-    (subst (λ n. OnOk c.reserve.result (n ≤ room.attachments)) (c.pointers_in.ensures ∙ ap pointers_in c.acts-acts.ensures.dids) c.reserve.ensures.room_pointers) puts
+    (subst (λ n. OnOk c.reserve.result (n ≤ room.attachments)) (c.pointers.ensures ∙ ap (λ (y : Planned). pointers_in y.dids) c.plan.view_is) c.reserve.ensures.room_pointers) puts

@@ -1,33 +1,21 @@
 //! Questions of a script, and the answers that have to come.
 
 use crate::emitters::Emitter;
-use crate::faults::EmitFault;
 use crate::languages::Language;
 use crate::marks::Marks;
 use crate::pointers::{POINTER_LEN, bytes_at, is_attached, pointer_section};
 use crate::sheets::Sheet;
 use crate::twins::DEVICE;
 use crate::wanted::put_literal;
-use acc_base::{Fault, HOST_BASE, Section};
-use acc_read::next_line;
-use acc_script::{Effect, MemorySink, write_effect};
+use acc_base::{HOST_BASE, Section};
 use acc_table::Table;
-use std::alloc::Global;
 use std::fmt::Write;
 
 /// How many expected bytes stand on one line of the program.
 const BYTES_ON_LINE: u64 = 32;
 
 /// Emits a question for the bytes of a section, in host memory or on the device, and for its pointers.
-///
-/// # Errors
-///
-/// `OutsideArray` where no one array has the section.
-pub fn emit_bytes(
-    emitter: &mut Emitter,
-    section: Section,
-    on_device: bool,
-) -> Result<(), EmitFault> {
+pub fn emit_bytes(emitter: &mut Emitter<'_>, section: Section, on_device: bool) {
     let Emitter {
         own,
         twin,
@@ -37,22 +25,18 @@ pub fn emit_bytes(
         ..
     } = emitter;
     let question = if on_device { "peek" } else { "show" };
-    start_question(sheet, question, section)?;
+    start_question(sheet, question, section);
     sheet.need(section.len);
     let bytes = bytes_at(&own.table, section, on_device);
     let others = bytes_at(&twin.table, section, on_device);
     let (Some(bytes), Some(others)) = (bytes, others) else {
-        put_answer(sheet, wanted.line().unwrap_or(b"none"));
-        return Ok(());
+        return put_answer(sheet, wanted.line.unwrap_or(b"none"));
     };
-    match wanted.line() {
-        Some(line) if !is_of_bytes(line, section.len) => {
-            put_answer(sheet, line);
-            Ok(())
-        }
+    match wanted.line {
+        Some(line) if !is_of_bytes(line, section.len) => put_answer(sheet, line),
         line => {
             put_bytes(sheet, marks, section, bytes, others, line);
-            put_pointers(sheet, marks, &own.table, section, on_device)
+            put_pointers(sheet, marks, &own.table, section, on_device);
         }
     }
 }
@@ -64,17 +48,12 @@ fn is_of_bytes(line: &[u8], count: u64) -> bool {
 }
 
 /// Emits a question for the presence of a section.
-///
-/// # Errors
-///
-/// `OutsideArray` where no one array has the section.
-pub fn emit_present(emitter: &mut Emitter, section: Section) -> Result<(), EmitFault> {
+pub fn emit_present(emitter: &mut Emitter<'_>, section: Section) {
     let is_present = emitter.own.table.is_present(DEVICE, section);
-    let Emitter { sheet, wanted, .. } = emitter;
-    start_question(sheet, "present", section)?;
     let word: &[u8] = if is_present { b"yes" } else { b"no" };
-    put_answer(sheet, wanted.line().unwrap_or(word));
-    Ok(())
+    let Emitter { sheet, wanted, .. } = emitter;
+    start_question(sheet, "present", section);
+    put_answer(sheet, wanted.line.unwrap_or(word));
 }
 
 /// Puts the line that has to come, and ends the question.
@@ -127,10 +106,10 @@ fn put_break(sheet: &mut Sheet, is_first: bool) {
     sheet.start("    \"");
 }
 
-fn start_question(sheet: &mut Sheet, call: &str, section: Section) -> Result<(), EmitFault> {
+fn start_question(sheet: &mut Sheet, call: &str, section: Section) {
     sheet.start_question(call);
     sheet.body.text(", ");
-    sheet.put_argument(section)
+    sheet.put_argument(section);
 }
 
 /// Puts a question for each pointer of a section whose target is known.
@@ -140,51 +119,39 @@ fn put_pointers(
     table: &Table,
     section: Section,
     on_device: bool,
-) -> Result<(), EmitFault> {
+) {
     let end = section.start.saturating_add(section.len) / POINTER_LEN;
     for nth in section.start.div_ceil(POINTER_LEN)..end {
         let place = nth.saturating_mul(POINTER_LEN);
         if let Some(target) = marks.target(table, place, on_device) {
             if marks.is_pointer(place) {
                 let is_attached = on_device && is_attached(table, place);
-                put_pointer(sheet, place, on_device, target, is_attached)?;
+                put_pointer(sheet, place, on_device, target, is_attached);
             }
         }
     }
-    Ok(())
 }
 
 /// Puts a question for a pointer. Attached it holds the device address of its target, and else the host address.
-fn put_pointer(
-    sheet: &mut Sheet,
-    place: u64,
-    on_device: bool,
-    target: u64,
-    is_attached: bool,
-) -> Result<(), EmitFault> {
+fn put_pointer(sheet: &mut Sheet, place: u64, on_device: bool, target: u64, is_attached: bool) {
     let (show, peek) = ("show_pointer", "peek_pointer");
     sheet.start_question(if on_device { peek } else { show });
     sheet.body.text(", ");
-    sheet.put_start(pointer_section(place))?;
+    sheet.put_start(pointer_section(place));
     let address = if is_attached {
         "acc_deviceptr"
     } else {
         sheet.language.pick("(void *)", "c_loc")
     };
     let _ = write!(sheet.body, ", {address}(");
-    sheet.put_byte(target)?;
+    sheet.put_byte(target);
     sheet.body.text(")");
     sheet.end_call();
-    Ok(())
 }
 
 /// Emits a report: a comment with what the table says, and questions for each array and each mapped range.
-///
-/// # Errors
-///
-/// [`EmitFault::Run`] for lack of memory. (Each range lies in one array.)
-pub fn emit_report(alloc: Global, emitter: &mut Emitter, effect: Effect) -> Result<(), EmitFault> {
-    emit_comment(alloc, emitter, effect)?;
+pub fn emit_report(emitter: &mut Emitter<'_>, report: &[u8]) {
+    put_comment(&mut emitter.sheet, report);
     for nth in 0..emitter.own.table.config().host() / 16 {
         let address = HOST_BASE.saturating_add(nth.saturating_mul(16));
         let Some(spot) = emitter.sheet.names.spot(address) else {
@@ -192,15 +159,15 @@ pub fn emit_report(alloc: Global, emitter: &mut Emitter, effect: Effect) -> Resu
         };
         let whole = spot.array.whole();
         if whole.start == address {
-            emit_present(emitter, whole)?;
-            emit_bytes(emitter, whole, false)?;
+            emit_present(emitter, whole);
+            emit_bytes(emitter, whole, false);
         }
     }
-    emit_ranges(emitter)
+    emit_ranges(emitter);
 }
 
 /// Emits a question for the bytes of each mapped range on the device.
-fn emit_ranges(emitter: &mut Emitter) -> Result<(), EmitFault> {
+fn emit_ranges(emitter: &mut Emitter<'_>) {
     let mut from = HOST_BASE;
     for _ in 0..emitter.own.table.config().host() {
         let Some(range) = emitter.own.table.mapped(DEVICE, from) else {
@@ -210,42 +177,21 @@ fn emit_ranges(emitter: &mut Emitter) -> Result<(), EmitFault> {
             start: range.start,
             len: range.len,
         };
-        emit_bytes(emitter, section, true)?;
+        emit_bytes(emitter, section, true);
         from = section.start.saturating_add(section.len);
     }
-    Ok(())
 }
 
-/// Emits what no OpenACC program can see, as a comment with what the table says.
-///
-/// # Errors
-///
-/// [`Fault::Memory`] alone.
-pub fn emit_comment(alloc: Global, emitter: &mut Emitter, effect: Effect) -> Result<(), EmitFault> {
-    let mut text = MemorySink::new(alloc);
-    let line = emitter.sheet.line;
-    if !write_effect(&mut text, line, &emitter.own.table, effect) {
-        return Err(EmitFault::Run(Fault::Memory));
-    }
-    put_comment(&mut emitter.sheet, text.as_slice());
-    Ok(())
-}
-
-fn put_comment(sheet: &mut Sheet, text: &[u8]) {
+/// Puts what no OpenACC program can see, as a comment with what the table says.
+pub fn put_comment(sheet: &mut Sheet, text: &[u8]) {
     sheet.start_remark();
     sheet
         .body
         .text("no program can see this; the table says:\n");
-    let mut rest = text;
-    for _ in 0..text.len() {
-        if rest.is_empty() {
-            break;
-        }
-        let (line, after) = next_line(rest);
+    for line in text.trim_ascii_end().split(|byte| *byte == b'\n') {
         sheet.start(sheet.language.pick("     ", "!    "));
         sheet.body.bytes(line);
         sheet.body.text("\n");
-        rest = after;
     }
     if sheet.language == Language::C {
         sheet.start("*/\n");

@@ -1,37 +1,24 @@
 //! Directives with data clauses.
 
-use crate::faults::EmitFault;
 use crate::items::{Written, fit_one_directive};
 use crate::pointers::pointer_section;
 use crate::sheets::Sheet;
 use acc_base::{Did, Directive, Fault};
 use std::alloc::Global;
+use std::fmt::Write;
 
 /// A directive without its items: what stands before them, and behind them.
 #[derive(Clone, Copy)]
 pub struct DirectiveFrame {
     /// The words before the clauses, as `enter data`.
     pub head: &'static str,
-    /// The queue of its `async` clause (OpenACC 3.3, section 2.16), if it has one.
-    pub queue: Option<u64>,
-    /// Another option of it, with a blank before it; empty where it has none.
+    /// An option behind them, with a blank before it; empty where it has none.
     pub option: &'static str,
-    /// The call that attaches or detaches its pointers.
-    pub call: &'static str,
-    /// Whether that call comes before the directive.
-    pub call_first: bool,
+    /// The call that detaches its pointers before it. Without one each is attached behind it.
+    pub detach: Option<&'static str>,
     /// Whether a block follows.
     pub opens: bool,
 }
-
-const REGION: DirectiveFrame = DirectiveFrame {
-    head: "data",
-    queue: None,
-    option: "",
-    call: "acc_attach",
-    call_first: false,
-    opens: true,
-};
 
 /// A directive with data clauses.
 #[derive(Drop)]
@@ -52,24 +39,8 @@ pub fn written_directive(
     directive: &Directive,
     did: &[Did],
 ) -> Result<Option<WrittenDirective>, Fault> {
-    let frame = match directive {
-        Directive::Enter { .. } => REGION,
-        Directive::EnterData { queue, .. } => without_block("enter data", *queue, ""),
-        Directive::ExitData {
-            finalize,
-            queue,
-            ..
-        } => exit_frame(*queue, *finalize),
-        Directive::Update {
-            if_present,
-            queue,
-            ..
-        } => without_block(
-            "update",
-            *queue,
-            if *if_present { " if_present" } else { "" },
-        ),
-        _ => return Ok(None),
+    let Some(frame) = frame_of(directive) else {
+        return Ok(None);
     };
     let mut items = Vec::new(alloc);
     for place in 0..directive.item_count() {
@@ -81,133 +52,111 @@ pub fn written_directive(
     Ok(Some(WrittenDirective { frame, items }))
 }
 
-fn without_block(head: &'static str, queue: Option<u64>, option: &'static str) -> DirectiveFrame {
-    DirectiveFrame {
+fn frame_of(directive: &Directive) -> Option<DirectiveFrame> {
+    let detach = "acc_detach";
+    let detach_finalize = "acc_detach_finalize";
+    let (head, option, detach) = match directive {
+        Directive::Enter { .. } => ("data", "", None),
+        Directive::EnterData { .. } => ("enter data", "", None),
+        Directive::ExitData {
+            finalize: false,
+            ..
+        } => ("exit data", "", Some(detach)),
+        Directive::ExitData { .. } => ("exit data", " finalize", Some(detach_finalize)),
+        Directive::Update {
+            if_present: false,
+            ..
+        } => ("update", "", None),
+        Directive::Update { .. } => ("update", " if_present", None),
+        _ => return None,
+    };
+    let opens = matches!(directive, Directive::Enter { .. });
+    Some(DirectiveFrame {
         head,
-        queue,
         option,
-        opens: false,
-        ..REGION
-    }
-}
-
-fn exit_frame(queue: Option<u64>, finalize: bool) -> DirectiveFrame {
-    let option = if finalize { " finalize" } else { "" };
-    DirectiveFrame {
-        call: if finalize {
-            "acc_detach_finalize"
-        } else {
-            "acc_detach"
-        },
-        call_first: true,
-        ..without_block("exit data", queue, option)
-    }
+        detach,
+        opens,
+    })
 }
 
 /// Puts a directive, or one for each item where it needs that. Items act one after the other, so both do the same.
-///
-/// # Errors
-///
-/// `OutsideArray` alone, where no one array has the section of an item, or its pointer.
-pub fn put_directive(
-    sheet: &mut Sheet,
-    frame: DirectiveFrame,
-    items: &[Written],
-) -> Result<(), EmitFault> {
+pub fn put_directive(sheet: &mut Sheet, frame: DirectiveFrame, items: &[Written]) {
     if fit_one_directive(&sheet.names, items) {
-        return put_clauses(sheet, frame, items);
+        put_clauses(sheet, frame, items);
+        put_opening(sheet, frame);
+        return;
     }
     for item in items {
-        put_item(sheet, frame, *item)?;
+        put_item(sheet, frame, *item);
     }
-    Ok(())
 }
 
-/// Puts an item as a directive of its own, with the call for its pointer.
-fn put_item(sheet: &mut Sheet, frame: DirectiveFrame, item: Written) -> Result<(), EmitFault> {
-    if frame.call_first {
-        put_call(sheet, frame.call, item.pointer())?;
+/// Puts an item as a directive of its own, with the call for its pointer. An item without a section is a comment, and
+/// opens its block all the same.
+fn put_item(sheet: &mut Sheet, frame: DirectiveFrame, item: Written) {
+    if let Some(detach) = frame.detach {
+        put_call(sheet, detach, item.pointer());
     }
     if item.is_clause() {
-        put_clause_alone(sheet, frame, item)?;
-    } else {
-        put_passed_over(sheet, frame, item);
-    }
-    if !frame.call_first {
-        put_call(sheet, frame.call, item.pointer())?;
-    }
-    Ok(())
-}
-
-/// Puts a comment for an item without a section, and opens its block all the same.
-fn put_passed_over(sheet: &mut Sheet, frame: DirectiveFrame, item: Written) {
-    if !item.task.names_pointer() {
+        put_clause_alone(sheet, frame, item);
+    } else if !item.task.names_pointer() {
         sheet.remark("an empty section: no action");
     } else if item.pointer().is_none() {
         sheet.remark("the pointer stays as it is: no action");
     }
     put_opening(sheet, frame);
-}
-
-fn put_clause_alone(
-    sheet: &mut Sheet,
-    frame: DirectiveFrame,
-    item: Written,
-) -> Result<(), EmitFault> {
-    if item.zero {
-        put_with_zero(sheet, frame, item)
-    } else {
-        put_clauses(sheet, frame, &[item])
+    put_fill(sheet, item);
+    if frame.detach.is_none() {
+        put_call(sheet, "acc_attach", item.pointer());
     }
 }
 
-/// Puts an item with the modifier `zero`. A compiler that does not know the modifier fills the block in its place.
-fn put_with_zero(sheet: &mut Sheet, frame: DirectiveFrame, item: Written) -> Result<(), EmitFault> {
-    let without_block = DirectiveFrame {
-        opens: false,
-        ..frame
-    };
+/// Puts an item as a directive of its own. A compiler that does not know the modifier `zero` gets it without.
+fn put_clause_alone(sheet: &mut Sheet, frame: DirectiveFrame, item: Written) {
+    if !item.zero {
+        return put_clauses(sheet, frame, &[item]);
+    }
     let without_zero = Written {
         zero: false,
         ..item
     };
     sheet.body.text("#if KNOWS_ZERO\n");
-    put_clauses(sheet, without_block, &[item])?;
+    put_clauses(sheet, frame, &[item]);
     sheet.body.text("#else\n");
-    put_clauses(sheet, without_block, &[without_zero])?;
+    put_clauses(sheet, frame, &[without_zero]);
     sheet.body.text("#endif\n");
-    put_opening(sheet, frame);
-    put_fill(sheet, item)
 }
 
-fn put_fill(sheet: &mut Sheet, item: Written) -> Result<(), EmitFault> {
-    if !item.is_born() {
-        return Ok(());
+/// Fills the new block of an item with the modifier `zero`, for a compiler that does not know it.
+fn put_fill(sheet: &mut Sheet, item: Written) {
+    if !item.zero || !item.is_born() {
+        return;
     }
     sheet.need(item.section().len);
     sheet.body.text("#if !KNOWS_ZERO\n");
     sheet.start_call("fill_with_zero");
-    sheet.put_argument(item.section())?;
+    sheet.put_argument(item.section());
     sheet.end_call();
     sheet.body.text("#endif\n");
-    Ok(())
 }
 
-fn put_clauses(
-    sheet: &mut Sheet,
-    frame: DirectiveFrame,
-    items: &[Written],
-) -> Result<(), EmitFault> {
+fn put_clauses(sheet: &mut Sheet, frame: DirectiveFrame, items: &[Written]) {
     sheet.start_directive();
     sheet.body.text(frame.head);
     for item in items {
-        put_clause(sheet, *item)?;
+        let modifier = if item.zero { "zero: " } else { "" };
+        let _ = write!(sheet.body, " {}({modifier}", item.task.word());
+        sheet.put_section(item.section());
+        sheet.body.text(")");
     }
-    put_queue(sheet, frame.queue);
+    // All items of a directive have its queue.
+    put_queue(
+        sheet,
+        " async",
+        items.first().and_then(|item| item.task.queue()),
+    );
     sheet.body.text(frame.option);
     sheet.body.text("\n");
-    put_opening(sheet, frame);
-    Ok(())
 }
 
 fn put_opening(sheet: &mut Sheet, frame: DirectiveFrame) {
@@ -216,20 +165,9 @@ fn put_opening(sheet: &mut Sheet, frame: DirectiveFrame) {
     }
 }
 
-fn put_clause(sheet: &mut Sheet, item: Written) -> Result<(), EmitFault> {
-    sheet.body.text(" ");
-    sheet.body.text(item.task.word());
-    sheet.body.text(if item.zero { "(zero: " } else { "(" });
-    sheet.put_section(item.section())?;
-    sheet.body.text(")");
-    Ok(())
-}
-
-fn put_queue(sheet: &mut Sheet, queue: Option<u64>) {
+fn put_queue(sheet: &mut Sheet, word: &str, queue: Option<u64>) {
     if let Some(queue) = queue {
-        sheet.body.text(" async(");
-        sheet.body.number(queue);
-        sheet.body.text(")");
+        let _ = write!(sheet.body, "{word}({queue})");
     }
 }
 
@@ -237,27 +175,18 @@ fn put_queue(sheet: &mut Sheet, queue: Option<u64>) {
 pub fn put_wait(sheet: &mut Sheet, queue: Option<u64>) {
     sheet.start_directive();
     sheet.body.text("wait");
-    if let Some(queue) = queue {
-        sheet.body.text("(");
-        sheet.body.number(queue);
-        sheet.body.text(")");
-    }
+    put_queue(sheet, "", queue);
     sheet.body.text("\n");
 }
 
 /// Puts the call that attaches or detaches a pointer, if there is one.
-///
-/// # Errors
-///
-/// `OutsideArray` alone, where no one array has the pointer.
-pub fn put_call(sheet: &mut Sheet, call: &str, pointer: Option<u64>) -> Result<(), EmitFault> {
+pub fn put_call(sheet: &mut Sheet, call: &str, pointer: Option<u64>) {
     let Some(pointer) = pointer else {
-        return Ok(());
+        return;
     };
     sheet.start_call(call);
-    sheet.body.text(sheet.language.pick("(void **)(", ""));
-    sheet.put_start(pointer_section(pointer))?;
-    sheet.body.text(sheet.language.pick(")", ""));
+    sheet.pick("(void **)(", "");
+    sheet.put_start(pointer_section(pointer));
+    sheet.pick(")", "");
     sheet.end_call();
-    Ok(())
 }

@@ -1,6 +1,6 @@
 //! Emits a script, line by line.
 
-use crate::answers::{emit_bytes, emit_comment, emit_present, emit_report};
+use crate::answers::{emit_bytes, emit_present, emit_report, put_comment};
 use crate::doing::emit_directive;
 use crate::emitters::Emitter;
 use crate::faults::{EmitFault, Reason};
@@ -8,11 +8,10 @@ use crate::languages::Language;
 use crate::refusals::emit_refused;
 use crate::sheets::Sheet;
 use crate::twins::{DEVICE, follow_on_twin, read_on};
-use crate::wanted::pass_wanted;
 use crate::writes::{declare, emit_kernel, emit_write};
 use acc_base::{Config, Fault, ScriptFault, Section};
 use acc_read::{Page, Statement, next_line, statement_text};
-use acc_script::Effect;
+use acc_script::{Effect, MemorySink, write_effect};
 use std::alloc::Global;
 use std::fmt::Write;
 use std::sync::Wait;
@@ -46,85 +45,93 @@ pub fn emit<R: Threads + Wait + Sync + AllocGlobal>(
     origin: Origin<'_>,
 ) -> Result<Page, EmitFault> {
     let mut emitter = Emitter::new(rt, config, origin)?;
-    emit_lines(rt, &mut emitter, origin.script, origin.until_refusal)?;
+    emit_lines(rt, &mut emitter)?;
     Ok(emitter.sheet.whole(rt.alloc(), origin.name, origin.script)?)
 }
 
 fn emit_lines<R: Threads + Wait + Sync + AllocGlobal>(
     rt: &R,
-    emitter: &mut Emitter,
-    script: &[u8],
-    until_refusal: bool,
+    emitter: &mut Emitter<'_>,
 ) -> Result<(), EmitFault> {
-    let mut rest = script;
-    for _ in 0..script.len() {
+    let mut rest = emitter.origin.script;
+    for _ in 0..rest.len() {
         if rest.is_empty() {
             break;
         }
         let (line, after) = next_line(rest);
         emitter.sheet.line = emitter.sheet.line.saturating_add(1);
-        if emit_line(rt, emitter, line, until_refusal)? {
+        if emit_line(rt, emitter, line)? {
             return Ok(());
         }
         rest = after;
     }
-    end_at(emitter, until_refusal)
+    end(emitter)
 }
 
-fn end_at(emitter: &mut Emitter, until_refusal: bool) -> Result<(), EmitFault> {
-    emitter.sheet.line = emitter.sheet.line.saturating_add(1);
+fn end(emitter: &mut Emitter<'_>) -> Result<(), EmitFault> {
+    let line = emitter.sheet.line.saturating_add(1);
+    emitter.sheet.line = line;
     if emitter.own.table.regions() > 0 {
-        let line = emitter.sheet.line;
         let kind = ScriptFault::Unclosed;
         return Err(EmitFault::Run(Fault::Script { line, kind }));
     }
-    if until_refusal {
-        return Err(emitter.sheet.unfit(Reason::NothingRefused));
+    if emitter.origin.until_refusal {
+        emitter.sheet.unfit(Reason::NothingRefused);
     }
     if emitter.wanted.goes_on() {
-        return Err(emitter.sheet.unfit(Reason::OutputGoesOn));
+        emitter.sheet.unfit(Reason::OutputGoesOn);
     }
-    Ok(())
+    emitter.sheet.check()
 }
 
-/// Emits a line; returns whether it was refused and the program ends with it.
+/// Emits a line; returns whether it was refused, and so ends the program.
 fn emit_line<R: Threads + Wait + Sync + AllocGlobal>(
     rt: &R,
-    emitter: &mut Emitter,
+    emitter: &mut Emitter<'_>,
     line: &[u8],
-    until_refusal: bool,
 ) -> Result<bool, EmitFault> {
     let effect = perform(rt, emitter, line)?;
-    put_statement(&mut emitter.sheet, line);
     let again = read_on(rt.alloc(), &emitter.twin, emitter.sheet.line, line)?;
-    pass_wanted(rt.alloc(), emitter, effect)?;
-    match effect {
-        Effect::Refused(fault) => emit_refused(rt.alloc(), emitter, &again, fault, until_refusal),
-        _ => emit_done(rt, emitter, line, again, effect),
+    emit_effect(rt.alloc(), emitter, line, &again, effect)?;
+    emitter.sheet.check()?;
+    if effect.is_refused() {
+        return Ok(true);
     }
+    follow_on_twin(rt, emitter, again)?;
+    emitter.sheet.check()?;
+    Ok(false)
 }
 
 /// Does a line on the script's own table.
 fn perform<R: Threads + Wait + Sync + AllocGlobal>(
     rt: &R,
-    emitter: &mut Emitter,
+    emitter: &mut Emitter<'_>,
     line: &[u8],
 ) -> Result<Effect, Fault> {
     let statement = read_on(rt.alloc(), &emitter.own, emitter.sheet.line, line)?;
     emitter.own.perform(rt, statement)
 }
 
-/// Emits a statement that was done, does it on the twin, and returns that the program goes on.
-fn emit_done<R: Threads + Wait + Sync + AllocGlobal>(
-    rt: &R,
-    emitter: &mut Emitter,
+/// Emits a statement of a line, which a script's own table did or refused, and its twin has yet to do.
+fn emit_effect(
+    alloc: Global,
+    emitter: &mut Emitter<'_>,
     line: &[u8],
-    again: Statement<'_>,
+    statement: &Statement<'_>,
     effect: Effect,
-) -> Result<bool, EmitFault> {
-    emit_statement(rt.alloc(), emitter, line, &again, effect)?;
-    follow_on_twin(rt, emitter, again)?;
-    Ok(false)
+) -> Result<(), Fault> {
+    put_statement(&mut emitter.sheet, line);
+    let mut printed = MemorySink::new(alloc);
+    if !write_effect(&mut printed, emitter.sheet.line, &emitter.own.table, effect) {
+        return Err(Fault::Memory);
+    }
+    if !emitter.wanted.pass(printed.as_slice()) {
+        emitter.sheet.unfit(Reason::OutputEnds);
+    }
+    match effect {
+        Effect::Refused(fault) => emit_refused(alloc, emitter, statement, fault),
+        _ => emit_statement(alloc, emitter, line, statement, printed.as_slice()),
+    }
 }
 
 /// Puts a statement as a comment, with the number of its line.
@@ -138,20 +145,20 @@ fn put_statement(sheet: &mut Sheet, line: &[u8]) {
     }
 }
 
-/// Emits a statement that was done in a script's own table, and not yet in its twin.
+/// Emits a statement that was done, and what it printed.
 fn emit_statement(
     alloc: Global,
-    emitter: &mut Emitter,
+    emitter: &mut Emitter<'_>,
     line: &[u8],
     statement: &Statement<'_>,
-    effect: Effect,
-) -> Result<(), EmitFault> {
+    printed: &[u8],
+) -> Result<(), Fault> {
     match statement {
-        Statement::Blank => Ok(()),
-        Statement::Declare { name, array } => declare(alloc, &mut emitter.sheet, name, *array),
-        Statement::Direct(directive) => emit_directive(alloc, emitter, directive),
-        Statement::Select(device) if *device == DEVICE => Ok(()),
-        Statement::Select(_) => Err(emitter.sheet.unfit(Reason::OtherDevice)),
+        Statement::Blank => {}
+        Statement::Declare { name, array } => declare(alloc, &mut emitter.sheet, name, *array)?,
+        Statement::Direct(directive) => emit_directive(alloc, emitter, directive)?,
+        Statement::Select(device) if *device == DEVICE => {}
+        Statement::Select(_) => emitter.sheet.unfit(Reason::OtherDevice),
         Statement::Kernel {
             kernel,
             section,
@@ -161,17 +168,17 @@ fn emit_statement(
             let start = *addr;
             let len = bytes.as_slice().len() as u64;
             let is_point = statement_text(line).starts_with(b"point");
-            emit_write(emitter, Section { start, len }, is_point)
+            emit_write(emitter, Section { start, len }, is_point)?;
         }
         Statement::Show(section) | Statement::Peek(section) | Statement::Present(section)
             if section.len == 0 => {
             emitter.sheet.remark("an empty section: nothing to compare");
-            Ok(())
         }
         Statement::Show(section) => emit_bytes(emitter, *section, false),
         Statement::Peek(section) => emit_bytes(emitter, *section, true),
         Statement::Present(section) => emit_present(emitter, *section),
-        Statement::Address(_) => emit_comment(alloc, emitter, effect),
-        Statement::Report => emit_report(alloc, emitter, effect),
+        Statement::Address(_) => put_comment(&mut emitter.sheet, printed),
+        Statement::Report => emit_report(emitter, printed),
     }
+    Ok(())
 }

@@ -1,7 +1,6 @@
 //! Why a script cannot be emitted.
 
 use acc_base::Fault;
-use std::alloc::{AllocError, AllocFailed};
 
 /// What an OpenACC program cannot have.
 #[derive(Clone, Copy, Debug, PartialEq, Eq)]
@@ -63,17 +62,5 @@ pub enum EmitFault {
 impl From<Fault> for EmitFault {
     fn from(fault: Fault) -> EmitFault {
         EmitFault::Run(fault)
-    }
-}
-
-impl From<AllocError> for EmitFault {
-    fn from(_error: AllocError) -> EmitFault {
-        EmitFault::Run(Fault::Memory)
-    }
-}
-
-impl<T: Drop> From<AllocFailed<T>> for EmitFault {
-    fn from(_error: AllocFailed<T>) -> EmitFault {
-        EmitFault::Run(Fault::Memory)
     }
 }

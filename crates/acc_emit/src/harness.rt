@@ -13,13 +13,7 @@ pub struct Harness {
 
 /// The harness in C.
 pub const IN_C: Harness = Harness {
-    head: HEAD,
-    declarations: DECLARATIONS,
-    functions: FUNCTIONS,
-};
-
-const HEAD: &str =
-    r#"/* Written from a script by accrun --emit c. The program does what the script does, and prints what the script prints.
+    head: r#"/* Written from a script by accrun --emit c. The program does what the script does, and prints what the script prints.
    It ends with status 0 if all that came is as expected, with 1 at the first line that differs, and with 77 where the
    device shares the host's memory. A byte that OpenACC leaves open is expected as ??, and any will do. It is OpenACC 3.3,
    for any compiler, and a device with memory of its own. */
@@ -39,9 +33,8 @@ const HEAD: &str =
 #endif
 #endif
 
-"#;
-
-const DECLARATIONS: &str = r#"
+"#,
+    declarations: r#"
 /* Room for the bytes of the longest section that is looked at. */
 static unsigned char bytes[LONGEST];
 
@@ -59,9 +52,8 @@ static inline void ask_for_discrete_device(void);
 int main(void)
 {
     ask_for_discrete_device();
-"#;
-
-const FUNCTIONS: &str = r#"    return 0;
+"#,
+    functions: r#"    return 0;
 }
 
 /* What came, as digits or a word. */
@@ -198,4 +190,5 @@ static inline void ask_for_discrete_device(void)
         exit(77);
     }
 }
-"#;
+"#,
+};

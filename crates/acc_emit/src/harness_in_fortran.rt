@@ -4,13 +4,7 @@ use crate::harness::Harness;
 
 /// The harness in Fortran. The modules `openacc` of older compilers lack what the interfaces declare.
 pub const IN_FORTRAN: Harness = Harness {
-    head: HEAD,
-    declarations: DECLARATIONS,
-    functions: FUNCTIONS,
-};
-
-const HEAD: &str =
-    r#"! Written from a script by accrun --emit fortran. The program does what the script does, and prints what the script
+    head: r#"! Written from a script by accrun --emit fortran. The program does what the script does, and prints what the script
 ! prints. It ends with status 0 if all that came is as expected, with 1 at the first line that differs, and with 77 where
 ! the device shares the host's memory. A byte that OpenACC leaves open is expected as ??, and any will do. It is OpenACC
 ! 3.3 and Fortran 2018, for any compiler that preprocesses it, and a device with memory of its own.
@@ -33,9 +27,8 @@ program script
     use openacc, only: acc_get_device_type, acc_get_num_devices, acc_is_present, acc_set_device_num
     implicit none
 
-"#;
-
-const DECLARATIONS: &str = r#"
+"#,
+    declarations: r#"
     ! Room for the bytes of the longest section that is looked at.
     integer(1), target, save :: bytes(0:LONGEST - 1)
     integer :: i
@@ -83,9 +76,8 @@ const DECLARATIONS: &str = r#"
     end interface
 
     call ask_for_discrete_device()
-"#;
-
-const FUNCTIONS: &str = r#"contains
+"#,
+    functions: r#"contains
     ! Whether each digit that came is the expected one; ? stands for any.
     pure logical function agrees(expected, came)
         character(*), intent(in) :: expected, came
@@ -231,4 +223,5 @@ const FUNCTIONS: &str = r#"contains
         end if
     end subroutine
 end program
-"#;
+"#,
+};

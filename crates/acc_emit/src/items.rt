@@ -57,8 +57,7 @@ impl Written {
 
     /// Returns the host address of the pointer that it attached.
     pub fn attached(self) -> Option<u64> {
-        let (pointer, _) = self.did.aim.pointer_attached()?;
-        Some(pointer)
+        self.did.aim.pointer_attached().map(|(pointer, _)| pointer)
     }
 
     /// Returns the number of the block whose mapping it ended.
@@ -83,13 +82,10 @@ impl Written {
 /// Whether one directive can have all of the items: each names another array, as compilers ask. None has a pointer, since
 /// a call attaches it before the next item. None has the modifier `zero`, which not each compiler knows.
 pub fn fit_one_directive(names: &Names, items: &[Written]) -> bool {
-    for (nth, item) in items.iter().enumerate() {
-        let is_plain = item.is_clause() && item.pointer().is_none() && !item.zero;
-        if !is_plain || !is_of_new_array(names, items, nth, item.section()) {
-            return false;
-        }
-    }
+    let is_plain = |item: &Written| item.is_clause() && item.pointer().is_none() && !item.zero;
     !items.is_empty()
+        && items.iter().enumerate().all(|(nth, item)| is_plain(item)
+            && is_of_new_array(names, items, nth, item.section()))
 }
 
 fn is_of_new_array(names: &Names, items: &[Written], nth: usize, section: Section) -> bool {

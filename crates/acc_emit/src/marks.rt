@@ -2,7 +2,7 @@
 
 use crate::pointers::{POINTER_LEN, Pointer, is_attached, pointer_section, word_at};
 use crate::twins::DEVICE;
-use crate::waits::{Waits, common};
+use crate::waits::{WaitingCopy, common};
 use acc_base::{HOST_BASE, Section};
 use acc_table::Table;
 use std::alloc::{AllocError, Global};
@@ -29,8 +29,8 @@ pub struct Marks {
     marked: Vec<Mark>,
     /// The addresses that `point` has written, each pointer with each of its targets once.
     pub pointers: Vec<Pointer>,
-    /// The copies that wait.
-    pub waits: Waits,
+    /// The copies that wait in queues.
+    pub waits: Vec<WaitingCopy>,
 }
 
 impl Marks {
@@ -43,75 +43,71 @@ impl Marks {
         Ok(Marks {
             marked: vec![in alloc; Mark::Plain; host as usize]?,
             pointers: Vec::new(alloc),
-            waits: Waits::new(alloc),
+            waits: Vec::new(alloc),
         })
     }
 
-    fn get(&self, address: u64) -> Mark {
-        let at = address.saturating_sub(HOST_BASE) as usize;
-        self.marked.get(at).copied().unwrap_or(Mark::Plain)
+    /// Returns the marks of those bytes of a section that lie in host memory.
+    fn within(&mut self, section: Section) -> &mut [Mark] {
+        let from = section.start.saturating_sub(HOST_BASE) as usize;
+        let to = from
+            .saturating_add(section.len as usize)
+            .min(self.marked.len());
+        self.marked
+            .as_mut_slice()
+            .get_mut(from..to)
+            .unwrap_or(&mut [])
     }
 
-    fn put(&mut self, address: u64, mark: Mark) {
-        let at = address.saturating_sub(HOST_BASE) as usize;
-        if let Some(old) = self.marked.get_mut(at) {
-            *old = mark;
-        }
-    }
-
-    /// Opens the bytes of a section of host memory.
-    pub fn open_all(&mut self, section: Section) {
-        for offset in 0..section.len {
-            self.open(section.start.saturating_add(offset));
-        }
-    }
-
-    /// Opens the byte at a host address: it is never compared again.
-    pub fn open(&mut self, address: u64) {
-        self.put(address, Mark::Open);
+    /// Opens the bytes of a section of host memory: they are never compared again.
+    pub fn open(&mut self, section: Section) {
+        self.within(section).fill(Mark::Open);
     }
 
     /// Notes that other bytes than those of an address were written into a section.
     pub fn write_over(&mut self, section: Section) {
-        for offset in 0..section.len {
-            let address = section.start.saturating_add(offset);
-            match self.get(address) {
-                Mark::Plain => self.put(address, Mark::Written),
-                Mark::Address => self.open(address),
-                Mark::Written | Mark::Open => {}
-            }
+        for mark in self.within(section) {
+            *mark = match *mark {
+                Mark::Plain | Mark::Written => Mark::Written,
+                Mark::Address | Mark::Open => Mark::Open,
+            };
         }
     }
 
     /// Whether the byte at a host address is not to be compared by itself: it is marked, or a copy of it waits.
     pub fn is_open(&self, address: u64) -> bool {
-        let byte = Section {
-            start: address,
-            len: 1,
-        };
-        matches!(self.get(address), Mark::Address | Mark::Open) || self.is_racing(byte)
+        let start = address;
+        let mark = self.marked.get(start.saturating_sub(HOST_BASE) as usize);
+        matches!(mark, Some(Mark::Address | Mark::Open))
+            || self.is_racing(Section { start, len: 1 })
     }
 
     /// Whether the word at a host address is to be compared as a pointer.
     pub fn is_pointer(&self, place: u64) -> bool {
-        let section = pointer_section(place);
-        !self.is_racing(section)
-            && (0..POINTER_LEN).all(|offset| self.get(place.saturating_add(offset))
-                == Mark::Address)
+        let from = place.saturating_sub(HOST_BASE) as usize;
+        let word = self
+            .marked
+            .get(from..from.saturating_add(POINTER_LEN as usize));
+        !self.is_racing(pointer_section(place))
+            && word.is_some_and(|marks| marks.iter().all(|mark| *mark == Mark::Address))
     }
 
     /// Whether a copy of one of a section's bytes waits.
     pub fn is_racing(&self, section: Section) -> bool {
-        (0..self.waits.len()).any(|nth| self.waits.shared(nth, section, None).len > 0)
+        self.waits
+            .iter()
+            .any(|copy| copy.shared(section, None).len > 0)
     }
 
     /// Notes that the bytes of a section are read or written in a queue, or at once. It opens those of which a copy
     /// waits in another queue: which of the two comes first is open.
     pub fn touch(&mut self, section: Section, queue: Option<u64>) {
         for nth in 0..self.waits.len() {
-            let shared = self.waits.shared(nth, section, queue);
-            self.open_all(shared);
-            self.spoil(shared);
+            if let Some(copy) = self.waits.get(nth).copied() {
+                let shared = copy.shared(section, queue);
+                self.open(shared);
+                self.spoil(shared);
+            }
         }
     }
 
@@ -143,18 +139,10 @@ impl Marks {
         let section = pointer_section(place);
         self.touch(section, None);
         self.spoil(section);
-        for offset in 0..POINTER_LEN {
-            let address = place.saturating_add(offset);
-            let is_sure = matches!(self.get(address), Mark::Plain | Mark::Address);
-            let is_word = place % POINTER_LEN == 0;
-            self.put(
-                address,
-                if is_sure && is_word {
-                    Mark::Address
-                } else {
-                    Mark::Open
-                },
-            );
+        let is_word = place % POINTER_LEN == 0;
+        for mark in self.within(section) {
+            let is_sure = is_word && matches!(*mark, Mark::Plain | Mark::Address);
+            *mark = if is_sure { Mark::Address } else { Mark::Open };
         }
         let pointer = Pointer {
             place,

@@ -42,13 +42,6 @@ pub fn bytes_at(table: &Table, section: Section, on_device: bool) -> Option<&[u8
 
 /// Returns the address that the eight bytes at a place hold, the lowest byte first; 0 where they are not there.
 pub fn word_at(table: &Table, place: u64, on_device: bool) -> u64 {
-    let mut word = 0u64;
-    for byte in bytes_at(table, pointer_section(place), on_device)
-        .unwrap_or(&[])
-        .iter()
-        .rev()
-    {
-        word = word.wrapping_mul(256).wrapping_add(u64::from(*byte));
-    }
-    word
+    let bytes = bytes_at(table, pointer_section(place), on_device).unwrap_or(&[]);
+    <[u8; 8]>::try_from(bytes).map_or(0, |word| u64::from_le_bytes(word))
 }

@@ -3,7 +3,7 @@
 use crate::directives::written_directive;
 use crate::doing::put_all;
 use crate::emitters::Emitter;
-use crate::faults::{EmitFault, Reason};
+use crate::faults::Reason;
 use crate::kernels::put_kernel;
 use crate::sheets::Sheet;
 use acc_base::Fault;
@@ -11,24 +11,22 @@ use acc_read::Statement;
 use std::alloc::Global;
 use std::fmt::Write;
 
-/// Emits a statement that is refused, as the last one of the program, and returns that it is. The command line has to ask
-/// for that, and OpenACC has to have the refusal too.
+/// Emits a statement that is refused, as the last one of the program. The command line has to ask for that, and OpenACC
+/// has to have the refusal too.
 ///
 /// # Errors
 ///
-/// [`EmitFault::Line`] where a program cannot have the statement so; [`EmitFault::Run`] for lack of memory.
+/// [`Fault::Memory`] alone.
 pub fn emit_refused(
     alloc: Global,
-    emitter: &mut Emitter,
+    emitter: &mut Emitter<'_>,
     statement: &Statement<'_>,
     fault: Fault,
-    until_refusal: bool,
-) -> Result<bool, EmitFault> {
-    if !until_refusal {
-        return Err(emitter.sheet.unfit(Reason::Refused));
-    }
-    if !is_of_openacc(fault) {
-        return Err(emitter.sheet.unfit(Reason::Limit));
+) -> Result<(), Fault> {
+    if !emitter.origin.until_refusal {
+        emitter.sheet.unfit(Reason::Refused);
+    } else if !is_of_openacc(fault) {
+        emitter.sheet.unfit(Reason::Limit);
     }
     emitter.sheet.start_call("expect_failure");
     emitter.sheet.end_call();
@@ -38,7 +36,7 @@ pub fn emit_refused(
     for region in emitter.regions.iter().rev() {
         region.close_blocks(&mut emitter.sheet);
     }
-    Ok(true)
+    Ok(())
 }
 
 /// Whether a refusal is an error of OpenACC (OpenACC 3.3, sections 2.7 and 2.14.3). The others come from limits of the
@@ -53,13 +51,13 @@ fn is_of_openacc(fault: Fault) -> bool {
 /// Puts the statement that is refused. Where it starts a region, it opens the blocks of that too.
 fn put_refused(
     alloc: Global,
-    emitter: &mut Emitter,
+    emitter: &mut Emitter<'_>,
     statement: &Statement<'_>,
-) -> Result<(), EmitFault> {
+) -> Result<(), Fault> {
     match statement {
         Statement::Direct(directive) => match written_directive(alloc, directive, &[])? {
-            Some(written) => put_all(emitter, written),
-            None => Err(emitter.sheet.unfit(Reason::Limit)),
+            Some(written) => return put_all(emitter, written),
+            None => emitter.sheet.unfit(Reason::Limit),
         },
         Statement::Kernel {
             kernel,
@@ -69,10 +67,10 @@ fn put_refused(
         Statement::Select(device) => {
             let devices = emitter.own.table.config().devices();
             put_absent_device(&mut emitter.sheet, device.saturating_sub(devices));
-            Ok(())
         }
-        _ => Err(emitter.sheet.unfit(Reason::Limit)),
+        _ => emitter.sheet.unfit(Reason::Limit),
     }
+    Ok(())
 }
 
 /// Puts the choice of a device that is not there on any machine (OpenACC 3.3, section 3.2.4): so many behind the first

@@ -1,7 +1,6 @@
 //! Data regions as nested blocks.
 
 use crate::directives::put_call;
-use crate::faults::EmitFault;
 use crate::items::{Written, fit_one_directive};
 use crate::sheets::Sheet;
 use acc_base::{Did, Event};
@@ -49,13 +48,9 @@ impl NestedRegion {
     }
 
     /// Closes its blocks at its end, each behind the detachment of its item.
-    ///
-    /// # Errors
-    ///
-    /// `OutsideArray` alone, where no one array has the pointer of an item.
-    pub fn put_end(&self, sheet: &mut Sheet) -> Result<(), EmitFault> {
+    pub fn put_end(&self, sheet: &mut Sheet) {
         for item in &self.items {
-            put_call(sheet, "acc_detach", item.pointer())?;
+            put_call(sheet, "acc_detach", item.pointer());
             if !self.is_one {
                 sheet.close_block(item.is_clause());
             }
@@ -63,6 +58,5 @@ impl NestedRegion {
         if self.is_one {
             sheet.close_block(true);
         }
-        Ok(())
     }
 }

@@ -1,11 +1,11 @@
 //! The text of the program, while it grows.
 
 use crate::faults::{EmitFault, Reason};
-use crate::harness::{Harness, IN_C};
+use crate::harness::IN_C;
 use crate::harness_in_fortran::IN_FORTRAN;
 use crate::languages::Language;
 use acc_base::{Fault, Section};
-use acc_read::{Names, Page, Spot, next_line};
+use acc_read::{Names, Page};
 use std::alloc::Global;
 use std::fmt::Write;
 use std::slice;
@@ -26,6 +26,8 @@ pub struct Sheet {
     pub names: Names,
     /// The number of the line that is being emitted, counted from 1.
     pub line: u64,
+    /// Why a program cannot have this line, if it cannot.
+    reason: Option<Reason>,
     /// The length of the longest section whose bytes the program handles.
     longest: u64,
     /// How many blocks are open.
@@ -41,17 +43,27 @@ impl Sheet {
             body: Page::new(alloc),
             names: Names::new(alloc),
             line: 0,
+            reason: None,
             longest: 16,
             depth: 0,
         }
     }
 
-    /// Returns the fault of this line, for a reason.
-    pub fn unfit(&self, reason: Reason) -> EmitFault {
-        EmitFault::Line {
-            line: self.line,
-            reason,
-        }
+    /// Notes why a program cannot have this line, of which only [`Sheet::check`] tells, by its first reason. So what puts
+    /// pieces of a line needs no `?`.
+    pub fn unfit(&mut self, reason: Reason) {
+        self.reason = self.reason.or(Some(reason));
+    }
+
+    /// Checks that a program can have this line.
+    ///
+    /// # Errors
+    ///
+    /// [`EmitFault::Line`] with the first reason why it cannot.
+    pub fn check(&self) -> Result<(), EmitFault> {
+        let line = self.line;
+        self.reason
+            .map_or(Ok(()), |reason| Err(EmitFault::Line { line, reason }))
     }
 
     /// Notes that the program handles `length` bytes at a time.
@@ -87,7 +99,7 @@ impl Sheet {
 
     /// Ends a call.
     pub fn end_call(&mut self) {
-        self.body.text(self.language.pick(");\n", ")\n"));
+        self.pick(");\n", ")\n");
     }
 
     /// Puts a comment as a line.
@@ -104,7 +116,7 @@ impl Sheet {
 
     /// Ends it.
     pub fn end_remark(&mut self) {
-        self.body.text(self.language.pick(" */\n", "\n"));
+        self.pick(" */\n", "\n");
     }
 
     /// Opens the block of a region's directive, or in C also one without a directive. In Fortran the directive opens it.
@@ -125,77 +137,78 @@ impl Sheet {
         }
     }
 
-    /// Puts a section as a subarray, `a_[0:16]` or `a_(0:15)`, or as the whole array, `a_`.
-    ///
-    /// # Errors
-    ///
-    /// `OutsideArray` alone, where no one array has the section.
-    pub fn put_section(&mut self, section: Section) -> Result<(), EmitFault> {
-        let spot = spot_of(&self.names, self.line, section)?;
+    /// Puts the one of two texts that is for the language.
+    pub fn pick(&mut self, c: &'static str, fortran: &'static str) {
+        self.body.text(self.language.pick(c, fortran));
+    }
+
+    /// Puts the name of the array that has a section, and returns how many of its bytes stand before the section. A
+    /// program cannot have a section that lies in no one array.
+    fn put_array(&mut self, section: Section) -> u64 {
+        let Some(spot) = self.names.within(section) else {
+            self.unfit(Reason::OutsideArray);
+            return 0;
+        };
         put_name(&mut self.body, spot.name);
-        if spot.array.whole() != section {
-            put_part(&mut self.body, self.language, spot.offset, section.len);
-        }
-        Ok(())
+        spot.offset
+    }
+
+    /// Puts a section as a subarray, `a_[0:16]` or `a_(0:15)`, or as the whole array, `a_`.
+    pub fn put_section(&mut self, section: Section) {
+        let offset = self.put_array(section);
+        let last = offset.saturating_add(section.len).saturating_sub(1);
+        let whole = self
+            .names
+            .spot(section.start)
+            .map(|spot| spot.array.whole());
+        let _ = match self.language {
+            _ if whole == Some(section) => Ok(()),
+            Language::C => write!(self.body, "[{offset}:{}]", section.len),
+            Language::Fortran => write!(self.body, "({offset}:{last})"),
+        };
     }
 
     /// Puts a section that lies in one array as an argument without a length: in C the address of its first byte,
     /// `a_ + 8`, and in Fortran the section.
-    ///
-    /// # Errors
-    ///
-    /// `OutsideArray` alone, where no one array has the section.
-    pub fn put_start(&mut self, section: Section) -> Result<(), EmitFault> {
+    pub fn put_start(&mut self, section: Section) {
         if self.language == Language::Fortran {
             return self.put_section(section);
         }
-        let spot = spot_of(&self.names, self.line, section)?;
-        put_name(&mut self.body, spot.name);
-        put_offset(&mut self.body, spot.offset);
-        Ok(())
+        let offset = self.put_array(section);
+        self.put_offset(offset);
     }
 
     /// Puts a section that lies in one array as an argument with its length: in C as two arguments, `a_ + 8, 4`.
-    ///
-    /// # Errors
-    ///
-    /// `OutsideArray` alone, where no one array has the section.
-    pub fn put_argument(&mut self, section: Section) -> Result<(), EmitFault> {
-        self.put_start(section)?;
+    pub fn put_argument(&mut self, section: Section) {
+        self.put_start(section);
         if self.language == Language::C {
             let _ = write!(self.body, ", {}", section.len);
         }
-        Ok(())
     }
 
     /// Puts a byte of some array as what an address is taken of: in C as its address, and in Fortran as the element.
-    ///
-    /// # Errors
-    ///
-    /// `OutsideArray` alone, where no array has it.
-    pub fn put_byte(&mut self, start: u64) -> Result<(), EmitFault> {
-        let byte = Section { start, len: 1 };
-        if self.language == Language::C {
-            return self.put_start(byte);
+    pub fn put_byte(&mut self, start: u64) {
+        let offset = self.put_array(Section { start, len: 1 });
+        match self.language {
+            Language::C => self.put_offset(offset),
+            Language::Fortran => {
+                let _ = write!(self.body, "({offset})");
+            }
         }
-        let spot = spot_of(&self.names, self.line, byte)?;
-        put_name(&mut self.body, spot.name);
-        let _ = write!(self.body, "({})", spot.offset);
-        Ok(())
     }
 
     /// Puts the byte at the place `i` of a section that lies in one array, `a_[i + 8]` or `a_(i + 8)`.
-    ///
-    /// # Errors
-    ///
-    /// `OutsideArray` alone, where no one array has the section.
-    pub fn put_cell(&mut self, section: Section) -> Result<(), EmitFault> {
-        let spot = spot_of(&self.names, self.line, section)?;
-        put_name(&mut self.body, spot.name);
-        self.body.text(self.language.pick("[i", "(i"));
-        put_offset(&mut self.body, spot.offset);
-        self.body.text(self.language.pick("]", ")"));
-        Ok(())
+    pub fn put_cell(&mut self, section: Section) {
+        let offset = self.put_array(section);
+        self.pick("[i", "(i");
+        self.put_offset(offset);
+        self.pick("]", ")");
+    }
+
+    fn put_offset(&mut self, offset: u64) {
+        if offset > 0 {
+            let _ = write!(self.body, " + {offset}");
+        }
     }
 
     /// Returns the whole program of a script, once all lines are emitted. It begins with the name of the script, if it
@@ -205,7 +218,7 @@ impl Sheet {
     ///
     /// [`Fault::Memory`] alone.
     pub fn whole(&self, alloc: Global, name: Option<&str>, script: &[u8]) -> Result<Page, Fault> {
-        let harness: Harness = match self.language {
+        let harness = match self.language {
             Language::C => IN_C,
             Language::Fortran => IN_FORTRAN,
         };
@@ -224,18 +237,9 @@ impl Sheet {
         if let Some(name) = name {
             put_remark(page, self.language, name.as_bytes());
         }
-        let mut rest = script;
-        for _ in 0..script.len() {
-            if !rest.starts_with(b"#") {
-                break;
-            }
-            let (line, after) = next_line(rest);
-            put_remark(
-                page,
-                self.language,
-                line.get(1..).unwrap_or(&[]).trim_ascii(),
-            );
-            rest = after;
+        let lines = script.split(|byte| *byte == b'\n');
+        for comment in lines.map_while(|line| line.strip_prefix(b"#".as_slice())) {
+            put_remark(page, self.language, comment.trim_ascii());
         }
     }
 }
@@ -256,34 +260,8 @@ fn put_remark(page: &mut Page, language: Language, text: &[u8]) {
     page.text(language.pick(" */\n", end));
 }
 
-fn put_part(page: &mut Page, language: Language, offset: u64, len: u64) {
-    let _ = match language {
-        Language::C => write!(page, "[{offset}:{len}]"),
-        Language::Fortran => {
-            let last = offset.saturating_add(len).saturating_sub(1);
-            write!(page, "({offset}:{last})")
-        }
-    };
-}
-
-fn spot_of(names: &Names, line: u64, section: Section) -> Result<Spot<'_>, EmitFault> {
-    match names.within(section) {
-        Some(spot) => Ok(spot),
-        None => Err(EmitFault::Line {
-            line,
-            reason: Reason::OutsideArray,
-        }),
-    }
-}
-
 /// Puts the name of an array: with `_` behind it, so that it is no keyword and no name of the harness.
 pub fn put_name(page: &mut Page, name: &[u8]) {
     page.bytes(name);
     page.text("_");
-}
-
-fn put_offset(page: &mut Page, offset: u64) {
-    if offset > 0 {
-        let _ = write!(page, " + {offset}");
-    }
 }

@@ -1,7 +1,7 @@
 //! The script on two tables, which differ in the bytes that nothing has filled.
 
 use crate::emitters::Emitter;
-use crate::faults::{EmitFault, Reason};
+use crate::faults::Reason;
 use crate::pointers::{POINTER_LEN, pointer_section};
 use acc_base::{Config, Directive, Fault, List, MEMORY_MAX, Section};
 use acc_read::{ScriptKernel, Statement, Trouble, line_at};
@@ -76,18 +76,19 @@ pub fn read_on<'a>(
     }
 }
 
-/// Runs a statement on the twin, and makes the blocks differ that nothing filled.
+/// Runs a statement on the twin, and makes the blocks differ that nothing filled. A program cannot have one that the twin
+/// refuses.
 ///
 /// # Errors
 ///
-/// `Unsettled` where the twin refuses it; [`EmitFault::Run`] for lack of memory.
+/// [`Fault::Memory`] alone.
 pub fn follow_on_twin<R: Threads + Wait + Sync + AllocGlobal>(
     rt: &R,
-    emitter: &mut Emitter,
+    emitter: &mut Emitter<'_>,
     statement: Statement<'_>,
-) -> Result<(), EmitFault> {
+) -> Result<(), Fault> {
     if emitter.twin.perform(rt, statement)?.is_refused() {
-        return Err(emitter.sheet.unfit(Reason::Unsettled));
+        emitter.sheet.unfit(Reason::Unsettled);
     }
     let Emitter { twin, births, .. } = emitter;
     for section in births.iter() {

@@ -1,16 +1,14 @@
-//! What the events of a table say of its mapped ranges, pointers, queues and regions, one event after the other.
-//!
-//! The table shows only its present state. A log prints what each item left, so it keeps its own account, from events
-//! alone.
+//! What the events of a table say that it does not show behind them: what each item left of the range of a block and of
+//! a pointer, which copies wait, and which entries to regions are open.
 
-use acc_base::{Range, Section};
+use acc_base::{Range, Section, Task};
 use std::alloc::Global;
 use std::collections::BTreeMap;
 
-/// A mapped range with its place on the device.
+/// A range that is or was mapped, and its place on the device.
 #[derive(Clone, Copy)]
 pub struct Placed {
-    /// The range with its counters.
+    /// The range with its counters, which are zero where its mapping has ended.
     pub range: Range,
     /// The device address of its first byte.
     pub place: u64,
@@ -19,8 +17,14 @@ pub struct Placed {
 impl Placed {
     /// The device address of a host address in the range.
     pub fn place_of(self, address: u64) -> u64 {
-        self.place
-            .saturating_add(address.saturating_sub(self.range.section.start))
+        let offset = address.saturating_sub(self.range.section.start);
+        self.place.saturating_add(offset)
+    }
+
+    /// Whether it is mapped, and a section is inside it.
+    fn has(&self, section: Section) -> bool {
+        let is_counted = self.range.structured > 0 || self.range.dynamic > 0;
+        is_counted && section.is_within(self.range.section)
     }
 }
 
@@ -33,20 +37,8 @@ pub struct Copied {
     pub place: u64,
     /// True for a copy from the device to host memory, false for one to the device.
     pub out: bool,
-}
-
-/// A copy that waits in a queue.
-#[derive(Clone, Copy)]
-struct QueuedCopy {
-    queue: QueueKey,
-    copied: Copied,
-}
-
-/// A queue: the number of its device, and its own number there.
-#[derive(Clone, Copy, PartialEq, Eq)]
-struct QueueKey {
-    device: u64,
-    queue: u64,
+    /// The queue into which it was put, or `None` where it was made at once.
+    pub queue: Option<u64>,
 }
 
 /// A block: the number of its device, and its own number there.
@@ -56,14 +48,14 @@ type BlockKey = (u64, u64);
 /// no memory for some of it.
 #[derive(Drop)]
 pub struct Account {
+    alloc: Global,
     /// The device that is read and changed.
     pub device: u64,
-    /// The mapped ranges, by device and first address.
-    ranges: BTreeMap<(u64, u64), Placed>,
-    /// The range that was named last, with its device. It stands for the one that `ranges` has.
-    near: Option<(u64, Placed)>,
+    /// The range of each block, by the device and then the block's number, from 1 on.
+    blocks: Vec<Vec<Placed>>,
     pointers: BTreeMap<(BlockKey, u64), u64>,
-    waiting: Vec<QueuedCopy>,
+    /// The copies that wait, with their devices.
+    waiting: Vec<(u64, Copied)>,
     regions: Vec<usize>,
     wants: bool,
 }
@@ -72,9 +64,9 @@ impl Account {
     /// Returns the account of a table without events, which reads the first device.
     pub fn new(alloc: Global) -> Account {
         Account {
+            alloc,
             device: 0,
-            ranges: BTreeMap::new(alloc),
-            near: None,
+            blocks: Vec::new(alloc),
             pointers: BTreeMap::new(alloc),
             waiting: Vec::new(alloc),
             regions: Vec::new(alloc),
@@ -87,68 +79,38 @@ impl Account {
         self.wants
     }
 
-    /// Returns the mapped range that a section is inside, if the section is not empty and inside one.
-    pub fn inside(&mut self, section: Section) -> Option<Placed> {
-        match self.near {
-            Some((device, placed))
-                if device == self.device && is_in(section, placed.range.section) => { Some(placed) }
-            _ => self.search(section),
+    /// Keeps the range of the next block of the device, which no item has counted yet.
+    pub fn map(&mut self, placed: Placed) {
+        for _ in self.blocks.len()..=self.device as usize {
+            self.wants |= self.blocks.push(Vec::new(self.alloc)).is_err();
+        }
+        if let Some(blocks) = self.blocks.get_mut(self.device as usize) {
+            self.wants |= blocks.push(placed).is_err();
         }
     }
 
-    /// The same, of the ranges that were not named last. It is named last then.
-    fn search(&mut self, section: Section) -> Option<Placed> {
-        self.put_back();
-        let upto = (self.device, section.start);
-        let (key, placed) = self.ranges.range(..=upto).next_back()?;
-        if key.0 != self.device || !is_in(section, placed.range.section) {
-            return None;
-        }
-        self.near = Some((self.device, *placed));
+    /// Returns the range of a block of the device, by the block's number.
+    #[inline(always)]
+    pub fn block(&self, number: u64) -> Option<Placed> {
+        let blocks = self.blocks.get(self.device as usize)?;
+        blocks.get(number.saturating_sub(1) as usize).copied()
+    }
+
+    /// Keeps and returns what an item leaves of the range of a block that it counts or drops.
+    #[inline(always)]
+    pub fn recount(&mut self, number: u64, task: Task) -> Option<Placed> {
+        let blocks = self.blocks.get_mut(self.device as usize)?;
+        let placed = blocks.get_mut(number.saturating_sub(1) as usize)?;
+        placed.range = task.recounted(placed.range);
         Some(*placed)
     }
 
-    /// Keeps a range with its counters, in place of what it kept for that address.
-    pub fn set(&mut self, placed: Placed) {
-        if !self.is_near(placed) {
-            self.put_back();
-            self.insert(self.device, placed);
-        }
-        self.near = Some((self.device, placed));
-    }
-
-    /// Drops a range whose mapping has ended.
-    pub fn remove(&mut self, placed: Placed) {
-        if self.is_near(placed) {
-            self.near = None;
-        }
-        self.ranges
-            .remove(&(self.device, placed.range.section.start));
-    }
-
-    /// Whether a range was named last.
-    fn is_near(&self, placed: Placed) -> bool {
-        match self.near {
-            Some((device, near)) => {
-                device == self.device && near.range.section.start == placed.range.section.start
-            }
-            None => false,
-        }
-    }
-
-    /// Keeps the range that was named last among the others.
-    fn put_back(&mut self) {
-        if let Some((device, placed)) = self.near {
-            self.near = None;
-            self.insert(device, placed);
-        }
-    }
-
-    fn insert(&mut self, device: u64, placed: Placed) {
-        let key = (device, placed.range.section.start);
-        if self.ranges.insert(key, placed).is_err() {
-            self.wants = true;
-        }
+    /// Returns whether a section is inside a range that is mapped. It goes through all ranges.
+    pub fn has(&self, section: Section) -> bool {
+        let Some(blocks) = self.blocks.get(self.device as usize) else {
+            return false;
+        };
+        blocks.iter().any(|placed| placed.has(section))
     }
 
     /// Returns how often a pointer is attached in a block, by its host address and the block's number (OpenACC 3.3,
@@ -161,41 +123,30 @@ impl Account {
     /// Keeps how often a pointer is attached in a block now.
     pub fn attach(&mut self, block: u64, pointer: u64, count: u64) {
         let key = ((self.device, block), pointer);
-        if self.pointers.insert(key, count).is_err() {
-            self.wants = true;
-        }
+        self.wants |= self.pointers.insert(key, count).is_err();
     }
 
-    /// Puts a copy at the end of a queue (OpenACC 3.3, section 2.16).
-    pub fn put(&mut self, queue: u64, copied: Copied) {
-        let queue = self.queue(queue);
-        if self.waiting.push(QueuedCopy { queue, copied }).is_err() {
-            self.wants = true;
-        }
+    /// Puts a copy at the end of its queue (OpenACC 3.3, section 2.16).
+    pub fn put(&mut self, copied: Copied) {
+        self.wants |= self.waiting.push((self.device, copied)).is_err();
     }
 
     /// Takes the first copy out of a queue, if one waits there.
     pub fn take(&mut self, queue: u64) -> Option<Copied> {
-        let queue = self.queue(queue);
-        let nth = self.waiting.iter().position(|w| w.queue == queue)?;
+        let (device, queue) = (self.device, Some(queue));
+        let is_in = |w: &(u64, Copied)| w.0 == device && w.1.queue == queue;
+        let nth = self.waiting.iter().position(is_in)?;
         if nth < self.waiting.len() {
-            return Some(self.waiting.remove(nth).copied);
+            return Some(self.waiting.remove(nth).1);
         }
         None
-    }
-
-    fn queue(&self, queue: u64) -> QueueKey {
-        QueueKey {
-            device: self.device,
-            queue,
-        }
     }
 
     /// Returns the least number of a queue of the device in which copies wait.
     pub fn first_queue(&self) -> Option<u64> {
         let device = self.device;
-        let here = self.waiting.iter().filter(|w| w.queue.device == device);
-        here.map(|w| w.queue.queue).min()
+        let here = self.waiting.iter().filter(|w| w.0 == device);
+        here.filter_map(|w| w.1.queue).min()
     }
 
     /// Returns how many copies wait, on all devices.
@@ -205,22 +156,11 @@ impl Account {
 
     /// Keeps that a region is open, by the place of its entry in the trace.
     pub fn open(&mut self, at: usize) {
-        if self.regions.push(at).is_err() {
-            self.wants = true;
-        }
+        self.wants |= self.regions.push(at).is_err();
     }
 
     /// Drops the innermost region, and returns the place of its entry in the trace.
     pub fn close(&mut self) -> Option<usize> {
         self.regions.pop()
     }
-}
-
-/// Whether a section is not empty, and each of its addresses is one of another.
-fn is_in(section: Section, other: Section) -> bool {
-    let before = section.start.saturating_sub(other.start);
-    0 < section.len
-        && other.start <= section.start
-        && before <= other.len
-        && section.len <= other.len.saturating_sub(before)
 }

@@ -8,272 +8,210 @@ use crate::log_lines::{
     put_absent, put_empty, put_ended, put_item_copy, put_pointer, put_range, put_skipped,
 };
 use crate::logs::Log;
-use acc_base::{Aim, Did, Holding, Range, Section, Step, Task};
+use acc_base::{Aim, Found, Holding, Range, Section, Step, Task};
 use acc_read::Names;
 
 impl Log {
     /// Puts the lines of an item: its pointer, its copy, its mapping, in the order in which it did something to them.
     #[inline(always)]
-    pub(crate) fn tell_item(&mut self, names: &Names, told: &LogItem<'_>, did: &Did) {
-        match *told.task {
-            Task::Enter { .. } => self.tell_enter(names, told, did),
-            Task::ExitRegion { holding } => self.tell_holding(names, told, &holding, did),
+    pub(crate) fn tell_item(&mut self, names: &Names, item: &LogItem<'_>) {
+        match item.task {
+            Task::Enter { .. } => self.tell_enter(names, item),
+            Task::ExitRegion { holding } => self.tell_holding(names, item, &holding),
             Task::ExitData { .. } => {
-                self.tell_aim(names, told, did.aim);
-                self.tell_drop(names, told, did.step);
+                self.tell_aim(names, item);
+                self.tell_drop(names, item);
             }
-            Task::Move { .. } => self.tell_move(names, told, did.step),
+            Task::Move { .. } => self.tell_move(names, item),
         }
     }
 
-    fn tell_enter(&mut self, names: &Names, told: &LogItem<'_>, did: &Did) {
-        match did.step {
-            Step::Born { block, place } => {
-                let bare = Range {
-                    section: told.section(),
-                    block,
-                    structured: 0,
-                    dynamic: 0,
-                };
-                let placed = Placed { range: bare, place };
-                self.totals.mapped = self.totals.mapped.saturating_add(1);
-                self.reach_item(told, "absent");
-                self.tell_range(names, told, "mapped", placed);
-                self.tell_copy(names, told, did.step, placed);
-            }
-            Step::Counted { .. } => self.tell_counted(names, told),
-            _ => self.tell_nothing(names, told),
+    fn tell_enter(&mut self, names: &Names, item: &LogItem<'_>) {
+        match item.did.step {
+            Step::Born { block, place } => self.tell_birth(names, item, block, place),
+            Step::Counted { block } => self.tell_counted(names, item, block),
+            _ => self.tell_nothing(names, item),
         }
-        self.tell_aim(names, told, did.aim);
+        self.tell_aim(names, item);
     }
 
-    fn tell_counted(&mut self, names: &Names, told: &LogItem<'_>) {
-        let Some(found) = self.account.inside(told.section()) else {
+    fn tell_birth(&mut self, names: &Names, item: &LogItem<'_>, block: u64, place: u64) {
+        let range = Range {
+            section: item.task.section(),
+            block,
+            structured: 0,
+            dynamic: 0,
+        };
+        self.account.map(Placed { range, place });
+        self.totals.mapped = self.totals.mapped.saturating_add(1);
+        self.reach_item(&item.task, "absent");
+        if let Some(left) = self.account.recount(block, item.task) {
+            put_range(&mut self.page, names, item, "mapped", left);
+            self.tell_copy(names, item, left);
+        }
+    }
+
+    fn tell_counted(&mut self, names: &Names, item: &LogItem<'_>, block: u64) {
+        let Some(left) = self.account.recount(block, item.task) else {
             return;
         };
-        self.reach_item(told, "inside");
-        self.tell_range(names, told, "counted", found);
-        if told.task.gets_bytes() {
-            put_skipped(&mut self.page, names, told, "present");
+        self.reach_item(&item.task, "inside");
+        put_range(&mut self.page, names, item, "counted", left);
+        if item.task.gets_bytes() {
+            put_skipped(&mut self.page, names, item, "present");
         }
     }
 
     /// Puts what became of an item that a region held; nothing where its entry did nothing.
-    fn tell_holding(&mut self, names: &Names, told: &LogItem<'_>, holding: &Holding, did: &Did) {
+    fn tell_holding(&mut self, names: &Names, item: &LogItem<'_>, holding: &Holding) {
         if holding.aim.is_some() {
-            self.tell_aim(names, told, did.aim);
-            if matches!(did.aim, Aim::None) {
-                self.reach_pointer(told, "gone");
+            self.tell_aim(names, item);
+            if matches!(item.did.aim, Aim::None) {
+                self.reach_pointer(&item.task, "gone");
             }
         }
         if holding.block.is_none() {
-            self.reach_item(told, "nothing");
+            self.reach_item(&item.task, "nothing");
         } else {
-            self.tell_drop(names, told, did.step);
+            self.tell_drop(names, item);
         }
     }
 
     /// Puts the lines of an item that leaves: its copy, and its mapping, which ended or was counted once less.
     #[inline(always)]
-    fn tell_drop(&mut self, names: &Names, told: &LogItem<'_>, step: Step) {
-        let Step::Dropped { ended, .. } = step else {
-            self.tell_nothing(names, told);
+    fn tell_drop(&mut self, names: &Names, item: &LogItem<'_>) {
+        let Step::Dropped { block, ended } = item.did.step else {
+            self.tell_nothing(names, item);
             return;
         };
-        let Some(found) = self.account.inside(told.section()) else {
+        let Some(left) = self.account.recount(block, item.task) else {
             return;
         };
-        self.reach_item(told, way_out(*told.task, ended));
+        self.reach_item(&item.task, way_out(item.task, ended));
         if ended {
-            self.tell_end(names, told, step, found);
+            self.tell_copy(names, item, left);
+            self.totals.ended = self.totals.ended.saturating_add(1);
+            put_ended(&mut self.page, names, item, left);
             return;
         }
-        if told.task.gives_bytes() {
-            put_skipped(&mut self.page, names, told, "held");
+        if item.task.gives_bytes() {
+            put_skipped(&mut self.page, names, item, "held");
         }
-        self.tell_range(names, told, "dropped", found);
-    }
-
-    fn tell_end(&mut self, names: &Names, told: &LogItem<'_>, step: Step, found: Placed) {
-        self.tell_copy(names, told, step, found);
-        self.totals.ended = self.totals.ended.saturating_add(1);
-        self.account.remove(found);
-        put_ended(&mut self.page, names, told, found);
+        put_range(&mut self.page, names, item, "dropped", left);
     }
 
     /// Puts the lines of an item of `update`.
-    fn tell_move(&mut self, names: &Names, told: &LogItem<'_>, step: Step) {
-        match (step, self.account.inside(told.section())) {
-            (Step::Moved { .. }, Some(found)) => {
-                self.reach_item(told, "inside");
-                self.tell_copy(names, told, step, found);
-            }
-            _ => self.tell_nothing(names, told),
+    fn tell_move(&mut self, names: &Names, item: &LogItem<'_>) {
+        let Step::Moved { block } = item.did.step else {
+            self.tell_nothing(names, item);
+            return;
+        };
+        if let Some(found) = self.account.block(block) {
+            self.reach_item(&item.task, "inside");
+            self.tell_copy(names, item, found);
         }
     }
 
     /// Puts the line of an item that did nothing. The section is empty or absent, or nothing of `enter data` counts it.
     /// An item of `attach` or `detach` names none, and gets no line.
-    fn tell_nothing(&mut self, names: &Names, told: &LogItem<'_>) {
-        if told.task.names_pointer() {
+    fn tell_nothing(&mut self, names: &Names, item: &LogItem<'_>) {
+        if item.task.names_pointer() {
             return;
         }
-        self.reach_pointer(told, "nothing");
-        if told.section().len == 0 {
-            self.reach_item(told, "empty");
-            put_empty(&mut self.page, told);
+        self.reach_pointer(&item.task, "nothing");
+        let section = item.task.section();
+        if section.len == 0 {
+            self.reach_item(&item.task, "empty");
+            put_empty(&mut self.page, item);
             return;
         }
-        match self.account.inside(told.section()) {
+        match self.found(item, section) {
             Some(found) => {
-                self.reach_item(told, "inside, uncounted");
-                put_range(&mut self.page, names, told, "kept", found);
+                self.reach_item(&item.task, "inside, uncounted");
+                put_range(&mut self.page, names, item, "kept", found);
             }
             None => {
-                self.reach_item(told, "absent");
-                put_absent(&mut self.page, names, told, told.section());
+                self.reach_item(&item.task, "absent");
+                put_absent(&mut self.page, names, item, section);
             }
         }
     }
 
-    /// Puts the line of a range that an item counted or dropped, with the counters that it left.
-    #[inline(always)]
-    fn tell_range(&mut self, names: &Names, told: &LogItem<'_>, word: &str, found: Placed)
-        requires short { length word.now ≤ 10 }
-    {
-        let placed = Placed {
-            range: told.task.recounted(found.range),
-            place: found.place,
-        };
-        self.account.set(placed);
-        put_range(&mut self.page, names, told, word, placed);
+    /// The range that a section is inside. One that a later item mapped is not known yet.
+    fn found(&self, item: &LogItem<'_>, section: Section) -> Option<Placed> {
+        match item.table.find(self.account.device, section) {
+            Found::Inside { block, .. } => self.account.block(block),
+            _ => None,
+        }
     }
 
     /// Puts the line of an item's copy, if its step has one: made at once, or put into its queue.
-    fn tell_copy(&mut self, names: &Names, told: &LogItem<'_>, step: Step, placed: Placed) {
-        if !told.task.copies(step) {
+    fn tell_copy(&mut self, names: &Names, item: &LogItem<'_>, placed: Placed) {
+        if !item.task.copies(item.did.step) {
             return;
         }
-        let section = told.section();
+        let section = item.task.section();
         let copied = Copied {
             section,
             place: placed.place_of(section.start),
-            out: told.task.goes_out(),
+            out: item.task.goes_out(),
+            queue: item.task.queue(),
         };
-        let queue = told.task.queue();
-        match queue {
-            Some(queue) => self.account.put(queue, copied),
-            None => self.totals.copied(copied.out, copied.section.len),
+        match copied.queue {
+            Some(_) => self.account.put(copied),
+            None => self.totals.copied(copied.out, section.len),
         }
-        put_item_copy(&mut self.page, names, told, copied, queue);
+        put_item_copy(&mut self.page, names, item, copied);
     }
 
     /// Puts what an item did to its pointer, and keeps how often that is attached now.
     #[inline(always)]
-    fn tell_aim(&mut self, names: &Names, told: &LogItem<'_>, aim: Aim) {
-        if !matches!(aim, Aim::None) || told.task.names_pointer() {
-            self.tell_pointer(names, told, aim);
+    fn tell_aim(&mut self, names: &Names, item: &LogItem<'_>) {
+        if !matches!(item.did.aim, Aim::None) || item.task.names_pointer() {
+            self.tell_pointer(names, item);
         }
     }
 
-    fn tell_pointer(&mut self, names: &Names, told: &LogItem<'_>, aim: Aim) {
-        match aim {
+    fn tell_pointer(&mut self, names: &Names, item: &LogItem<'_>) {
+        let aim = item.did.aim;
+        let (pointer, block, target) = match aim {
             Aim::None => {
-                self.reach_no_aim(told);
-                let pointer = told.section().start;
-                put_pointer(
-                    &mut self.page,
-                    names,
-                    told,
-                    "unattached",
-                    pointer,
-                    None,
-                    None,
-                );
+                self.tell_no_aim(names, item);
+                return;
             }
             Aim::New {
                 pointer,
                 block,
                 target,
-            } => {
-                let was = self.account.attached(block, pointer);
-                self.reach_pointer(told, if was > 0 { "another target" } else { "new" });
-                self.tell_attached(names, told, block, pointer, Some(target), 1);
-            }
-            Aim::Again { pointer, block } => {
-                self.reach_pointer(told, "again");
-                let count = self.account.attached(block, pointer).saturating_add(1);
-                self.tell_attached(names, told, block, pointer, None, count);
-            }
-            Aim::Less { pointer, block } => {
-                let count = self.account.attached(block, pointer).saturating_sub(1);
-                self.reach_pointer(told, if count > 0 { "one of more" } else { "last" });
-                self.tell_detached(names, told, block, pointer, count);
-            }
-            Aim::Cleared { pointer, block } => {
-                let was = self.account.attached(block, pointer);
-                self.reach_pointer(told, if was > 1 { "several" } else { "last" });
-                self.tell_detached(names, told, block, pointer, 0);
-            }
-        }
-    }
-
-    /// Puts the line of a pointer that was attached, to a new target where it has one.
-    fn tell_attached(
-        &mut self,
-        names: &Names,
-        told: &LogItem<'_>,
-        block: u64,
-        pointer: u64,
-        target: Option<u64>,
-        count: u64,
-    ) {
+            } => (pointer, block, Some(target)),
+            Aim::Again { pointer, block }
+            | Aim::Less { pointer, block }
+            | Aim::Cleared { pointer, block } => (pointer, block, None),
+        };
+        let was = self.account.attached(block, pointer);
+        let count = count_after(aim, was);
+        self.reach_pointer(&item.task, way_aimed(aim, was));
         self.account.attach(block, pointer, count);
+        let word = aim_word(aim);
         put_pointer(
             &mut self.page,
             names,
-            told,
-            "attached",
+            item,
+            word,
             pointer,
             target,
             Some(count),
         );
     }
 
-    /// Puts the line of a pointer that was detached.
-    fn tell_detached(
-        &mut self,
-        names: &Names,
-        told: &LogItem<'_>,
-        block: u64,
-        pointer: u64,
-        count: u64,
-    ) {
-        self.account.attach(block, pointer, count);
-        put_pointer(
-            &mut self.page,
-            names,
-            told,
-            "detached",
-            pointer,
-            None,
-            Some(count),
-        );
-    }
-
-    /// Counts the row of a clause that is of pointers alone, where its item did nothing.
-    fn reach_no_aim(&mut self, told: &LogItem<'_>) {
-        let pointer = Section {
-            start: told.section().start,
-            len: 8,
-        };
-        let is_there = self.account.inside(pointer).is_some();
-        let outcome = match (is_there, told.task.goes_out()) {
-            (false, _) => "no pointer",
-            (true, false) => "no target",
-            (true, true) => "unattached",
-        };
-        self.reach_pointer(told, outcome);
+    /// Puts the line of a clause that is of pointers alone, where its item did nothing.
+    fn tell_no_aim(&mut self, names: &Names, item: &LogItem<'_>) {
+        let start = item.task.section().start;
+        if self.rows.is_some() {
+            let is_there = self.account.has(Section { start, len: 8 });
+            self.reach_pointer(&item.task, way_unaimed(item.task, is_there));
+        }
+        put_pointer(&mut self.page, names, item, "unattached", start, None, None);
     }
 }
 
@@ -284,5 +222,47 @@ fn way_out(task: Task, ended: bool) -> &'static str {
         (Task::ExitRegion { .. }, false) => "stays",
         (_, true) => "inside, ends",
         (_, false) => "inside, stays",
+    }
+}
+
+/// What became of a pointer that was attached so often, as the rows name it.
+fn way_aimed(aim: Aim, was: u64) -> &'static str {
+    match aim {
+        Aim::New { .. } if was > 0 => "another target",
+        Aim::New { .. } => "new",
+        Aim::Again { .. } => "again",
+        Aim::Less { .. } if was > 1 => "one of more",
+        Aim::Cleared { .. } if was > 1 => "several",
+        _ => "last",
+    }
+}
+
+/// Why nothing became of a pointer that is or is not in a mapped range, as the rows name it.
+fn way_unaimed(task: Task, is_there: bool) -> &'static str {
+    match (is_there, task.goes_out()) {
+        (false, _) => "no pointer",
+        (true, false) => "no target",
+        (true, true) => "unattached",
+    }
+}
+
+/// How often a pointer is attached that was attached so often.
+fn count_after(aim: Aim, was: u64) -> u64 {
+    match aim {
+        Aim::None => was,
+        Aim::New { .. } => 1,
+        Aim::Again { .. } => was.saturating_add(1),
+        Aim::Less { .. } => was.saturating_sub(1),
+        Aim::Cleared { .. } => 0,
+    }
+}
+
+/// The word of what became of a pointer.
+fn aim_word(aim: Aim) -> &'static str
+    ensures { length result.now ≤ 10 }
+{
+    match aim {
+        Aim::New { .. } | Aim::Again { .. } => "attached",
+        _ => "detached",
     }
 }

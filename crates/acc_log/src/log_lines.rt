@@ -4,7 +4,7 @@ ghost use Rattle.std.specs.Prelude.{◌≡◌, ◌+◌, ◌≤◌, [], length};
 
 use crate::accounts::{Copied, Placed};
 use crate::log_items::LogItem;
-use acc_base::{Fault, Section};
+use acc_base::{Fault, Range, Section};
 use acc_read::{Names, Page, Spot};
 use acc_script::Line;
 
@@ -84,32 +84,37 @@ pub fn put_written(page: &mut Page, names: &Names, section: Section) {
 }
 
 /// Puts the line of a copy that was the first of a queue, and was made.
-pub fn put_copied(page: &mut Page, names: &Names, copied: Copied, queue: u64) {
+pub fn put_copied(page: &mut Page, names: &Names, copied: Copied) {
     let mut line = Line::new();
-    put_name(&mut line, names, copied.section);
-    put_queue(&mut line, queue);
-    put_copy(&mut line, copied);
+    put_copy(&mut line, names, copied);
     line.put(b"lamwiest:   copied");
     page.bytes(line.as_slice());
 }
 
 /// Puts the line of a loan to a kernel, or of its end, by its serial number (OpenACC 3.3, section 2.5).
-pub fn put_loan(page: &mut Page, names: &Names, word: &str, copied: Copied, serial: u64)
+pub fn put_loan(
+    page: &mut Page,
+    names: &Names,
+    word: &str,
+    section: Section,
+    place: u64,
+    serial: u64,
+)
     requires short { length word.now ≤ 10 }
 {
     let mut line = Line::new();
-    put_name(&mut line, names, copied.section);
+    put_name(&mut line, names, section);
     line.put_number(serial);
     line.put(b" serial ");
-    put_place(&mut line, copied.place);
-    put_addresses(&mut line, copied.section);
+    put_place(&mut line, place);
+    put_addresses(&mut line, section);
     line.put(word.as_bytes());
     line.put(b"lamwiest:   ");
     page.bytes(line.as_slice());
 }
 
 /// Puts the line of a mapped range with its counters.
-pub fn put_range(page: &mut Page, names: &Names, told: &LogItem<'_>, word: &str, placed: Placed)
+pub fn put_range(page: &mut Page, names: &Names, item: &LogItem<'_>, word: &str, placed: Placed)
     requires short { length word.now ≤ 10 }
 {
     let mut line = Line::new();
@@ -118,70 +123,58 @@ pub fn put_range(page: &mut Page, names: &Names, told: &LogItem<'_>, word: &str,
     line.put(b" dynamic ");
     line.put_number(placed.range.structured);
     line.put(b" structured ");
-    put_place(&mut line, placed.place);
-    put_section(&mut line, told, word, placed.range.section);
+    put_front(&mut line, placed);
+    put_item(&mut line, item, word);
     page.bytes(line.as_slice());
 }
 
 /// Puts the line of a range whose mapping has ended.
-pub fn put_ended(page: &mut Page, names: &Names, told: &LogItem<'_>, placed: Placed) {
+pub fn put_ended(page: &mut Page, names: &Names, item: &LogItem<'_>, placed: Placed) {
     let mut line = Line::new();
     put_name(&mut line, names, placed.range.section);
-    put_place(&mut line, placed.place);
-    put_section(&mut line, told, "ended", placed.range.section);
+    put_front(&mut line, placed);
+    put_item(&mut line, item, "ended");
     page.bytes(line.as_slice());
 }
 
 /// Puts the line of a section that is not mapped.
-pub fn put_absent(page: &mut Page, names: &Names, told: &LogItem<'_>, section: Section) {
+pub fn put_absent(page: &mut Page, names: &Names, item: &LogItem<'_>, section: Section) {
     let mut line = Line::new();
     put_name(&mut line, names, section);
-    put_section(&mut line, told, "absent", section);
+    put_addresses(&mut line, section);
+    put_item(&mut line, item, "absent");
     page.bytes(line.as_slice());
 }
 
 /// Puts the line of a section of no byte.
-pub fn put_empty(page: &mut Page, told: &LogItem<'_>) {
+pub fn put_empty(page: &mut Page, item: &LogItem<'_>) {
     let mut line = Line::new();
     line.put(b"\n");
-    put_item(&mut line, told, "empty");
+    put_item(&mut line, item, "empty");
     page.bytes(line.as_slice());
 }
 
 /// Puts the line of a copy that was made, or put into a queue.
-pub fn put_item_copy(
-    page: &mut Page,
-    names: &Names,
-    told: &LogItem<'_>,
-    copied: Copied,
-    queue: Option<u64>,
-) {
+pub fn put_item_copy(page: &mut Page, names: &Names, item: &LogItem<'_>, copied: Copied) {
     let mut line = Line::new();
-    put_name(&mut line, names, copied.section);
-    if let Some(queue) = queue {
-        put_queue(&mut line, queue);
-    }
-    put_copy(&mut line, copied);
-    put_item(
-        &mut line,
-        told,
-        if queue.is_some() { "put" } else { "copied" },
-    );
+    put_copy(&mut line, names, copied);
+    let is_put = copied.queue.is_some();
+    put_item(&mut line, item, if is_put { "put" } else { "copied" });
     page.bytes(line.as_slice());
 }
 
 /// Puts the line of a copy that was not made, and why.
-pub fn put_skipped(page: &mut Page, names: &Names, told: &LogItem<'_>, why: &str)
+pub fn put_skipped(page: &mut Page, names: &Names, item: &LogItem<'_>, why: &str)
     requires short { length why.now ≤ 10 }
 {
-    let section = told.section();
+    let section = item.task.section();
     let mut line = Line::new();
     put_name(&mut line, names, section);
     line.put(why.as_bytes());
     line.put(b" ");
     put_addresses(&mut line, section);
-    put_way(&mut line, told.task.goes_out());
-    put_item(&mut line, told, "skipped");
+    put_way(&mut line, item.task.goes_out());
+    put_item(&mut line, item, "skipped");
     page.bytes(line.as_slice());
 }
 
@@ -189,7 +182,7 @@ pub fn put_skipped(page: &mut Page, names: &Names, told: &LogItem<'_>, why: &str
 pub fn put_pointer(
     page: &mut Page,
     names: &Names,
-    told: &LogItem<'_>,
+    item: &LogItem<'_>,
     word: &str,
     pointer: u64,
     target: Option<u64>,
@@ -209,40 +202,44 @@ pub fn put_pointer(
     }
     line.put_address(pointer);
     line.put(b" ");
-    put_item(&mut line, told, word);
+    put_item(&mut line, item, word);
     page.bytes(line.as_slice());
 }
 
 /// Begins the line of an item, by its place in the directive, with a word.
 #[inline(always)]
-fn put_item(line: &mut Line, told: &LogItem<'_>, word: &str)
+fn put_item(line: &mut Line, item: &LogItem<'_>, word: &str)
     requires room { length line.old ≤ 206 }
     requires short { length word.now ≤ 10 }
     ensures { length line.new ≤ 256 }
 {
     line.put(word.as_bytes());
     line.put(b": ");
-    line.put_number(told.place as u64);
+    line.put_number(item.place as u64);
     line.put(b"lamwiest:   item ");
 }
 
-/// Begins the line of an item with what became of a section.
+/// Puts the addresses of a range, and its first device address.
 #[inline(always)]
-fn put_section(line: &mut Line, told: &LogItem<'_>, word: &str, section: Section)
-    requires room { length line.old ≤ 165 }
-    requires short { length word.now ≤ 10 }
-    ensures { length line.new ≤ 256 }
+fn put_front(line: &mut Line, placed: Placed)
+    requires room { length line.old ≤ 143 }
+    ensures { length line.new ≤ length line.old + 62 }
 {
-    put_addresses(line, section);
-    put_item(line, told, word);
+    put_place(line, placed.place);
+    put_addresses(line, placed.range.section);
 }
 
-/// Puts the direction of a copy, its host address, its length in bytes and its device address.
+/// Ends a line with the direction of a copy, its host address, its length in bytes, its device address and its queue,
+/// where it has one.
 #[inline(always)]
-fn put_copy(line: &mut Line, copied: Copied)
-    requires room { length line.old ≤ 120 }
-    ensures { length line.new ≤ length line.old + 66 }
+fn put_copy(line: &mut Line, names: &Names, copied: Copied)
+    requires none { line.old ≡ [] }
+    ensures { length line.new ≤ 175 }
 {
+    put_name(line, names, copied.section);
+    if let Some(queue) = copied.queue {
+        put_queue(line, queue);
+    }
     put_place(line, copied.place);
     put_addresses(line, copied.section);
     put_way(line, copied.out);

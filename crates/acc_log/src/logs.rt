@@ -1,12 +1,12 @@
 //! The log: each call of a script, and behind it a line for each thing that it did, read from the events of the table.
 //! Bytes are copied in to the device and copied out to host memory, in the words of OpenACC.
 
-use crate::accounts::{Account, Copied};
+use crate::accounts::Account;
 use crate::log_items::LogItem;
 use crate::log_lines::{
     put_copied, put_device, put_head, put_inner, put_loan, put_refused, put_region, put_written,
 };
-use crate::rows::{RowCounts, RuleName, has_readonly};
+use crate::rows::{RowCounts, RuleName, directive_of, has_pointer, has_readonly, modifier_of};
 use crate::totals::{Totals, put_total};
 use acc_base::{Event, Fault, Section, Task};
 use acc_read::{Names, Page, Statement};
@@ -27,8 +27,8 @@ pub struct Log {
     pub(crate) totals: Totals,
     /// How many events of the trace are in the log.
     told: usize,
-    /// The loan of the kernel that runs.
-    lent: Option<Copied>,
+    /// The section that the kernel that runs is lent, and its device address.
+    lent: Option<(Section, u64)>,
     /// Whether the statement has the modifier `readonly`.
     readonly: bool,
 }
@@ -67,7 +67,7 @@ impl Log {
         if self.told < trace.len() || is_outcome(effect) {
             put_head(&mut self.page, number, text);
             self.tell_device(table);
-            self.tell_events(names, trace);
+            self.tell_events(names, table);
             self.put_outcome(effect);
         }
         if self.account.wants() {
@@ -94,9 +94,8 @@ impl Log {
         };
         match statement {
             Statement::Direct(directive) => {
-                let place = place as usize;
-                if let Some(task) = &directive.task(place) {
-                    self.reach_item(&LogItem { place, task }, outcome);
+                if let Some(task) = &directive.task(place as usize) {
+                    self.reach_item(task, outcome);
                 }
             }
             Statement::Kernel { section, .. } if section.len == 0 => self.reach("kernel", "empty"),
@@ -106,43 +105,43 @@ impl Log {
 
     /// Counts the row of what became of an item, where rows are counted.
     #[inline(always)]
-    pub(crate) fn reach_item(&mut self, told: &LogItem<'_>, outcome: &'static str) {
+    pub(crate) fn reach_item(&mut self, task: &Task, outcome: &'static str) {
         if self.rows.is_some() {
-            self.count_item(told, outcome);
+            self.count_item(task, outcome);
         }
     }
 
-    fn count_item(&mut self, told: &LogItem<'_>, outcome: &'static str) {
-        let (directive, clause) = (told.directive(), told.task.word());
-        let is_queued = told.task.queue().is_some();
+    fn count_item(&mut self, task: &Task, outcome: &'static str) {
+        let (directive, clause, modifier) = (directive_of(task), task.word(), modifier_of(task));
+        let is_queued = task.queue().is_some();
         if is_queued {
             self.reach_clause((directive, clause, "async"), outcome);
         }
         if self.readonly && clause == "copyin" {
             self.reach_clause((directive, clause, "readonly"), outcome);
-        } else if !is_queued || !told.modifier().is_empty() {
-            self.reach_clause((directive, clause, told.modifier()), outcome);
+        } else if !is_queued || !modifier.is_empty() {
+            self.reach_clause((directive, clause, modifier), outcome);
         }
     }
 
     /// Counts the row of what became of the pointer of an item, where rows are counted.
     #[inline(always)]
-    pub(crate) fn reach_pointer(&mut self, told: &LogItem<'_>, outcome: &'static str) {
+    pub(crate) fn reach_pointer(&mut self, task: &Task, outcome: &'static str) {
         if self.rows.is_some() {
-            self.count_pointer(told, outcome);
+            self.count_pointer(task, outcome);
         }
     }
 
-    fn count_pointer(&mut self, told: &LogItem<'_>, outcome: &'static str) {
-        let (directive, clause) = (told.directive(), told.task.word());
-        if told.task.names_pointer() {
-            self.reach_clause((directive, clause, told.modifier()), outcome);
-        } else if told.has_pointer() {
-            let clause = match *told.task {
+    fn count_pointer(&mut self, task: &Task, outcome: &'static str) {
+        let (directive, clause, modifier) = (directive_of(task), task.word(), modifier_of(task));
+        if task.names_pointer() {
+            self.reach_clause((directive, clause, modifier), outcome);
+        } else if has_pointer(task) {
+            let clause = match *task {
                 Task::ExitRegion { .. } => "",
                 _ => clause,
             };
-            let is_final = told.modifier() == "finalize";
+            let is_final = modifier == "finalize";
             let via = if is_final { "via finalize" } else { "via" };
             self.reach_clause((directive, clause, via), outcome);
         }
@@ -168,10 +167,11 @@ impl Log {
         }
     }
 
-    fn tell_events(&mut self, names: &Names, trace: &[Event]) {
+    fn tell_events(&mut self, names: &Names, table: &Table) {
+        let trace = table.trace();
         for at in self.told..trace.len() {
             if let Some(event) = trace.get(at) {
-                self.tell_event(names, trace, at, event);
+                self.tell_event(names, table, at, event);
             }
         }
         self.told = trace.len();
@@ -191,20 +191,20 @@ impl Log {
         }
     }
 
-    fn tell_event(&mut self, names: &Names, trace: &[Event], at: usize, event: &Event) {
+    fn tell_event(&mut self, names: &Names, table: &Table, at: usize, event: &Event) {
         self.account.device = event.device();
         match event {
             Event::Entered { number, .. } => {
-                self.tell_items(names, event);
+                self.tell_items(names, table, event);
                 self.account.open(at);
                 put_region(&mut self.page, "entered region ", *number);
             }
             Event::Left { number, .. } => {
-                self.tell_exit(names, trace, event);
+                self.tell_exit(names, table, event);
                 put_region(&mut self.page, "exited region ", *number);
             }
             Event::EnteredData { .. } | Event::ExitedData { .. } | Event::Updated { .. } => {
-                self.tell_items(names, event)
+                self.tell_items(names, table, event)
             }
             _ => self.tell_short(names, event),
         }
@@ -227,31 +227,46 @@ impl Log {
             }
             Event::Lent {
                 section,
+                block,
                 serial,
                 ..
-            } => self.tell_lent(names, *section, *serial),
+            } => self.tell_lent(names, *section, *block, *serial),
             Event::Gathered { serial, .. } => self.tell_gathered(names, *serial),
             _ => {}
         }
     }
 
     /// Puts the lines of the items that an event names.
-    fn tell_items(&mut self, names: &Names, event: &Event) {
+    fn tell_items(&mut self, names: &Names, table: &Table, event: &Event) {
         for (place, did) in event.did().iter().enumerate() {
-            if let Some(task) = &event.task(place) {
-                self.tell_item(names, &LogItem { place, task }, did);
+            if let Some(task) = event.task(place) {
+                let did = *did;
+                let item = LogItem {
+                    table,
+                    place,
+                    task,
+                    did,
+                };
+                self.tell_item(names, &item);
             }
         }
     }
 
     /// Puts the lines of the items of `end data`, the last one first.
-    fn tell_exit(&mut self, names: &Names, trace: &[Event], event: &Event) {
-        let Some(entry) = self.account.close().and_then(|at| trace.get(at)) else {
+    fn tell_exit(&mut self, names: &Names, table: &Table, event: &Event) {
+        let Some(entry) = self.account.close().and_then(|at| table.trace().get(at)) else {
             return;
         };
         for (place, did) in event.did().iter().enumerate().rev() {
-            if let Some(task) = &entry.exit_task(place) {
-                self.tell_item(names, &LogItem { place, task }, did);
+            if let Some(task) = entry.exit_task(place) {
+                let did = *did;
+                let item = LogItem {
+                    table,
+                    place,
+                    task,
+                    did,
+                };
+                self.tell_item(names, &item);
             }
         }
     }
@@ -277,27 +292,23 @@ impl Log {
     fn tell_made(&mut self, names: &Names, queue: u64) {
         if let Some(copied) = self.account.take(queue) {
             self.totals.copied(copied.out, copied.section.len);
-            put_copied(&mut self.page, names, copied, queue);
+            put_copied(&mut self.page, names, copied);
         }
     }
 
-    fn tell_lent(&mut self, names: &Names, section: Section, serial: u64) {
-        if let Some(found) = self.account.inside(section) {
-            let copied = Copied {
-                section,
-                place: found.place_of(section.start),
-                out: false,
-            };
-            self.lent = Some(copied);
+    fn tell_lent(&mut self, names: &Names, section: Section, block: u64, serial: u64) {
+        if let Some(found) = self.account.block(block) {
+            let place = found.place_of(section.start);
+            self.lent = Some((section, place));
             self.reach("kernel", "inside");
-            put_loan(&mut self.page, names, "lent", copied, serial);
+            put_loan(&mut self.page, names, "lent", section, place, serial);
         }
     }
 
     fn tell_gathered(&mut self, names: &Names, serial: u64) {
-        if let Some(copied) = self.lent {
+        if let Some((section, place)) = self.lent {
             self.lent = None;
-            put_loan(&mut self.page, names, "gathered", copied, serial);
+            put_loan(&mut self.page, names, "gathered", section, place, serial);
         }
     }
 }

@@ -1,5 +1,6 @@
 //! The rows of the clause tables, and how often each was reached.
 
+use acc_base::{Counter, Task};
 use acc_read::Page;
 use std::alloc::Global;
 use std::collections::BTreeMap;
@@ -169,6 +170,47 @@ fn put_name(page: &mut Page, rule: RuleName, outcome: &str) {
     }
     page.text(", ");
     page.text(outcome);
+}
+
+/// The words of the directive of an item.
+pub(crate) fn directive_of(task: &Task) -> &'static str {
+    match *task {
+        Task::Enter {
+            counter: Counter::Structured,
+            ..
+        } => "data",
+        Task::Enter {
+            counter: Counter::Dynamic,
+            ..
+        } => "enter data",
+        Task::ExitRegion { .. } => "end data",
+        Task::ExitData { .. } => "exit data",
+        Task::Move { .. } => "update",
+    }
+}
+
+/// The modifier of the clause of an item, or the option of its directive beside `async`; an empty text where there is
+/// none.
+pub(crate) fn modifier_of(task: &Task) -> &'static str {
+    match *task {
+        Task::Enter { item, .. } if item.clause.is_zeroed() => "zero",
+        Task::ExitData { finalize: true, .. } => "finalize",
+        Task::Move {
+            if_present: true,
+            ..
+        } => "if_present",
+        _ => "",
+    }
+}
+
+/// Whether a pointer to its section stands beside an item.
+pub(crate) fn has_pointer(task: &Task) -> bool {
+    match *task {
+        Task::Enter { item, .. } => item.pointer.is_some(),
+        Task::ExitRegion { holding } => holding.item.pointer.is_some(),
+        Task::ExitData { item, .. } => item.pointer.is_some(),
+        Task::Move { .. } => false,
+    }
 }
 
 /// Whether a line has the modifier `readonly`, which no event has: a colon stands behind it, as behind no name.

@@ -53,28 +53,18 @@ impl Totals {
 pub fn put_total(page: &mut Page, totals: &Totals, waiting: u64) {
     page.text(MARK);
     page.text("total");
-    put_counts(page, " mapped ", totals.mapped, " ended ", totals.ended);
-    put_counts(
-        page,
-        " copied in ",
-        totals.copies_in,
-        " bytes ",
-        totals.bytes_in,
-    );
-    put_counts(
-        page,
-        " copied out ",
-        totals.copies_out,
-        " bytes ",
-        totals.bytes_out,
-    );
-    put_counts(page, " waiting ", waiting, " refused ", totals.refused);
+    for (words, number) in [
+        (" mapped ", totals.mapped),
+        (" ended ", totals.ended),
+        (" copied in ", totals.copies_in),
+        (" bytes ", totals.bytes_in),
+        (" copied out ", totals.copies_out),
+        (" bytes ", totals.bytes_out),
+        (" waiting ", waiting),
+        (" refused ", totals.refused),
+    ] {
+        page.text(words);
+        page.number(number);
+    }
     page.text("\n");
-}
-
-fn put_counts(page: &mut Page, word: &str, number: u64, other_word: &str, other: u64) {
-    page.text(word);
-    page.number(number);
-    page.text(other_word);
-    page.number(other);
 }

@@ -46,7 +46,7 @@ impl Log {
         self.totals.mapped = self.totals.mapped.saturating_add(1);
         self.reach_item(&item.task, "absent");
         if let Some(left) = self.account.recount(block, item.task) {
-            put_range(&mut self.page, names, item, "mapped", left);
+            put_range(&mut self.page, names, &mut self.texts, item, "mapped", left);
             self.tell_copy(names, item, left);
         }
     }
@@ -56,9 +56,16 @@ impl Log {
             return;
         };
         self.reach_item(&item.task, "inside");
-        put_range(&mut self.page, names, item, "counted", left);
+        put_range(
+            &mut self.page,
+            names,
+            &mut self.texts,
+            item,
+            "counted",
+            left,
+        );
         if item.task.gets_bytes() {
-            put_skipped(&mut self.page, names, item, "present");
+            put_skipped(&mut self.page, names, &self.texts, item, "present");
         }
     }
 
@@ -95,9 +102,16 @@ impl Log {
             return;
         }
         if item.task.gives_bytes() {
-            put_skipped(&mut self.page, names, item, "held");
+            put_skipped(&mut self.page, names, &self.texts, item, "held");
         }
-        put_range(&mut self.page, names, item, "dropped", left);
+        put_range(
+            &mut self.page,
+            names,
+            &mut self.texts,
+            item,
+            "dropped",
+            left,
+        );
     }
 
     /// Puts the lines of an item of `update`.
@@ -128,7 +142,7 @@ impl Log {
         match self.found(item, section) {
             Some(found) => {
                 self.reach_item(&item.task, "inside, uncounted");
-                put_range(&mut self.page, names, item, "kept", found);
+                put_range(&mut self.page, names, &mut self.texts, item, "kept", found);
             }
             None => {
                 self.reach_item(&item.task, "absent");

@@ -8,6 +8,7 @@ mod log_items;
 mod log_lines;
 mod logs;
 mod rows;
+mod texts;
 mod totals;
 
 pub use logs::Log;

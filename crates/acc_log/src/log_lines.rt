@@ -4,6 +4,7 @@ ghost use Rattle.std.specs.Prelude.{◌≡◌, ◌+◌, ◌≤◌, [], length};
 
 use crate::accounts::{Copied, Placed};
 use crate::log_items::LogItem;
+use crate::texts::Texts;
 use acc_base::{Fault, Range, Section};
 use acc_read::{Names, Page, Spot};
 use acc_script::Line;
@@ -114,16 +115,24 @@ pub fn put_loan(
 }
 
 /// Puts the line of a mapped range with its counters.
-pub fn put_range(page: &mut Page, names: &Names, item: &LogItem<'_>, word: &str, placed: Placed)
+pub fn put_range(
+    page: &mut Page,
+    names: &Names,
+    texts: &mut Texts,
+    item: &LogItem<'_>,
+    word: &str,
+    placed: Placed,
+)
     requires short { length word.now ≤ 10 }
 {
+    texts.note(names, placed);
     let mut line = Line::new();
-    put_name(&mut line, names, placed.range.section);
+    texts.put_name(&mut line, names, placed.range.section);
     line.put_number(placed.range.dynamic);
     line.put(b" dynamic ");
     line.put_number(placed.range.structured);
     line.put(b" structured ");
-    put_front(&mut line, placed);
+    texts.put_front(&mut line, placed);
     put_item(&mut line, item, word);
     page.bytes(line.as_slice());
 }
@@ -164,12 +173,12 @@ pub fn put_item_copy(page: &mut Page, names: &Names, item: &LogItem<'_>, copied:
 }
 
 /// Puts the line of a copy that was not made, and why.
-pub fn put_skipped(page: &mut Page, names: &Names, item: &LogItem<'_>, why: &str)
+pub fn put_skipped(page: &mut Page, names: &Names, texts: &Texts, item: &LogItem<'_>, why: &str)
     requires short { length why.now ≤ 10 }
 {
     let section = item.task.section();
     let mut line = Line::new();
-    put_name(&mut line, names, section);
+    texts.put_name(&mut line, names, section);
     line.put(why.as_bytes());
     line.put(b" ");
     put_addresses(&mut line, section);
@@ -221,7 +230,7 @@ fn put_item(line: &mut Line, item: &LogItem<'_>, word: &str)
 
 /// Puts the addresses of a range, and its first device address.
 #[inline(always)]
-fn put_front(line: &mut Line, placed: Placed)
+pub fn put_front(line: &mut Line, placed: Placed)
     requires room { length line.old ≤ 143 }
     ensures { length line.new ≤ length line.old + 62 }
 {
@@ -292,7 +301,7 @@ fn put_queue(line: &mut Line, queue: u64)
 
 /// Ends a line with the name of a section, where one array has it: `a[8:4]`, or `a` where it is the whole array.
 #[inline(always)]
-fn put_name(line: &mut Line, names: &Names, section: Section)
+pub fn put_name(line: &mut Line, names: &Names, section: Section)
     requires none { line.old ≡ [] }
     ensures { length line.new ≤ 82 }
 {

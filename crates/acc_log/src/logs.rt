@@ -7,6 +7,7 @@ use crate::log_lines::{
     put_copied, put_device, put_head, put_inner, put_loan, put_refused, put_region, put_written,
 };
 use crate::rows::{RowCounts, RuleName, directive_of, has_pointer, has_readonly, modifier_of};
+use crate::texts::Texts;
 use crate::totals::{Totals, put_total};
 use acc_base::{Event, Fault, Section, Task};
 use acc_read::{Names, Page, Statement};
@@ -23,6 +24,8 @@ pub struct Log {
     pub rows: Option<RowCounts>,
     /// What the events in the log say of ranges, pointers, queues and regions.
     pub(crate) account: Account,
+    /// The texts of the range that its lines name.
+    pub(crate) texts: Texts,
     /// What the events in the log did in all.
     pub(crate) totals: Totals,
     /// How many events of the trace are in the log.
@@ -40,6 +43,7 @@ impl Log {
             page: Page::new(alloc),
             rows: None,
             account: Account::new(alloc),
+            texts: Texts::new(),
             totals: Totals::new(),
             told: 0,
             lent: None,

@@ -2,8 +2,9 @@
 
 use crate::accounts::{Account, Held};
 use crate::findings::{Finding, Kind, Note, Origin, put_drop, put_finding, put_leak, put_needless};
-use crate::histories::{Cause, History, has_address};
-use acc_base::{Config, Directive, Fault, Found, Item, Section, Transfer, UpdateClause};
+use crate::histories::{Cause, History};
+use crate::looks::{Looks, part_of};
+use acc_base::{Config, Directive, Fault, Found, Item, Section, UpdateClause};
 use acc_read::{Names, Page, ScriptKernel, Statement};
 use acc_stale::{Known, Mark, Placed, Run};
 use acc_table::Table;
@@ -16,12 +17,12 @@ pub(crate) struct Kernel {
     pub kernel: ScriptKernel,
     /// The section that is lent to it.
     pub section: Section,
-    /// The bytes that the device has of the section before; none where the kernel leaves each byte another one.
-    pub before: Vec<u8>,
+    /// The bytes that the device has of the section before, or `None` where the kernel leaves each byte another one.
+    pub before: Option<Vec<u8>>,
 }
 
 /// Whether a kernel leaves each byte another one, whatever it was.
-pub(crate) fn leaves_others(kernel: ScriptKernel) -> bool {
+fn leaves_others(kernel: ScriptKernel) -> bool {
     match kernel {
         ScriptKernel::Add(number) | ScriptKernel::Xor(number) => number != 0,
         _ => false,
@@ -37,16 +38,14 @@ pub struct Check {
     pub(crate) history: History,
     /// What is told, and how.
     telling: Telling,
-    /// Mappings that ended while the device had newer bytes, which nobody read so far.
-    drops: Vec<Held>,
+    /// What was found in the line, and what was dropped.
+    pub(crate) looks: Looks,
     /// What updates copied that was equal already.
     needless: Needless,
     /// The number of the line that ran.
     pub(crate) line: u64,
     /// The kernel of that line.
     pub(crate) kernel: Option<Kernel>,
-    /// What was found in the line.
-    findings: Vec<Finding>,
     /// How many events of the trace were seen.
     seen: usize,
     /// How many findings there were.
@@ -97,14 +96,13 @@ impl Check {
             account: Account::new(alloc),
             history: History::new(alloc),
             telling,
-            drops: Vec::new(alloc),
+            looks: Looks::new(alloc, telling.all),
             needless: Needless {
                 copies: 0,
                 bytes: 0,
             },
             line: 0,
             kernel: None,
-            findings: Vec::new(alloc),
             seen: 0,
             count: 0,
         })
@@ -152,13 +150,13 @@ impl Check {
         kernel: ScriptKernel,
         section: Section,
         table: &Table,
-    ) -> Result<Vec<u8>, Fault> {
+    ) -> Result<Option<Vec<u8>>, Fault> {
         if leaves_others(kernel) {
-            return Ok(Vec::new(self.alloc));
+            return Ok(None);
         }
         let device = table.device_of_region(region);
         let bytes = table.device_read(device, section).unwrap_or(&[]);
-        Ok(Vec::from_slice(self.alloc, bytes)?)
+        Ok(Some(Vec::from_slice(self.alloc, bytes)?))
     }
 
     /// Sees a line after it ran, and puts what it read that is stale. `shown` is the section of host memory that it
@@ -183,15 +181,15 @@ impl Check {
             }
         }
         self.seen = trace.len();
-        self.sift_drops();
+        self.looks.sift_drops(&self.known);
         if let Some(section) = shown {
             self.find_in_host(table, section, 0)?;
         }
-        for finding in self.findings.iter() {
+        for finding in self.looks.findings.iter() {
             put_finding(page, names, line, self.telling.json, *finding);
         }
-        self.count = self.count.saturating_add(self.findings.len() as u64);
-        self.findings.clear();
+        self.count = self.count.saturating_add(self.looks.findings.len() as u64);
+        self.looks.findings.clear();
         Ok(())
     }
 
@@ -217,7 +215,7 @@ impl Check {
                 from = range.start.saturating_add(range.len);
             }
         }
-        for held in self.drops.iter() {
+        for held in self.looks.drops.iter() {
             put_drop(
                 page,
                 names,
@@ -281,8 +279,8 @@ impl Check {
                 _ => (Kind::Unfilled, Note::None),
             };
             let cause = self.cause(run.mark, None, section.start);
-            self.forget_drops(section);
-            self.findings.push(Finding {
+            self.looks.forget_drops(section);
+            self.looks.findings.push(Finding {
                 kind,
                 section,
                 nth,
@@ -336,7 +334,7 @@ impl Check {
                 None => note,
             };
             let cause = self.cause(run.mark, Some(placed.device), section.start);
-            self.findings.push(Finding {
+            self.looks.findings.push(Finding {
                 kind,
                 section,
                 nth: 0,
@@ -351,58 +349,6 @@ impl Check {
 
 impl Check {
     // ---- what may be meant
-
-    /// Finds what a copy is about to overwrite that is newer.
-    pub(crate) fn find_overwritten(&mut self, placed: Placed, t: Transfer) -> Result<(), Fault> {
-        if !self.telling.all {
-            return Ok(());
-        }
-        let (from, over) = if t.out {
-            let from = self.known.stale_device(placed, t.section);
-            (from, self.known.stale_host(t.section))
-        } else {
-            let from = self.known.stale_host(t.section);
-            (from, self.known.stale_device(placed, t.section))
-        };
-        match from {
-            Some(run) if run.mark == Mark::Behind && !is_stale_at(over, run) => {
-                self.findings.push(Finding {
-                    kind: Kind::Overwritten,
-                    section: part_of(t.section, run),
-                    nth: 0,
-                    note: Note::None,
-                    cause: Cause {
-                        written: None,
-                        missed: None,
-                    },
-                })?;
-            }
-            _ => {}
-        }
-        Ok(())
-    }
-
-    /// Keeps a mapping that ends, unless the device has older bytes than the host.
-    pub(crate) fn note_drop(&mut self, held: Held) -> Result<(), Fault> {
-        if self.telling.all && !is_behind(self.known.stale_device(held.placed, held.section)) {
-            let line = self.line;
-            self.drops.push(Held { line, ..held })?;
-        }
-        Ok(())
-    }
-
-    /// Leaves out mappings that ended of which the host is not behind: their bytes were copied, or written again.
-    fn sift_drops(&mut self) {
-        let known = &self.known;
-        self.drops
-            .retain(|held| is_behind(known.stale_host(held.section)));
-    }
-
-    /// Leaves out mappings that ended, since the host reads their bytes: that is told.
-    fn forget_drops(&mut self, section: Section) {
-        self.drops
-            .retain(|held| !has_address(held.section, section.start));
-    }
 
     /// Counts what an update is about to copy that is equal already.
     fn count_needless(&mut self, directive: &Directive, table: &Table) {
@@ -432,26 +378,6 @@ fn is_equal(table: &Table, device: u64, item: Item<UpdateClause>) -> bool {
     ) {
         (Some(host), Some(own)) => host == own,
         _ => false,
-    }
-}
-
-/// Whether the first bytes that are not new are behind.
-fn is_behind(run: Option<Run>) -> bool {
-    run.map_or(false, |run| run.mark == Mark::Behind)
-}
-
-/// Whether bytes that are not new begin at or before those of another run, and reach it.
-fn is_stale_at(over: Option<Run>, run: Run) -> bool {
-    over.map_or(false, |over| {
-        over.at <= run.at && run.at < over.at.saturating_add(over.len)
-    })
-}
-
-/// The addresses of a run in a section.
-fn part_of(section: Section, run: Run) -> Section {
-    Section {
-        start: section.start.saturating_add(run.at as u64),
-        len: run.len as u64,
     }
 }
 

@@ -1,10 +1,10 @@
 //! What each event does to the bytes that are told of it.
 
 use crate::accounts::{Held, Waiting};
-use crate::checks::{Check, leaves_others};
+use crate::checks::Check;
 use crate::histories::{Deed, Done};
-use acc_base::{Aim, Did, Event, Fault, Found, Section, Step, Task, Transfer};
-use acc_stale::{Placed, transfer_of};
+use acc_base::{Aim, Attachment, Did, Event, Fault, Found, Section, Step, Task, Transfer};
+use acc_stale::{Acted, Holder, Part, Placed, transfer_of};
 use acc_table::Table;
 
 impl Check {
@@ -70,32 +70,62 @@ impl Check {
         Ok(())
     }
 
-    /// An item that enters attaches its pointer after its step, and one that leaves detaches it before.
+    /// Tells what an item did, and what of it is to be looked at.
     fn see_item(&mut self, device: u64, task: Task, did: Did) -> Result<(), Fault> {
-        if let Task::Enter { .. } = task {
-            self.see_step(device, task, did.step)?;
-            return self.see_aim(device, did.aim);
+        let ends = self.note_kept(device, task, did.step)?;
+        let block = self.placed_by(device, task.section(), did.step)?;
+        let (attached, holder) = self.pointers_by(device, task, block, did.aim)?;
+        let copy = block.and_then(|b| Some((b, transfer_of(task, did.step, b.start)?)));
+        let queue = task.queue();
+        self.looks.expect(ends, copy.filter(|_| queue.is_none()));
+        let acted = Acted {
+            device,
+            task,
+            did,
+            block,
+            holder,
+        };
+        self.known.acted(&acted, &attached, &mut self.looks)?;
+        match copy {
+            Some((_, t)) => self.keep_transfer(device, t, queue),
+            None => Ok(()),
         }
-        self.see_aim(device, did.aim)?;
-        self.see_step(device, task, did.step)
     }
 
-    fn see_step(&mut self, device: u64, task: Task, step: Step) -> Result<(), Fault> {
-        self.note_kept(device, task, step)?;
-        let Some(placed) = self.placed_by(device, task.section(), step)? else {
-            return Ok(());
-        };
-        let attached = self.account.attached(self.alloc, placed)?;
-        let transfer = transfer_of(task, step, placed.start);
-        let queue = task.queue();
-        if let (Some(t), None) = (transfer, queue) {
-            self.find_overwritten(placed, t)?;
+    /// The attached pointers of the block of an item's step, right before the step, and the block that holds the item's
+    /// pointer. An item that enters attaches its pointer after its step, and others detach it before.
+    fn pointers_by(
+        &mut self,
+        device: u64,
+        task: Task,
+        block: Option<Placed>,
+        aim: Aim,
+    ) -> Result<(Vec<Attachment>, Option<Holder>), Fault> {
+        if let Task::Enter { .. } = task {
+            let attached = self.attached(block)?;
+            return Ok((attached, self.holder_by(device, aim)?));
         }
-        self.known.stepped(placed, task, step, &attached)?;
-        if let Some(transfer) = transfer {
-            self.note_transfer(device, transfer, queue)?;
+        let holder = self.holder_by(device, aim)?;
+        Ok((self.attached(block)?, holder))
+    }
+
+    /// The attached pointers of a block, if there is one.
+    fn attached(&self, block: Option<Placed>) -> Result<Vec<Attachment>, Fault> {
+        match block {
+            Some(block) => Ok(self.account.attached(self.alloc, block)?),
+            None => Ok(Vec::new(self.alloc)),
         }
-        if let (Some(queue), Some(transfer)) = (queue, transfer) {
+    }
+
+    /// Keeps that bytes were copied, or that their copy waits.
+    fn keep_transfer(
+        &mut self,
+        device: u64,
+        transfer: Transfer,
+        queue: Option<u64>,
+    ) -> Result<(), Fault> {
+        self.note_transfer(device, transfer, queue)?;
+        if let Some(queue) = queue {
             self.account.put(Waiting {
                 device,
                 queue,
@@ -149,30 +179,33 @@ impl Check {
         Ok(())
     }
 
-    /// Keeps that a step copied nothing where its clause could have: that a mapping ended, or goes on.
-    fn note_kept(&mut self, device: u64, task: Task, step: Step) -> Result<(), Fault> {
+    /// Keeps that a step copied nothing where its clause could have: that a mapping ended, or goes on. Returns the
+    /// mapping that ended.
+    fn note_kept(&mut self, device: u64, task: Task, step: Step) -> Result<Option<Held>, Fault> {
         match step {
-            Step::Dropped { block, ended: true } => match self.account.block(device, block) {
-                Some(held) => {
-                    self.note(device, Deed::Ended, held.section)?;
-                    self.note_drop(held)
-                }
-                None => Ok(()),
-            },
+            Step::Dropped { block, ended: true } => {
+                let Some(held) = self.account.block(device, block) else {
+                    return Ok(None);
+                };
+                let line = self.line;
+                self.note(device, Deed::Ended, held.section)?;
+                return Ok(Some(Held { line, ..held }));
+            }
             Step::Born { .. } if !task.gets_bytes() => {
-                self.note(device, Deed::Created, task.section())
+                self.note(device, Deed::Created, task.section())?;
             }
             Step::Dropped { .. } if task.gives_bytes() => {
-                self.note(device, Deed::KeptOut, task.section())
+                self.note(device, Deed::KeptOut, task.section())?;
             }
             Step::Counted { .. } if task.gets_bytes() => {
-                self.note(device, Deed::KeptIn, task.section())
+                self.note(device, Deed::KeptIn, task.section())?;
             }
-            _ => Ok(()),
+            _ => {}
         }
+        Ok(None)
     }
 
-    /// Keeps that bytes were copied, or that their copy waits.
+    /// Keeps what became of a transfer.
     fn note_transfer(&mut self, device: u64, t: Transfer, queue: Option<u64>) -> Result<(), Fault> {
         let deed = match (queue, t.out) {
             (None, true) => Deed::CopiedOut,
@@ -185,31 +218,27 @@ impl Check {
 
     // ---- pointers
 
-    fn see_aim(&mut self, device: u64, aim: Aim) -> Result<(), Fault> {
+    /// The block that holds the pointer of an item, and how often that was attached before. Keeps how often it is now.
+    fn holder_by(&mut self, device: u64, aim: Aim) -> Result<Option<Holder>, Fault> {
         let (pointer, block) = match aim {
-            Aim::None => return Ok(()),
+            Aim::None => return Ok(None),
             Aim::New { pointer, block, .. } => (pointer, block),
             Aim::Again { pointer, block } => (pointer, block),
             Aim::Less { pointer, block } => (pointer, block),
             Aim::Cleared { pointer, block } => (pointer, block),
         };
-        let Some(held) = self.account.block(device, block) else {
-            return Ok(());
+        let Some(Held { placed, .. }) = self.account.block(device, block) else {
+            return Ok(None);
         };
-        let was = self.account.count(held.placed, pointer);
-        let count = match aim {
+        let count = self.account.count(placed, pointer);
+        let left = match aim {
             Aim::New { .. } => 1,
-            Aim::Again { .. } => was.saturating_add(1),
-            Aim::Less { .. } => was.saturating_sub(1),
+            Aim::Again { .. } => count.saturating_add(1),
+            Aim::Less { .. } => count.saturating_sub(1),
             _ => 0,
         };
-        self.account.attach(held.placed, pointer, count)?;
-        if let Aim::New { .. } = aim {
-            self.known.pointer_aimed(held.placed, pointer);
-        } else if count == 0 {
-            self.known.pointer_left(held.placed, pointer);
-        }
-        Ok(())
+        self.account.attach(placed, pointer, left)?;
+        Ok(Some(Holder { placed, count }))
     }
 
     // ---- queued transfers, writes and kernels
@@ -219,7 +248,7 @@ impl Check {
             if let Some(t) = self.account.take(device, queue) {
                 if let Some(held) = self.account.block(device, t.block) {
                     let attached = self.account.attached(self.alloc, held.placed)?;
-                    self.find_overwritten(held.placed, t)?;
+                    self.looks.find_overwritten(&self.known, held.placed, t)?;
                     self.known.made(held.placed, t, &attached)?;
                     self.note_transfer(device, t, None)?;
                 }
@@ -230,25 +259,32 @@ impl Check {
 }
 
 impl Check {
-    /// Tells what the host wrote, to each device that has part of it.
+    /// Tells what the host wrote, and which devices have part of it.
     fn see_write(&mut self, table: &Table, section: Section) -> Result<(), Fault> {
-        self.known.host_wrote(section);
-        self.note(0, Deed::HostWrote, section)?;
+        let mut parts = Vec::new(self.alloc);
         for device in 0..table.config().devices() {
             let mut rest = section;
             for _ in 0..section.len {
-                let Some(part) = self.mapped_part(table, device, rest) else {
+                let Some((placed, part)) = self.mapped_part(table, device, rest) else {
                     break;
                 };
-                self.see_part(table, part)?;
-                rest = behind(section, part.section);
+                if let Some(part) = self.part(table, placed, part)? {
+                    parts.push(part)?;
+                }
+                rest = behind(section, part);
             }
         }
-        Ok(())
+        self.known.wrote(section, &parts)?;
+        self.note(0, Deed::HostWrote, section)
     }
 
     /// The first part of a section that is in a mapped range of a device.
-    fn mapped_part(&self, table: &Table, device: u64, section: Section) -> Option<Part> {
+    fn mapped_part(
+        &self,
+        table: &Table,
+        device: u64,
+        section: Section,
+    ) -> Option<(Placed, Section)> {
         let first = Section {
             start: section.start,
             len: section.len.min(1),
@@ -272,18 +308,29 @@ impl Check {
             start,
             len: room.min(left),
         };
-        Some(Part { placed, section })
+        Some((placed, section))
     }
 
-    fn see_part(&mut self, table: &Table, part: Part) -> Result<(), Fault> {
-        let Part { placed, section } = part;
-        let own = table.device_read(placed.device, section);
-        if let (Some(written), Some(own)) = (table.host_read(section), own) {
-            let attached = self.account.attached(self.alloc, placed)?;
-            self.known
-                .range_outdated(placed, section, &attached, written, own)?;
-        }
-        Ok(())
+    /// What a block has of what the host wrote, unless it is lent.
+    fn part<'a>(
+        &self,
+        table: &'a Table,
+        block: Placed,
+        section: Section,
+    ) -> Result<Option<Part<'a>>, Fault> {
+        let (Some(written), Some(own)) = (
+            table.host_read(section),
+            table.device_read(block.device, section),
+        ) else {
+            return Ok(None);
+        };
+        Ok(Some(Part {
+            block,
+            section,
+            attached: self.account.attached(self.alloc, block)?,
+            written,
+            own,
+        }))
     }
 
     /// Tells what a kernel left, whose block is back.
@@ -298,15 +345,13 @@ impl Check {
             return Ok(());
         };
         let attached = self.account.attached(self.alloc, placed)?;
-        if leaves_others(kernel.kernel) {
-            self.known
-                .kernel_wrote_all(placed, section, &attached, after, own)?;
+        let found = kernel.before.as_deref();
+        self.known
+            .gathered(placed, section, &attached, found, after, own)?;
+        let Some(before) = found else {
             return self.note(device, Deed::KernelWrote, section);
-        }
-        let before = kernel.before.as_slice();
+        };
         if before != after {
-            self.known
-                .kernel_wrote(placed, section, &attached, before, after, own)?;
             let done = Done {
                 line: self.line,
                 deed: Deed::KernelWrote,
@@ -317,13 +362,6 @@ impl Check {
         }
         Ok(())
     }
-}
-
-/// A part of a section that one block has.
-#[derive(Clone, Copy)]
-struct Part {
-    placed: Placed,
-    section: Section,
 }
 
 /// What of a section lies behind a part of it.

@@ -7,6 +7,7 @@ mod checks;
 mod events;
 mod findings;
 mod histories;
+mod looks;
 mod objects;
 
 pub use checks::{Check, Line, Telling};

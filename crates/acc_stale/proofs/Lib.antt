@@ -4,4 +4,6 @@ pub mod Kept
 pub mod Compared
 pub mod Found
 pub mod Steps
+pub mod Aims
 pub mod Written
+pub mod Parts

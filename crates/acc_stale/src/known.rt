@@ -1,12 +1,14 @@
 //! What is known of the bytes of all memories.
 
-ghost use Rattle.std.specs.Prelude.{◌≡◌, ◌-◌, ◌≤◌, ◌<◌, OnOk, IfOk, IfErr, map, slice_set, slice_index_or, [], length};
+ghost use Rattle.std.specs.Prelude.{◌≡◌, ℕ, ◌-◌, ◌≤◌, ◌<◌, OnOk, IfOk, IfErr, map, slice_set, slice_index_or, [], ◌∷◌, length, option_map};
 ghost use Rattle.acc_base.specs.declared.faults.Fault.TheVariants.{Memory};
 ghost use Rattle.acc_stale.specs.declared.marks.Mark.TheVariants.{New};
 ghost use Rattle.acc_base.specs.Attachments.{pointer_at, count_at};
 ghost use Rattle.acc_base.specs.Section.{host_base};
 ghost use Rattle.acc_stale.specs.Marks.{filled};
-ghost use Rattle.acc_stale.specs.Events.{mapped_at, mapped_behind, known_made};
+ghost use Rattle.acc_base.specs.Records.{State};
+ghost use Rattle.acc_stale.specs.Events.{mapped_at, mapped_behind, known_made, known_drained, known_gathered};
+ghost use Rattle.acc_stale.specs.Told.{IsNext, IsBack};
 ghost use Rattle.acc_stale.specs.Known.{all_new, on_host, on_device, on_mapped, on_section, born, copied_in, copied_out, pointer_aimed, pointer_left, host_wrote, device_outdated, kernel_wrote, kernel_wrote_all, mark_born, stale_host, stale_device};
 
 use crate::changes::{Change, Copied, Filled, Outdated, Outrun, Overrun, Pointers, Rewritten};
@@ -147,6 +149,7 @@ impl Known {
     /// [`Fault::Memory`] alone, as with those that follow. Marks are not to be asked for any more then.
     pub fn made(&mut self, block: Placed, t: Transfer, attached: &[Attachment]) -> Result<(), Fault>
         ensures ok { OnOk result (self.new ≡ known_made block t attached.now self.old) }
+        ensures next { OnOk result ((q : ℕ) (s : State) → IsNext q block t attached.now s → self.new ≡ known_drained block.device (q ∷ []) s self.old) }
         ensures only { IfErr result (λ fault. fault ≡ Memory) }
     {
         let p = block.behind(t.offset, t.section);
@@ -180,7 +183,7 @@ impl Known {
     }
 
     /// The host wrote a section. For each mapped range that has part of it [`Known::range_outdated`] is told next.
-    pub fn host_wrote(&mut self, section: Section)
+    pub(crate) fn host_wrote(&mut self, section: Section)
         ensures { self.new ≡ host_wrote section self.old }
     {
         self.change_host(section, &Filled(Mark::New));
@@ -192,7 +195,7 @@ impl Known {
     /// # Errors
     ///
     /// As [`Known::made`].
-    pub fn range_outdated(
+    pub(crate) fn range_outdated(
         &mut self,
         block: Placed,
         section: Section,
@@ -207,13 +210,33 @@ impl Known {
         self.change_mapped(p, attached, &Outdated { written, own })
     }
 
-    /// A lease is back: a kernel found bytes in its section, and left others. Where they differ it wrote: the device's
-    /// byte is new. The host has its own bytes there; those that are others than the kernel wrote are behind.
+    /// A lease is back in a section of a block, with these bytes. `found` are those that the kernel found there, or
+    /// `None` where it left each byte another one. `own` are those of the host.
     ///
     /// # Errors
     ///
     /// As [`Known::made`].
-    pub fn kernel_wrote(
+    pub fn gathered(
+        &mut self,
+        block: Placed,
+        section: Section,
+        attached: &[Attachment],
+        found: Option<&[u8]>,
+        after: &[u8],
+        own: &[u8],
+    ) -> Result<(), Fault>
+        ensures ok { OnOk result ((s : State) → IsBack block section attached.now (option_map (λ bytes. bytes.now) found.entry) after.now own.now s → self.new ≡ known_gathered block.device block.block after.now s self.old) }
+        ensures only { IfErr result (λ fault. fault ≡ Memory) }
+    {
+        match found {
+            Some(before) => self.kernel_wrote(block, section, attached, before, after, own),
+            None => self.kernel_wrote_all(block, section, attached, after, own),
+        }
+    }
+
+    /// A kernel found bytes in a section, and left others. Where they differ it wrote: the device's byte is new. The
+    /// host has its own bytes there; those that are others than the kernel wrote are behind.
+    fn kernel_wrote(
         &mut self,
         block: Placed,
         section: Section,
@@ -234,11 +257,7 @@ impl Known {
     }
 
     /// The same of a kernel that left each byte of the section another one: the bytes as it found them are not asked for.
-    ///
-    /// # Errors
-    ///
-    /// As [`Known::made`].
-    pub fn kernel_wrote_all(
+    fn kernel_wrote_all(
         &mut self,
         block: Placed,
         section: Section,

@@ -2,10 +2,14 @@
 #![tactic(auto)]
 
 mod changes;
+mod items;
 mod known;
 mod marks;
 mod tasks;
+mod writes;
 
+pub use items::{Acted, Holder, Watch};
 pub use known::{Known, Placed};
 pub use marks::{Mark, Run};
 pub use tasks::transfer_of;
+pub use writes::Part;

@@ -1,0 +1,136 @@
+//! What is looked at right before the step of an item: newer bytes that it copies over or drops. And what was found.
+
+ghost use Rattle.std.specs.Prelude.{◌≡◌, IfErr};
+ghost use Rattle.acc_base.specs.declared.faults.Fault.TheVariants.{Memory};
+
+use crate::accounts::Held;
+use crate::findings::{Finding, Kind, Note};
+use crate::histories::{Cause, has_address};
+use acc_base::{Fault, Section, Transfer};
+use acc_stale::{Known, Mark, Placed, Run, Watch};
+use std::alloc::Global;
+
+/// What a check looks at, and what it found.
+#[derive(Drop)]
+pub(crate) struct Looks {
+    /// Whether that is told too which may be meant.
+    all: bool,
+    /// What was found in the line.
+    pub findings: Vec<Finding>,
+    /// Mappings that ended while the device had newer bytes, which nobody read so far.
+    pub drops: Vec<Held>,
+    /// The mapping that the next step ends.
+    ends: Option<Held>,
+    /// What the next step copies at once, and where its block lies.
+    copies: Option<(Placed, Transfer)>,
+}
+
+impl Looks {
+    /// Nothing was found.
+    pub fn new(alloc: Global, all: bool) -> Looks {
+        Looks {
+            all,
+            findings: Vec::new(alloc),
+            drops: Vec::new(alloc),
+            ends: None,
+            copies: None,
+        }
+    }
+
+    /// Keeps which mapping the next step ends, and what it copies at once.
+    pub fn expect(&mut self, ends: Option<Held>, copies: Option<(Placed, Transfer)>) {
+        self.ends = ends;
+        self.copies = copies;
+    }
+
+    /// Finds what a copy is about to overwrite that is newer.
+    pub fn find_overwritten(
+        &mut self,
+        known: &Known,
+        placed: Placed,
+        t: Transfer,
+    ) -> Result<(), Fault>
+        ensures only { IfErr result (λ fault. fault ≡ Memory) }
+    {
+        if !self.all {
+            return Ok(());
+        }
+        let (from, over) = if t.out {
+            let from = known.stale_device(placed, t.section);
+            (from, known.stale_host(t.section))
+        } else {
+            let from = known.stale_host(t.section);
+            (from, known.stale_device(placed, t.section))
+        };
+        match from {
+            Some(run) if run.mark == Mark::Behind && !is_stale_at(over, run) => {
+                self.findings.push(Finding {
+                    kind: Kind::Overwritten,
+                    section: part_of(t.section, run),
+                    nth: 0,
+                    note: Note::None,
+                    cause: Cause {
+                        written: None,
+                        missed: None,
+                    },
+                })?;
+            }
+            _ => {}
+        }
+        Ok(())
+    }
+
+    /// Keeps a mapping that ends, unless the device has older bytes than the host.
+    fn note_drop(&mut self, known: &Known, held: Held) -> Result<(), Fault>
+        ensures only { IfErr result (λ fault. fault ≡ Memory) }
+    {
+        if self.all && !is_behind(known.stale_device(held.placed, held.section)) {
+            self.drops.push(held)?;
+        }
+        Ok(())
+    }
+
+    /// Leaves out mappings that ended of which the host is not behind: their bytes were copied, or written again.
+    pub fn sift_drops(&mut self, known: &Known) {
+        self.drops
+            .retain(|held| is_behind(known.stale_host(held.section)));
+    }
+
+    /// Leaves out mappings that ended, since the host reads their bytes: that is told.
+    pub fn forget_drops(&mut self, section: Section) {
+        self.drops
+            .retain(|held| !has_address(held.section, section.start));
+    }
+}
+
+impl Watch for Looks {
+    fn before_step(&mut self, known: &Known) -> Result<(), Fault> {
+        if let Some(held) = self.ends {
+            self.note_drop(known, held)?;
+        }
+        match self.copies {
+            Some((placed, t)) => self.find_overwritten(known, placed, t),
+            None => Ok(()),
+        }
+    }
+}
+
+/// Whether the first bytes that are not new are behind.
+fn is_behind(run: Option<Run>) -> bool {
+    run.map_or(false, |run| run.mark == Mark::Behind)
+}
+
+/// Whether bytes that are not new begin at or before those of another run, and reach it.
+fn is_stale_at(over: Option<Run>, run: Run) -> bool {
+    over.map_or(false, |over| {
+        over.at <= run.at && run.at < over.at.saturating_add(over.len)
+    })
+}
+
+/// The addresses of a run in a section.
+pub(crate) fn part_of(section: Section, run: Run) -> Section {
+    Section {
+        start: section.start.saturating_add(run.at as u64),
+        len: run.len as u64,
+    }
+}

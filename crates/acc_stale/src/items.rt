@@ -1,0 +1,128 @@
+//! What an item does to what is known: its step and its pointer, in their order (OpenACC 3.3, sections 2.7 and 2.7.2).
+
+ghost use Rattle.std.specs.Prelude.{◌≡◌, ℕ, List, OnOk, IfErr};
+ghost use Rattle.acc_base.specs.declared.faults.Fault.TheVariants.{Memory};
+ghost use Rattle.acc_base.specs.Records.{State};
+ghost use Rattle.acc_stale.specs.Events.{known_stepped, known_aimed, known_acted};
+ghost use Rattle.acc_stale.specs.Told.{enters, IsStepTold, IsAimTold, IsHolder, IsActed};
+
+use crate::known::{Known, Placed};
+use acc_base::{Aim, Attachment, Did, Fault, Task};
+
+/// An item that acted, and where the blocks lie whose bytes it touched.
+#[derive(Clone, Copy, Debug)]
+pub struct Acted {
+    /// The number of the device.
+    pub device: u64,
+    /// What it asked.
+    pub task: Task,
+    /// What it did.
+    pub did: Did,
+    /// The block of its step, if that has one.
+    pub block: Option<Placed>,
+    /// The block that holds its pointer, if there is one.
+    pub holder: Option<Holder>,
+}
+
+/// A block that holds a pointer.
+#[derive(Clone, Copy, Debug)]
+pub struct Holder {
+    /// Where it lies.
+    pub placed: Placed,
+    /// How often the pointer was attached before.
+    pub count: u64,
+}
+
+/// Who looks at what is known right before the step of an item.
+pub trait Watch {
+    /// Looks at it.
+    ///
+    /// # Errors
+    ///
+    /// [`Fault::Memory`] alone.
+    fn before_step(&mut self, known: &Known) -> Result<(), Fault>
+        ensures only { IfErr result (λ fault. fault ≡ Memory) };
+}
+
+impl Known {
+    /// An item acted. `attached` are the counters of the attached pointers in the block of its step: those before the
+    /// item where it enters, and else those that its detachment left.
+    ///
+    /// # Errors
+    ///
+    /// As [`Known::made`].
+    #[tactic(auto, using(crate::proofs::Steps::acted_enter, crate::proofs::Steps::acted_other))]
+    pub fn acted<W: Watch>(
+        &mut self,
+        acted: &Acted,
+        attached: &[Attachment],
+        watch: &mut W,
+    ) -> Result<(), Fault>
+        ensures ok { OnOk result ((s : State) → IsActed acted.now attached.now s → self.new ≡ known_acted acted.now.device acted.now.task acted.now.did s self.old) }
+        ensures only { IfErr result (λ fault. fault ≡ Memory) }
+    {
+        if enters(acted.task) {
+            self.step(acted, attached, watch)?;
+            self.aim(acted.did.aim, acted.holder);
+            return Ok(());
+        }
+        self.aim(acted.did.aim, acted.holder);
+        self.step(acted, attached, watch)
+    }
+
+    /// The step of an item was done, behind a look.
+    #[tactic(auto, using(crate::proofs::Steps::none_touched))]
+    fn step<W: Watch>(
+        &mut self,
+        acted: &Acted,
+        attached: &[Attachment],
+        watch: &mut W,
+    ) -> Result<(), Fault>
+        ensures ok { OnOk result ((s : State) → IsStepTold acted.now.device acted.now.block acted.now.task acted.now.did.step attached.now s → self.new ≡ known_stepped acted.now.device acted.now.task acted.now.did.step s self.old) }
+        ensures only { IfErr result (λ fault. fault ≡ Memory) }
+    {
+        watch.before_step(self)?;
+        match acted.block {
+            Some(block) => self.stepped(block, acted.task, acted.did.step, attached),
+            None => Ok(()),
+        }
+    }
+
+    /// What became of the pointer of an item.
+    #[tactic(auto, using(crate::proofs::Aims::pointer_kept))]
+    fn aim(&mut self, aim: Aim, holder: Option<Holder>)
+        ensures { (d : ℕ) (s : State) → IsAimTold d holder aim s → self.new ≡ known_aimed d aim s self.old }
+    {
+        if let Some(holder) = holder {
+            self.aimed(holder, aim);
+        }
+    }
+
+    /// The pointer was attached, or detached for the last time, or neither.
+    #[tactic(auto, using(crate::proofs::Aims::none_told, crate::proofs::Aims::again_told))]
+    fn aimed(&mut self, holder: Holder, aim: Aim)
+        ensures { (s : State) → IsHolder holder aim s → self.new ≡ known_aimed holder.placed.device aim s self.old }
+    {
+        match aim {
+            Aim::New { pointer, .. } => self.pointer_aimed(holder.placed, pointer),
+            Aim::Less { pointer, .. } => {
+                if holder.count == 1 {
+                    self.pointer_left(holder.placed, pointer);
+                }
+            }
+            Aim::Cleared { pointer, .. } => self.pointer_left(holder.placed, pointer),
+            Aim::None => {}
+            Aim::Again { .. } => {}
+        }
+    }
+}
+
+/// An item that enters attaches its pointer after its step, and others detach it before.
+fn enters(task: Task) -> bool
+    ensures { result ≡ enters task }
+{
+    match task {
+        Task::Enter { .. } => true,
+        _ => false,
+    }
+}

@@ -100,12 +100,21 @@ static int is_known(const lw_limits *limits)
     return limits->version >= FIRST_VERSION && limits->size >= FIRST_SIZE && limits->size <= sizeof *limits;
 }
 
+static uint32_t begin(lw_table *table, const limit_fields *fields, lw_fault *fault)
+{
+    uint32_t status = lamwiest_table_new(table, fields, PLACE(fault));
+
+    if (status == LW_DONE) {
+        table->arrays = 0;
+    }
+    return status;
+}
+
 /* Limits that a program does not have yet are 0. */
 uint32_t lw_table_new(lw_table *table, const lw_limits *limits, lw_fault *fault)
 {
     const size_t first = offsetof(lw_limits, host);
     limit_fields fields = {0};
-    uint32_t status;
 
     if (limits != NULL) {
         if (!is_known(limits)) {
@@ -114,11 +123,19 @@ uint32_t lw_table_new(lw_table *table, const lw_limits *limits, lw_fault *fault)
         }
         memcpy(&fields, (const char *)limits + first, limits->size - first);
     }
-    status = lamwiest_table_new(table, &fields, PLACE(fault));
-    if (status == LW_DONE) {
-        table->arrays = 0;
+    return begin(table, &fields, fault);
+}
+
+uint32_t lw_table_reset(lw_table *table, lw_fault *fault)
+{
+    limit_fields fields = {0};
+    uint32_t status = lamwiest_limits_of(table, &fields);
+
+    if (status != LW_DONE) {
+        *PLACE(fault) = (lw_fault){.status = status};
+        return status;
     }
-    return status;
+    return begin(table, &fields, fault);
 }
 
 uint32_t lw_limits_of(lw_table *table, lw_limits *limits)
@@ -227,7 +244,26 @@ uint32_t lw_lease_write(lw_table *table, uint64_t lease, const void *bytes, size
     return lamwiest_lease_write(table, lease, bytes, len, PLACE(fault));
 }
 
+uint32_t lw_lease_bytes(lw_table *table, uint64_t lease, void **bytes, uint64_t *len, lw_fault *fault)
+{
+    lease_place place = {0};
+    uint32_t status = lamwiest_lease_place(table, lease, &place, PLACE(fault));
+
+    if (status == LW_DONE) {
+        *bytes = place.block + place.offset;
+        *len = place.len;
+    }
+    return status;
+}
+
 uint32_t lw_gather(lw_table *table, uint64_t lease, lw_fault *fault)
 {
     return lamwiest_gather(table, lease, PLACE(fault));
+}
+
+/* ---- The stored trace ---- */
+
+uint32_t lw_event_bytes(lw_table *table, uint64_t place, void *bytes, size_t len, lw_fault *fault)
+{
+    return lamwiest_event_bytes(table, place, bytes, len, PLACE(fault));
 }

@@ -47,7 +47,18 @@ uint32_t lamwiest_lend(lw_table *table, uint64_t region, uint64_t start, uint64_
                        lw_fault *fault);
 uint32_t lamwiest_lease_read(lw_table *table, uint64_t lease, uint8_t *bytes, size_t len, lw_fault *fault);
 uint32_t lamwiest_lease_write(lw_table *table, uint64_t lease, const uint8_t *bytes, size_t len, lw_fault *fault);
+
+/* Where the bytes of a lease lie: from a place of its block on. */
+typedef struct lease_place {
+    uint8_t *block;
+    uint64_t offset;
+    uint64_t len;
+} lease_place;
+
+uint32_t lamwiest_lease_place(lw_table *table, uint64_t lease, lease_place *place, lw_fault *fault);
 uint32_t lamwiest_gather(lw_table *table, uint64_t lease, lw_fault *fault);
+
+uint32_t lamwiest_event_bytes(lw_table *table, uint64_t place, uint8_t *bytes, size_t len, lw_fault *fault);
 
 /* Texts have no zero at their end. Where a buffer is too short, fault->value is the length of the text. */
 uint32_t lamwiest_report(lw_table *table, uint8_t *buffer, size_t size, uint64_t *len, lw_fault *fault);

@@ -32,9 +32,9 @@ extern "C" {
 
 /* ---- Versions ---- */
 
-/* The version of this header, 0.2.0: a million times the first number, a thousand times the second, and the third. A
+/* The version of this header, 0.2.1: a million times the first number, a thousand times the second, and the third. A
    library with the same first two numbers and any third takes programs that were compiled with this header. */
-#define LW_VERSION 2000
+#define LW_VERSION 2001
 
 /* The version of the library that the program is linked with. */
 uint32_t lw_version(void);
@@ -134,6 +134,10 @@ typedef struct lw_limits {
    default where limits is NULL. What the handle had is ended. LW_BAD_VERSION, LW_BAD_CONFIG or LW_MEMORY, and the
    handle stays as it is. */
 uint32_t lw_table_new(lw_table *table, const lw_limits *limits, lw_fault *fault);
+
+/* Begins a table anew, with the limits that it has, as lw_table_new does. LW_ENDED or LW_MEMORY, and the handle stays
+   as it is. */
+uint32_t lw_table_reset(lw_table *table, lw_fault *fault);
 
 /* Ends a table with its leases, and gives back all of its memory. A handle without a table stays so. */
 void lw_table_end(lw_table *table);
@@ -250,8 +254,8 @@ uint32_t lw_device_read(lw_table *table, uint64_t device, uint64_t start, void *
 
 /* Lends the device's bytes of a section, which lies in one mapped range, in an open data region; the device is the
    region's. Where enter data alone has mapped it, lw_enter of the section as LW_PRESENT makes the region. lease: the
-   number of the lease. Until lw_gather spends it, lw_lease_read and lw_lease_write alone reach these bytes. The whole
-   block is lent: LW_LENT where it is already. */
+   number of the lease. Until lw_gather spends it, the calls of leases below alone reach these bytes. The whole block is
+   lent: LW_LENT where it is already. */
 uint32_t lw_lend(lw_table *table, uint64_t region, uint64_t start, uint64_t len, uint64_t *lease, lw_fault *fault);
 
 /* Copies the bytes of a lease. LW_BAD_LENGTH where len is not the length of its section. It is no event. */
@@ -259,6 +263,11 @@ uint32_t lw_lease_read(lw_table *table, uint64_t lease, void *bytes, size_t len,
 
 /* Writes the bytes of a lease, as the kernel leaves them. LW_BAD_LENGTH as above. It is no event. */
 uint32_t lw_lease_write(lw_table *table, uint64_t lease, const void *bytes, size_t len, lw_fault *fault);
+
+/* Where the bytes of a lease lie, and how many they are, so that a kernel reads and writes them there, and none is
+   copied. They do not move until lw_gather spends the lease. They are the caller's between calls: while any thread is
+   in a call on the table no other one reads or writes them. It is no event. */
+uint32_t lw_lease_bytes(lw_table *table, uint64_t lease, void **bytes, uint64_t *len, lw_fault *fault);
 
 /* Brings a lease back: the device has its bytes again, as they were last written. A lease that is refused stays.
    LW_NO_LEASE is told before all else. */
@@ -336,6 +345,18 @@ typedef struct lw_free_range {
 /* Such addresses, those of least place at or above a device address. LW_ABSENT where there are none. */
 uint32_t lw_hole(lw_table *table, uint64_t device, uint64_t from, lw_free_range *hole);
 
+/* A lease that is out. */
+typedef struct lw_lent_lease {
+    uint64_t lease;  /* its number */
+    uint64_t device; /* the number of the device */
+    uint64_t block;  /* the number of the block */
+    uint64_t offset; /* the place in the block of the first byte that is lent */
+    uint64_t len;    /* how many bytes are lent */
+} lw_lent_lease;
+
+/* Such a lease, that of least number at or above a number. LW_ABSENT where there is none. */
+uint32_t lw_lease(lw_table *table, uint64_t from, lw_lent_lease *lent);
+
 /* used: how many bytes of the device's memory all its blocks take. */
 uint32_t lw_used(lw_table *table, uint64_t device, uint64_t *used);
 
@@ -410,6 +431,49 @@ uint32_t lw_did(lw_table *table, uint64_t item, lw_item_did *did);
 
 /* The same of the items from 0 on, as many as the array has elements. An element without an item stays as it was. */
 uint32_t lw_dids(lw_table *table, lw_item_did *dids, size_t count);
+
+/* ---- The stored trace ---- */
+
+/* What an event is: the call that it came of. */
+enum {
+    LW_ENTERED = 1,      /* lw_enter */
+    LW_LEFT = 2,         /* lw_exit */
+    LW_ENTERED_DATA = 3, /* lw_enter_data */
+    LW_EXITED_DATA = 4,  /* lw_exit_data */
+    LW_UPDATED = 5,      /* lw_update */
+    LW_WAITED = 6,       /* lw_wait */
+    LW_STEPPED = 7,      /* lw_step */
+    LW_WRITTEN = 8,      /* lw_host_write */
+    LW_LENT_BLOCK = 9,   /* lw_lend */
+    LW_GATHERED = 10     /* lw_gather */
+};
+
+/* An event of the stored trace. All numbers that do not apply are 0. */
+typedef struct lw_stored_event {
+    uint32_t kind;   /* LW_ENTERED to LW_GATHERED */
+    uint32_t option; /* 1 with the finalize or the if_present clause, else 0 */
+    uint64_t device; /* the number of the device */
+    uint64_t queue;  /* the queue; LW_NO_QUEUE_GIVEN where it has none, and of a wait for all queues */
+    uint64_t region; /* of LW_ENTERED, LW_LEFT and LW_LENT_BLOCK: the number of the region */
+    uint64_t lease;  /* of LW_LENT_BLOCK and LW_GATHERED: the number of the lease */
+    uint64_t block;  /* of LW_STEPPED, LW_LENT_BLOCK and LW_GATHERED: the number of the block */
+    uint64_t start;  /* of LW_WRITTEN and LW_LENT_BLOCK: the first host address */
+    uint64_t len;    /* of these: how many bytes */
+    uint64_t count;  /* how many items it has; of LW_WAITED: how many copies it made */
+    uint64_t stored; /* of LW_WRITTEN and LW_GATHERED: how many bytes the trace has of it */
+} lw_stored_event;
+
+/* An event of the stored trace, counted from 0: the first since the table began, or since lw_rebase. LW_ABSENT where
+   there are no so many. */
+uint32_t lw_event(lw_table *table, uint64_t place, lw_stored_event *event);
+
+/* An item as the call of an event named it, counted from 0. LW_ABSENT where the event has no such item. Those of
+   LW_LEFT are not named: they are those of the LW_ENTERED of its region. */
+uint32_t lw_event_item(lw_table *table, uint64_t place, uint64_t item, lw_item *named);
+
+/* Copies the bytes that the trace has of an event: with full traces those that lw_host_write wrote, or with which the
+   section of a lease came back; else none. LW_ABSENT as above. LW_BAD_LENGTH where len is not how many they are. */
+uint32_t lw_event_bytes(lw_table *table, uint64_t place, void *bytes, size_t len, lw_fault *fault);
 
 /* ---- The report ---- */
 

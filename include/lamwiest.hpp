@@ -6,6 +6,7 @@
 #include "lamwiest.h"
 #include <cstddef>
 #include <cstdint>
+#include <cstring>
 #include <stdexcept>
 #include <string>
 #include <type_traits>
@@ -181,6 +182,13 @@ public:
         return folded;
     }
 
+    // Begins anew, with the limits that it has.
+    void reset()
+    {
+        lw_fault fault;
+        must(lw_table_reset(&table, &fault), fault);
+    }
+
     // The report that accrun prints.
     std::string report()
     {
@@ -236,15 +244,23 @@ private:
     bool is_open = true;
 };
 
-// The device's elements of a section, lent to a kernel (section 2.5). At the end of its block the device has them
-// again, as the kernel left them.
+// The device's elements of a section, lent to a kernel (section 2.5). They are reached where they lie, or in a copy
+// where they are not aligned as elements are. At the end of its block the device has them again, as the kernel left
+// them.
 template <class T> class Lease {
 public:
-    Lease(Region &region, Span<T> section) : elements(section.count), table(region.table)
+    Lease(Region &region, Span<T> section) : table(region.table)
     {
+        uint64_t len = 0;
         lw_fault fault;
         must(lw_lend(table.get(), region.number, section.start, section.len(), &number, &fault), fault);
-        lw_lease_read(table.get(), number, elements.data(), section.len(), nullptr);
+        lw_lease_bytes(table.get(), number, &bytes, &len, nullptr);
+        if (reinterpret_cast<std::uintptr_t>(bytes) % alignof(T) != 0) {
+            copy.resize(section.count);
+            std::memcpy(copy.data(), bytes, section.len());
+        }
+        elements = copy.empty() ? static_cast<T *>(bytes) : copy.data();
+        count = section.count;
     }
     Lease(const Lease &) = delete;
     Lease &operator=(const Lease &) = delete;
@@ -253,7 +269,7 @@ public:
     ~Lease()
     {
         if (is_out) {
-            lw_lease_write(table.get(), number, elements.data(), elements.size() * sizeof(T), nullptr);
+            put_back();
             lw_gather(table.get(), number, nullptr);
         }
     }
@@ -262,19 +278,29 @@ public:
     void gather()
     {
         lw_fault fault;
-        must(lw_lease_write(table.get(), number, elements.data(), elements.size() * sizeof(T), &fault), fault);
+        put_back();
         must(lw_gather(table.get(), number, &fault), fault);
         is_out = false;
     }
 
     T &operator[](std::size_t place) { return elements[place]; }
-    T *data() { return elements.data(); }
-    std::size_t size() const { return elements.size(); }
-    T *begin() { return elements.data(); }
-    T *end() { return elements.data() + elements.size(); }
+    T *data() { return elements; }
+    std::size_t size() const { return count; }
+    T *begin() { return elements; }
+    T *end() { return elements + count; }
 
 private:
-    std::vector<T> elements;
+    void put_back()
+    {
+        if (!copy.empty()) {
+            std::memcpy(bytes, copy.data(), copy.size() * sizeof(T));
+        }
+    }
+
+    std::vector<T> copy;
+    T *elements = nullptr;
+    std::size_t count = 0;
+    void *bytes = nullptr;
     Table &table;
     uint64_t number = 0;
     bool is_out = true;

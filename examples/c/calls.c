@@ -190,6 +190,25 @@ static uint32_t lease_write(lw_table *table, const row *row, uint64_t *number, l
     return lw_lease_write(table, row->at, bytes_of(row->bytes), row->len, fault);
 }
 
+/* The bytes of a lease where they lie, as many as the row tells: the first eight as a number, once those of the row are
+   written there, if it has some. */
+static uint32_t lease_bytes(lw_table *table, const row *row, uint64_t *number, lw_fault *fault)
+{
+    void *bytes = NULL;
+    uint64_t len = UNTOUCHED;
+    uint32_t status = lw_lease_bytes(table, row->at, &bytes, &len, fault);
+
+    if (status == LW_DONE && len == row->len) {
+        if (row->bytes != 0) {
+            memcpy(bytes, bytes_of(row->bytes), len);
+        }
+        *number = number_in(bytes);
+    } else if (bytes != NULL || len != UNTOUCHED) {
+        *number = len;
+    }
+    return status;
+}
+
 static uint32_t gather(lw_table *table, const row *row, uint64_t *number, lw_fault *fault)
 {
     (void)number;
@@ -366,6 +385,79 @@ static uint32_t hole(lw_table *table, const row *row, uint64_t *number, lw_fault
         *number = HOLE(told.place, told.size);
     }
     return asked(status, fault);
+}
+
+/* A lease that is out, its device and block, and where its section begins in that and how long it is, as one number. */
+#define LEASE(number, device, block, offset, len) \
+    ((uint64_t)(number) << 48 | (uint64_t)(device) << 40 | (uint64_t)(block) << 32 | (uint64_t)(offset) << 16 | (len))
+
+static uint32_t lease(lw_table *table, const row *row, uint64_t *number, lw_fault *fault)
+{
+    lw_lent_lease told;
+    uint32_t status = lw_lease(table, row->at, &told);
+
+    if (status == LW_DONE) {
+        *number = LEASE(told.lease, told.device, told.block, told.offset, told.len);
+    }
+    return asked(status, fault);
+}
+
+/* An event but for its section and its bytes, as one number. */
+#define EVENT(kind, option, device, queue, region, lease, block, count) \
+    ((uint64_t)(kind) << 56 | (uint64_t)(option) << 52 | (uint64_t)(device) << 48 | ((uint64_t)(queue) & 0xFF) << 40 | \
+     (uint64_t)(region) << 32 | (uint64_t)(lease) << 24 | (uint64_t)(block) << 16 | (count))
+
+static uint32_t event(lw_table *table, const row *row, uint64_t *number, lw_fault *fault)
+{
+    lw_stored_event told;
+    uint32_t status = lw_event(table, row->at, &told);
+
+    if (status == LW_DONE) {
+        *number = EVENT(told.kind, told.option, told.device, told.queue, told.region, told.lease, told.block,
+                        told.count);
+    }
+    return asked(status, fault);
+}
+
+/* The section of an event, and how many bytes are stored with it. */
+#define SECTION(start, len, stored) ((uint64_t)(start) << 16 | (len) << 8 | (stored))
+
+static uint32_t event_section(lw_table *table, const row *row, uint64_t *number, lw_fault *fault)
+{
+    lw_stored_event told;
+    uint32_t status = lw_event(table, row->at, &told);
+
+    if (status == LW_DONE) {
+        *number = SECTION(told.start, told.len, told.stored);
+    }
+    return asked(status, fault);
+}
+
+/* The item of an event whose place the row has as its length. */
+#define ITEM(clause, start, len, pointer) \
+    ((uint64_t)(pointer) << 48 | (uint64_t)(start) << 24 | (uint64_t)(len) << 8 | (clause))
+
+static uint32_t event_item(lw_table *table, const row *row, uint64_t *number, lw_fault *fault)
+{
+    lw_item named;
+    uint32_t status = lw_event_item(table, row->at, row->len, &named);
+
+    if (status == LW_DONE) {
+        *number = ITEM(named.clause, named.start, named.len, named.pointer);
+    }
+    return asked(status, fault);
+}
+
+static uint32_t event_bytes(lw_table *table, const row *row, uint64_t *number, lw_fault *fault)
+{
+    return read_by(lw_event_bytes, table, row, number, fault);
+}
+
+static uint32_t reset(lw_table *table, const row *row, uint64_t *number, lw_fault *fault)
+{
+    (void)row;
+    (void)number;
+    return lw_table_reset(table, fault);
 }
 
 static uint32_t innermost(lw_table *table, const row *row, uint64_t *number, lw_fault *fault)
@@ -593,7 +685,11 @@ static const row USUAL[] = {
     {"B is not present then", is_present, .at = B, .len = 16, ANSWERS(0)},
     {"A's and C's blocks are used", used, ANSWERS(32)},
 
+    {"no lease is out", lease, .at = 0, REFUSED(LW_ABSENT, 0, 0)},
     {"lend", lend, .region = 1, .at = A + 4, .len = 8, ANSWERS(1)},
+    {"its lease is out", lease, .at = 0, ANSWERS(LEASE(1, 0, 1, 4, 8))},
+    {"also from its number on", lease, .at = 1, ANSWERS(LEASE(1, 0, 1, 4, 8))},
+    {"no lease above it", lease, .at = 2, REFUSED(LW_ABSENT, 0, 0)},
     {"lend in no region", lend, .region = 9, .at = A, .len = 8, REFUSED(LW_NO_REGION, 0, 9)},
     {"lend outside of host memory", lend, .region = 1, .at = END, .len = 8, REFUSED(LW_OUT_OF_HOST, 0, 0)},
     {"lend an absent section", lend, .region = 1, .at = B, .len = 8, REFUSED(LW_NOT_PRESENT, 0, 0)},
@@ -613,17 +709,24 @@ static const row USUAL[] = {
     {"lease read into a buffer too long", lease_read, .at = 1, .len = 9, REFUSED(LW_BAD_LENGTH, 0, 8)},
     {"lease read of no lease", lease_read, .at = 2, .len = 8, REFUSED(LW_NO_LEASE, 0, 2)},
     {"lease write", lease_write, .at = 1, .len = 8, .bytes = 0x1112131415161718, DONE},
+    {"its bytes where they lie", lease_bytes, .at = 1, .len = 8, ANSWERS(0x1112131415161718)},
+    {"a kernel writes them there", lease_bytes, .at = 1, .len = 8, .bytes = 0x2122232425262728,
+     ANSWERS(0x2122232425262728)},
+    {"lease read of what it wrote", lease_read, .at = 1, .len = 8, ANSWERS(0x2122232425262728)},
+    {"the bytes of no lease", lease_bytes, .at = 2, .len = 8, REFUSED(LW_NO_LEASE, 0, 2)},
     {"lease write of too few bytes", lease_write, .at = 1, .len = 7, REFUSED(LW_BAD_LENGTH, 0, 8)},
     {"lease write of no lease", lease_write, .at = 2, .len = 8, REFUSED(LW_NO_LEASE, 0, 2)},
     {"gather of no lease", gather, .at = 2, REFUSED(LW_NO_LEASE, 0, 2)},
     {"gather", gather, .at = 1, DONE},
     {"gather twice", gather, .at = 1, REFUSED(LW_NO_LEASE, 0, 1)},
     {"lease read after gather", lease_read, .at = 1, .len = 8, REFUSED(LW_NO_LEASE, 0, 1)},
-    {"the device has the kernel's bytes", device_read, .at = A, .len = 8, ANSWERS(0x0102030411121314)},
+    {"its bytes after gather", lease_bytes, .at = 1, .len = 8, REFUSED(LW_NO_LEASE, 0, 1)},
+    {"no lease is out again", lease, .at = 0, REFUSED(LW_ABSENT, 0, 0)},
+    {"the device has the kernel's bytes", device_read, .at = A, .len = 8, ANSWERS(0x0102030421222324)},
     {"the host has its own", host_read, .at = A, .len = 8, ANSWERS(0x0102030405060708)},
     {"end data copies out", leave, .at = 1, DONE},
     {"which its start told", did_copy, .at = 0, ANSWERS(0)},
-    {"the host has the kernel's bytes", host_read, .at = A, .len = 8, ANSWERS(0x0102030411121314)},
+    {"the host has the kernel's bytes", host_read, .at = A, .len = 8, ANSWERS(0x0102030421222324)},
     {"the block stays while a copy waits", used, ANSWERS(32)},
     {"its mapping has ended", ended_block, .at = 0, ANSWERS(ENDED(LW_DEVICE_BASE, 16, 1))},
     {"also from its place on", ended_block, .at = LW_DEVICE_BASE, ANSWERS(ENDED(LW_DEVICE_BASE, 16, 1))},
@@ -665,6 +768,7 @@ static const row DEVICES[] = {
     {"regions on all", regions, ANSWERS(1)},
 
     {"lend on the device of the region", lend, .region = 1, .at = A, .len = 16, ANSWERS(1)},
+    {"its lease is of that device", lease, .at = 0, ANSWERS(LEASE(1, 3, 1, 0, 16))},
     {"lease write", lease_write, .at = 1, .len = 16, .bytes = 0x1112131415161718, DONE},
     {"the second is not lent", device_read, .at = A, .len = 8, .device = 1, ANSWERS(0x0102030405060708)},
     {"gather", gather, .at = 1, DONE},
@@ -735,6 +839,9 @@ static const row SEVERAL[] = {
     {"lease write of many bytes", lease_write, .at = 3, .len = LARGE_SIZE, .bytes = 0x1112131415161718, DONE},
     {"lease write of the last one", lease_write, .at = 5, .len = 16, .bytes = 0x2122232425262728, DONE},
     {"gather from the middle", gather, .at = 3, DONE},
+    {"the second is out still", lease, .at = 2, ANSWERS(LEASE(2, 0, 2, 8, 8))},
+    {"behind it the fourth is", lease, .at = 3, ANSWERS(LEASE(4, 0, 3, 0, 16))},
+    {"behind that the fifth", lease, .at = 5, ANSWERS(LEASE(5, 0, 5, 8, 16))},
     {"gather it twice", gather, .at = 3, REFUSED(LW_NO_LEASE, 0, 3)},
     {"the last one stays", lease_read, .at = 5, .len = 16, ANSWERS(0x2122232425262728)},
     {"the sixth lease, of the same block", lend, .region = 2, .at = LARGE, .len = 16, ANSWERS(6)},
@@ -753,6 +860,76 @@ static const row SEVERAL[] = {
     {"end data of A and B", leave, .at = 1, DONE},
     {"nothing is used", used, ANSWERS(0)},
     {"rebase of three events", rebase, ANSWERS(3)},
+};
+
+/* A full trace on two devices, read back. */
+static const row TRACE[] = {
+    {"no event is stored", event, .at = 0, REFUSED(LW_ABSENT, 0, 0)},
+    {"host write", host_write, .at = A, .len = 8, .bytes = 0x0102030405060708, DONE},
+    {"data", enter, {{LW_COPY, A, 16, 0}, {LW_CREATE_ZERO, B, 16, C}}, 2, .device = 1, ANSWERS(1)},
+    {"enter data", enter_data, {{LW_COPYIN, C, 16, 0}}, 1, .async = 3, DONE},
+    {"step", step, .at = 3, ANSWERS(1)},
+    {"wait for all queues", wait_for, .at = NO_QUEUE, .device = 1, ANSWERS(0)},
+    {"update if_present", update, {{LW_DEVICE, C, 8, 0}}, 1, .async = 3, .option = 1, DONE},
+    {"wait", wait_for, .at = 3, ANSWERS(1)},
+    {"lend", lend, .region = 1, .at = A + 4, .len = 8, ANSWERS(1)},
+    {"lease write", lease_write, .at = 1, .len = 8, .bytes = 0x1112131415161718, DONE},
+    {"gather", gather, .at = 1, DONE},
+    {"exit data finalize", exit_data, {{LW_COPYOUT, C, 16, 0}}, 1, .async = SYNC, .option = 1, DONE},
+    {"end data", leave, .at = 1, DONE},
+
+    {"the write", event, .at = 0, ANSWERS(EVENT(LW_WRITTEN, 0, 0, NO_QUEUE, 0, 0, 0, 0))},
+    {"its section", event_section, .at = 0, ANSWERS(SECTION(A, 8, 8))},
+    {"its bytes", event_bytes, .at = 0, .len = 8, ANSWERS(0x0102030405060708)},
+    {"fewer of them", event_bytes, .at = 0, .len = 7, REFUSED(LW_BAD_LENGTH, 0, 8)},
+    {"it has no item", event_item, .at = 0, .len = 0, REFUSED(LW_ABSENT, 0, 0)},
+    {"the data construct", event, .at = 1, ANSWERS(EVENT(LW_ENTERED, 0, 1, NO_QUEUE, 1, 0, 0, 2))},
+    {"its first item", event_item, .at = 1, .len = 0, ANSWERS(ITEM(LW_COPY, A, 16, 0))},
+    {"its second item", event_item, .at = 1, .len = 1, ANSWERS(ITEM(LW_CREATE_ZERO, B, 16, C))},
+    {"it has no third", event_item, .at = 1, .len = 2, REFUSED(LW_ABSENT, 0, 0)},
+    {"it has no section", event_section, .at = 1, ANSWERS(0)},
+    {"no bytes of it", event_bytes, .at = 1, .len = 0, DONE},
+    {"a byte of it", event_bytes, .at = 1, .len = 1, REFUSED(LW_BAD_LENGTH, 0, 0)},
+    {"the enter data", event, .at = 2, ANSWERS(EVENT(LW_ENTERED_DATA, 0, 0, 3, 0, 0, 0, 1))},
+    {"its item", event_item, .at = 2, .len = 0, ANSWERS(ITEM(LW_COPYIN, C, 16, 0))},
+    {"the step", event, .at = 3, ANSWERS(EVENT(LW_STEPPED, 0, 0, 3, 0, 0, 1, 0))},
+    {"the wait for all", event, .at = 4, ANSWERS(EVENT(LW_WAITED, 0, 1, NO_QUEUE, 0, 0, 0, 0))},
+    {"the update", event, .at = 5, ANSWERS(EVENT(LW_UPDATED, 1, 0, 3, 0, 0, 0, 1))},
+    {"its item", event_item, .at = 5, .len = 0, ANSWERS(ITEM(LW_DEVICE, C, 8, 0))},
+    {"the wait for one", event, .at = 6, ANSWERS(EVENT(LW_WAITED, 0, 0, 3, 0, 0, 0, 1))},
+    {"the loan", event, .at = 7, ANSWERS(EVENT(LW_LENT_BLOCK, 0, 1, NO_QUEUE, 1, 1, 1, 0))},
+    {"its section", event_section, .at = 7, ANSWERS(SECTION(A + 4, 8, 0))},
+    {"the gather", event, .at = 8, ANSWERS(EVENT(LW_GATHERED, 0, 1, NO_QUEUE, 0, 1, 1, 0))},
+    {"its bytes", event_bytes, .at = 8, .len = 8, ANSWERS(0x1112131415161718)},
+    {"the exit data", event, .at = 9, ANSWERS(EVENT(LW_EXITED_DATA, 1, 0, NO_QUEUE, 0, 0, 0, 1))},
+    {"its item", event_item, .at = 9, .len = 0, ANSWERS(ITEM(LW_COPYOUT, C, 16, 0))},
+    {"the end", event, .at = 10, ANSWERS(EVENT(LW_LEFT, 0, 1, NO_QUEUE, 1, 0, 0, 2))},
+    {"it names no item", event_item, .at = 10, .len = 0, REFUSED(LW_ABSENT, 0, 0)},
+    {"no event behind it", event, .at = 11, REFUSED(LW_ABSENT, 0, 0)},
+    {"nor far behind", event, .at = UINT64_MAX, REFUSED(LW_ABSENT, 0, 0)},
+    {"nor an item there", event_item, .at = 11, .len = 0, REFUSED(LW_ABSENT, 0, 0)},
+    {"nor bytes", event_bytes, .at = 11, .len = 0, REFUSED(LW_ABSENT, 0, 0)},
+
+    {"rebase", rebase, ANSWERS(11)},
+    {"none is stored then", event, .at = 0, REFUSED(LW_ABSENT, 0, 0)},
+    {"host write of no bytes", host_write, .at = A, DONE},
+    {"it is the first", event, .at = 0, ANSWERS(EVENT(LW_WRITTEN, 0, 0, NO_QUEUE, 0, 0, 0, 0))},
+    {"reset", reset, DONE},
+    {"no event was", events, ANSWERS(0)},
+    {"the limits are as before", events_left, ANSWERS(1000)},
+    {"host memory is zero", host_read, .at = A, .len = 8, ANSWERS(0)},
+    {"data on its second device", enter, {{LW_COPY, A, 16, 0}}, 1, .device = 1, ANSWERS(1)},
+};
+
+/* A trace that stores no bytes. */
+static const row COUNTED[] = {
+    {"host write", host_write, .at = A, .len = 8, .bytes = 0x0102030405060708, DONE},
+    {"its section", event_section, .at = 0, ANSWERS(SECTION(A, 8, 0))},
+    {"its bytes are not stored", event_bytes, .at = 0, .len = 8, REFUSED(LW_BAD_LENGTH, 0, 0)},
+    {"an array", array, .len = 8, ANSWERS(A)},
+    {"reset", reset, DONE},
+    {"no event is stored", event, .at = 0, REFUSED(LW_ABSENT, 0, 0)},
+    {"an array at the same place", array, .len = 8, ANSWERS(A)},
 };
 
 /* ---- The driver ---- */
@@ -775,6 +952,8 @@ static const scene SCENES[] = {
     {"several leases", LIMITS(32768, 32768, 3, 1000, 2, 1, 1000, 0, 1), ROWS(SEVERAL)},
     {"several leases, full traces", LIMITS(32768, 32768, 3, 1000, 2, 1, 1000, 1, 1), ROWS(SEVERAL)},
     {"several devices", LIMITS(HOST_SIZE, 64, 2, 1000, 2, 1, 1000, 0, 4), ROWS(DEVICES)},
+    {"a full trace", LIMITS(HOST_SIZE, 64, 2, 1000, 2, 4, 1000, 1, 2), ROWS(TRACE)},
+    {"a counted trace", LIMITS(HOST_SIZE, 64, 2, 1000, 2, 1, 1000, 0, 1), ROWS(COUNTED)},
     {"several devices, full traces", LIMITS(HOST_SIZE, 64, 2, 1000, 2, 1, 1000, 1, 4), ROWS(DEVICES)},
 };
 
@@ -1029,7 +1208,7 @@ static void check_versions(void)
 
         check(lw_table_new(&table, &limits, &fault) == LW_BAD_VERSION && fault.value == LW_VERSION, "versions",
               "wrong limits are taken");
-        check(strcmp(lw_fault_text(&fault, text, sizeof text, NULL), "36 BadVersion library 2000") == 0, "versions",
+        check(strcmp(lw_fault_text(&fault, text, sizeof text, NULL), "36 BadVersion library 2001") == 0, "versions",
               "the text");
         check(lw_table_new(&table, &limits, NULL) == LW_BAD_VERSION && table.at == NULL, "versions", "without a fault");
         check(lw_limits_of(&table, &limits) == LW_BAD_VERSION, "versions", "limits are told in wrong ones");

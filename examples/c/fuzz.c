@@ -101,6 +101,20 @@ static uint32_t direct(lw_table *table, uint64_t what, lw_fault *fault)
     }
 }
 
+/* Writes the bytes of a lease where they lie. */
+static uint32_t work(lw_table *table, uint64_t lease, int byte, lw_fault *fault)
+{
+    void *at = NULL;
+    uint64_t len = 0;
+    uint32_t status = lw_lease_bytes(table, lease, &at, &len, fault);
+
+    must((status == LW_DONE) == (at != NULL));
+    if (at != NULL) {
+        memset(at, byte, len);
+    }
+    return status;
+}
+
 /* Writes, loans and folds. */
 static uint32_t move(lw_table *table, uint64_t what, lw_fault *fault)
 {
@@ -109,7 +123,7 @@ static uint32_t move(lw_table *table, uint64_t what, lw_fault *fault)
     uint64_t told;
 
     memset(bytes, (int)take(1), sizeof bytes);
-    switch (what % 6) {
+    switch (what % 8) {
     case 0:
         return lw_host_write(table, address(), bytes, len, fault);
     case 1:
@@ -120,6 +134,10 @@ static uint32_t move(lw_table *table, uint64_t what, lw_fault *fault)
         return lw_gather(table, number(), fault);
     case 4:
         return lw_rebase(table, &told, fault);
+    case 5:
+        return work(table, number(), (int)bytes[0], fault);
+    case 6:
+        return take(1) % 8 == 0 ? lw_table_reset(table, fault) : lw_gather(table, number(), fault);
     default:
         return lw_array(table, take(1) % 4 == 0 ? take(8) : take(1), &told, fault);
     }
@@ -138,9 +156,12 @@ static uint32_t look(lw_table *table, uint64_t what, lw_fault *fault)
     lw_free_range free_range;
     lw_left_over left_over;
     lw_limits limits = LW_LIMITS;
+    lw_lent_lease lent;
+    lw_stored_event event;
+    lw_item named;
     uint64_t told;
 
-    switch (what % 17) {
+    switch (what % 21) {
     case 0:
         return lw_host_read(table, at, bytes, len % BYTES, fault);
     case 1:
@@ -186,6 +207,17 @@ static uint32_t look(lw_table *table, uint64_t what, lw_fault *fault)
     case 15:
         fault->status = lw_innermost(table, &told);
         break;
+    case 16:
+        fault->status = lw_lease(table, number(), &lent);
+        break;
+    case 17:
+        fault->status = lw_event(table, number(), &event);
+        break;
+    case 18:
+        fault->status = lw_event_item(table, number(), number(), &named);
+        break;
+    case 19:
+        return lw_event_bytes(table, number(), bytes, len % BYTES, fault);
     default:
         fault->status = lw_dids(table, did, take(1) % 5);
     }

@@ -21,8 +21,9 @@ use std::error::Error;
 use std::ffi::{c_char, CStr};
 use std::fmt;
 use std::marker::PhantomData;
-use std::mem::{self, size_of};
+use std::mem::{self, align_of, size_of};
 use std::ops::{Deref, DerefMut};
+use std::{ptr, slice};
 
 mod raw;
 
@@ -72,7 +73,7 @@ impl fmt::Display for Refused {
         let mut text = [0 as c_char; raw::FAULT_TEXT_SIZE];
         // SAFETY: the buffer is as long as is told, and the text in it ends with a zero.
         let text = unsafe {
-            raw::lw_fault_text(&told, text.as_mut_ptr(), text.len(), std::ptr::null_mut());
+            raw::lw_fault_text(&told, text.as_mut_ptr(), text.len(), ptr::null_mut());
             CStr::from_ptr(text.as_ptr())
         };
         f.write_str(&text.to_string_lossy())
@@ -337,11 +338,18 @@ impl Table {
         made(|folded, fault| unsafe { raw::lw_rebase(&mut self.0, folded, fault) })
     }
 
+    /// Begins anew, with the limits that it has.
+    pub fn reset(&mut self) -> Result<(), Refused> {
+        // SAFETY: as `Table` tells.
+        made(|_, fault| unsafe { raw::lw_table_reset(&mut self.0, fault) })?;
+        Ok(())
+    }
+
     /// The report that `accrun` prints.
     pub fn report(&mut self) -> Result<String, Refused> {
         let mut len = 0;
         // SAFETY: no byte is written where there is no room. The call tells how long the text is.
-        unsafe { raw::lw_report(&mut self.0, std::ptr::null_mut(), 0, &mut len, &mut raw::Fault::default()) };
+        unsafe { raw::lw_report(&mut self.0, ptr::null_mut(), 0, &mut len, &mut raw::Fault::default()) };
         let mut text = vec![0; len as usize + 1];
         let (at, size) = (text.as_mut_ptr(), text.len());
         // SAFETY: as `Table` tells.
@@ -368,6 +376,23 @@ impl Drop for Table {
     }
 }
 
+/// Runs a kernel on so many elements at an address, which need not be aligned.
+///
+/// # Safety
+///
+/// The bytes of so many elements lie there, and nothing else reaches them meanwhile.
+unsafe fn run_on<E: Element, T>(at: *mut E, count: usize, kernel: impl FnOnce(&mut [E]) -> T) -> T {
+    if at as usize % align_of::<E>() == 0 {
+        return kernel(slice::from_raw_parts_mut(at, count));
+    }
+    let mut elements = vec![E::default(); count];
+    let (bytes, len) = (at.cast::<u8>(), mem::size_of_val(&elements[..]));
+    ptr::copy_nonoverlapping(bytes, elements.as_mut_ptr().cast(), len);
+    let answer = kernel(&mut elements);
+    ptr::copy_nonoverlapping(elements.as_ptr().cast(), bytes, len);
+    answer
+}
+
 /// An open data region. Calls within it are made on it as on its table; so an inner region ends before it.
 pub struct Region<'table> {
     table: &'table mut Table,
@@ -375,24 +400,24 @@ pub struct Region<'table> {
 }
 
 impl Region<'_> {
-    /// Runs a kernel on the device's elements of a section (section 2.5), and returns what it returns. After a kernel
-    /// that panics they stay lent until the table ends.
+    /// Runs a kernel on the device's elements of a section (section 2.5), and returns what it returns. It reaches them
+    /// where they lie, or in a copy where they are not aligned as elements are. After a kernel that panics they stay
+    /// lent until the table ends.
     pub fn run<E: Element, T>(
         &mut self,
         section: Span<E>,
         kernel: impl FnOnce(&mut [E]) -> T,
     ) -> Result<T, Refused> {
-        let mut elements = vec![E::default(); section.count];
-        let (bytes, len) = (elements.as_mut_ptr(), mem::size_of_val(&elements[..]));
         let table = &mut self.table.0;
+        let mut bytes = ptr::null_mut();
         // SAFETY: as `Table` tells.
         let lease = made(|lease, fault| unsafe {
             raw::lw_lend(table, self.number, section.start, section.len(), lease, fault)
         })?;
-        made(|_, fault| unsafe { raw::lw_lease_read(table, lease, bytes.cast(), len, fault) })?;
-        let answer = kernel(&mut elements);
-        let bytes = elements.as_ptr();
-        made(|_, fault| unsafe { raw::lw_lease_write(table, lease, bytes.cast(), len, fault) })?;
+        made(|len, fault| unsafe { raw::lw_lease_bytes(table, lease, &mut bytes, len, fault) })?;
+        // SAFETY: at the address lie the bytes of so many elements. The region is borrowed, so no call is made until
+        // the kernel returns, and no one else reaches them.
+        let answer = unsafe { run_on(bytes.cast(), section.count, kernel) };
         made(|_, fault| unsafe { raw::lw_gather(table, lease, fault) })?;
         Ok(answer)
     }

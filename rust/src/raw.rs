@@ -59,7 +59,7 @@ pub struct Async {
     pub number: i64,
 }
 
-pub const VERSION: u32 = 2000;
+pub const VERSION: u32 = 2001;
 pub const DONE: u32 = 0;
 pub const FAULT_TEXT_SIZE: usize = 66;
 pub const NO_QUEUE_GIVEN: u64 = u64::MAX;
@@ -69,6 +69,7 @@ extern "C" {
     pub fn lw_status_name(status: u32) -> *const c_char;
     pub fn lw_fault_text(told: &Fault, buffer: *mut c_char, size: usize, len: *mut u64) -> *const c_char;
     pub fn lw_table_new(table: &mut Table, limits: &Limits, fault: &mut Fault) -> u32;
+    pub fn lw_table_reset(table: &mut Table, fault: &mut Fault) -> u32;
     pub fn lw_table_end(table: &mut Table);
     pub fn lw_rebase(table: &mut Table, folded: &mut u64, fault: &mut Fault) -> u32;
     pub fn lw_array(table: &mut Table, len: u64, start: &mut u64, fault: &mut Fault) -> u32;
@@ -126,8 +127,13 @@ extern "C" {
         lease: &mut u64,
         fault: &mut Fault,
     ) -> u32;
-    pub fn lw_lease_read(table: &mut Table, lease: u64, bytes: *mut c_void, len: usize, fault: &mut Fault) -> u32;
-    pub fn lw_lease_write(table: &mut Table, lease: u64, bytes: *const c_void, len: usize, fault: &mut Fault) -> u32;
+    pub fn lw_lease_bytes(
+        table: &mut Table,
+        lease: u64,
+        bytes: &mut *mut c_void,
+        len: &mut u64,
+        fault: &mut Fault,
+    ) -> u32;
     pub fn lw_gather(table: &mut Table, lease: u64, fault: &mut Fault) -> u32;
     pub fn lw_report(table: &mut Table, buffer: *mut c_char, size: usize, len: &mut u64, fault: &mut Fault) -> u32;
 }

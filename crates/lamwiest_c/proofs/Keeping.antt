@@ -27,7 +27,7 @@ use Rattle.acc_table.specs.Turns.{lent_by}
 use Rattle.acc_table.proofs.Replying.{made_of}
 use Rattle.lamwiest_c.specs.declared.environments.KeptLease.{KeptLease}
 use Rattle.lamwiest_c.specs.Answers.{number_in, is_serial, leases_without}
-use Rattle.lamwiest_c.specs.Keeps.{Entries, leases_in, IsKept, AreKept, entries_by}
+use Rattle.lamwiest_c.specs.Keeps.{Entries, leases_in, IsKept, AreKept, entries_by, kept, lease_of_nothing}
 use Rattle.lamwiest_c.specs.Leases.{leases_with}
 
 -- ---- the serial number of the next loan
@@ -208,6 +208,12 @@ other_there n k (e ∷ es) h = go (e.0 == n) refl (other_there n k es) h
     go : (b : Bool) → (e.0 == n) ≡ b → (IsSome (value_at n es) → IsSome (value_at n (with_other n k es))) → IsSome (option_map (λ (d : ℕ × KeptLease). d.1) (cond b (Some e) (find (λ (d : ℕ × KeptLease). d.0 == n) es))) → IsSome (value_at n (with_other n k (e ∷ es)))
     go true t rest s = let own : (n == n) ≡ true = grind (arith, nat_tests) in rw (t, own) s
     go false t rest s = subst (λ (ds : Entries). IsSome (value_at n ds)) (sym (other_passes n k e es t)) (later_there n e (with_other n k es) t (rest s))
+
+-- the lease of a number is there while another one stands in its place
+pub taken_there : (n : ℕ) (es taken : Entries) (lease : Leased) → value_at n es ≡ Some (kept lease) → taken ≡ with_other n (kept lease_of_nothing) es → IsSome (value_at n taken)
+taken_there n es taken lease value is =
+    let some : IsSome (value_at n es) = subst IsSome (sym value) refl in
+    subst (λ (xs : Entries). IsSome (value_at n xs)) (sym is) (other_there n (kept lease_of_nothing) es some)
 
 -- leaves no trace when it is taken out
 pub without_other : (n : ℕ) (k : KeptLease) (es : Entries) → without_number n (with_other n k es) ≡ without_number n es

@@ -18,8 +18,9 @@ use Rattle.acc_table.specs.Turns.{lent_by}
 use Rattle.acc_table.specs.Calls.{IsCarriedOut, IsDone, MayWantMemory, IsRefusal}
 use Rattle.acc_table.proofs.Replying.{done_replied}
 use Rattle.lamwiest_c.specs.declared.statuses.Refusal.TheVariants.{BadLength, OfTable}
+use Rattle.lamwiest_c.specs.declared.loans.RawPlace.{RawPlace}
 use Rattle.lamwiest_c.specs.Environments.{DataEnvironment}
-use Rattle.lamwiest_c.specs.Leases.{leases_with, IsLeaseRead, IsLeaseWritten}
+use Rattle.lamwiest_c.specs.Leases.{leases_with, IsLeaseRead, IsLeaseWritten, IsLeasePlaced}
 use Rattle.lamwiest_c.specs.Answers.{Told, number_in, IsLent, CameOfLoan, CameOfLease, lease_of, leases_without, IsGathered}
 
 -- ---- an environment by its parts
@@ -129,3 +130,16 @@ module _ (e v : DataEnvironment) (serial : ℕ) (bytes : List ℕ) (T : Told) wh
 
     pub short_written : (length bytes ≡ n → ⊥) → T (Err (BadLength n)) → v ≡ e → IsLeaseWritten e serial bytes T v
     short_written other t same = subst IsWrittenOf (sym found) (subst (λ (b : Bool). WroteIf b lease) (sym (equal_false (length bytes) lease.len (λ k. other (k ∙ sym len)))) (subst (λ (k : ℕ). T (Err (BadLength k))) len t, same))
+
+-- ---- the place of a lease
+
+module _ (e : DataEnvironment) (serial : ℕ) (old new : RawPlace) (T : Told) where
+  -- what is told of the place of a lease
+  abbrev IsPlacedIf : Option Leased → Type 0
+  IsPlacedIf found = MatchOption found (T (Err (OfTable (NoLease serial))) × (new ≡ old)) (λ lease. T (Ok lease.len) × (new.offset ≡ lease.offset) × (new.len ≡ lease.len))
+
+  pub none_placed : lease_of serial e ≡ None → new ≡ old → T (Err (OfTable (NoLease serial))) → IsLeasePlaced e serial old new T
+  none_placed none same t = subst IsPlacedIf (sym none) (t, same)
+
+  pub there_placed : (lease : Leased) → lease_of serial e ≡ Some lease → T (Ok lease.len) → new.offset ≡ lease.offset → new.len ≡ lease.len → IsLeasePlaced e serial old new T
+  there_placed lease found t offset len = subst IsPlacedIf (sym found) (t, offset, len)

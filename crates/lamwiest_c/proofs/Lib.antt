@@ -4,3 +4,4 @@ pub mod Keeping
 pub mod Leasing
 pub mod Copying
 pub mod Telling
+pub mod Looking

@@ -1,14 +1,17 @@
 -- How the leases of a table are kept: by serial number. No contract of a call for C cites this module.
-use Rattle.std.specs.Prelude.{ℕ, ◌≡◌, ◌<◌, List, [], ◌∷◌, map}
+use Rattle.std.specs.Prelude.{ℕ, ◌≡◌, ◌<◌, nat_le, if◌then◌else◌, List, [], ◌∷◌, map, Option, None, Some}
 use Rattle.std.specs.List.{AllByRecursion}
 use Rattle.acc_base.specs.declared.calls.Call.{Call}
 use Rattle.acc_base.specs.declared.calls.Call.TheVariants.{Gather}
 use Rattle.acc_base.specs.Loans.{Leased}
 use Rattle.acc_base.specs.Calls.{World}
 use Rattle.acc_index.specs.Indexed.{with_other}
+use Rattle.acc_index.specs.declared.index.IndexEntry.{IndexEntry}
 use Rattle.acc_table.specs.declared.calls.Reply.{Reply}
 use Rattle.acc_table.specs.declared.calls.Reply.TheVariants as replies
 use Rattle.lamwiest_c.specs.declared.environments.KeptLease.{KeptLease}
+use Rattle.lamwiest_c.specs.declared.lookups.RawLease.{RawLease}
+use Rattle.lamwiest_c.specs.Leases.{raw_lease}
 
 -- leases with the numbers under which they are kept
 abbrev pub Entries : Type 0
@@ -40,3 +43,11 @@ entries_by _ = []
 abbrev pub restored : Call Leased → ℕ → Entries → Entries
 restored (Gather lease) serial entries = with_other serial (kept lease) entries
 restored _ serial entries = entries
+
+-- what is told of a lease that is there, if its number is at least this
+abbrev pub told_of : ℕ → Option KeptLease → Option RawLease
+told_of from None = None
+told_of from (Some own) = if nat_le from own.lease.serial then Some (raw_lease own.lease) else None
+
+abbrev pub told_from : ℕ → IndexEntry KeptLease → Option RawLease
+told_from from e = told_of from e.value

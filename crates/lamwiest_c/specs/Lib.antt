@@ -7,5 +7,6 @@ pub mod Answers
 pub mod Leases
 pub mod Finds
 pub mod Dids
+pub mod Events
 pub mod Begins
 pub mod Shows

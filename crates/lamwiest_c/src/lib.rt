@@ -11,6 +11,7 @@
 mod dids;
 mod directives;
 mod environments;
+mod events;
 mod handles;
 mod items;
 mod loans;

@@ -6,7 +6,7 @@ ghost use Rattle.acc_base.specs.declared.faults.Fault.TheVariants.{Memory};
 ghost use Rattle.acc_index.specs.Indexed.{value_at, with_other};
 ghost use Rattle.lamwiest_c.specs.Statuses.{IsAnswered, IsNumberAnswered};
 ghost use Rattle.lamwiest_c.specs.Answers.{number_in, section_at, IsLent, IsGathered, IsOf};
-ghost use Rattle.lamwiest_c.specs.Leases.{IsLeaseRead, IsLeaseWritten};
+ghost use Rattle.lamwiest_c.specs.Leases.{IsLeaseRead, IsLeaseWritten, IsLeasePlaced};
 ghost use Rattle.lamwiest_c.specs.Keeps.{kept, lease_of_nothing, entries_by, restored};
 
 use crate::environments::{KeptLease, TableWithLeases, number_in};
@@ -18,6 +18,18 @@ use acc_lend::Lease;
 use acc_table::{Call, Reply, abandon};
 use std::alloc::Global;
 use std::mem;
+
+/// Where the bytes of a lease lie.
+#[repr(C)]
+#[derive(Drop)]
+pub struct RawPlace {
+    /// The first byte of its block.
+    pub block: *mut u8,
+    /// The place in the block of the first byte that is lent.
+    pub offset: u64,
+    /// How many bytes are lent.
+    pub len: u64,
+}
 
 /// Makes room for one lease more.
 ///
@@ -90,6 +102,23 @@ fn restore(call: Call, leases: &mut Index<KeptLease>, serial: u64, place: usize)
     }
 }
 
+/// A lease, and where its bytes lie: they do not move until it is spent.
+fn placed(lease: Lease) -> (Lease, RawPlace)
+    ensures same { result.0 ≡ lease }
+    ensures place { (result.1.offset ≡ lease.offset) × (result.1.len ≡ lease.len) }
+{
+    let (device, serial, block) = (lease.device(), lease.serial(), lease.block());
+    let (offset, len) = (lease.offset(), lease.len());
+    let mut bytes = lease.into_block();
+    let place = RawPlace {
+        block: bytes.as_mut_ptr(),
+        offset: offset as u64,
+        len: len as u64,
+    };
+    let lease = Lease::of(serial, block, offset, len, bytes, device);
+    (lease, place)
+}
+
 impl TableWithLeases {
     /// Lends the block of a section in an open data region, and returns the serial number of its lease.
     fn lend(&mut self, region: u64, section: Section) -> Result<u64, Refusal>
@@ -139,6 +168,28 @@ impl TableWithLeases {
             return Err(Refusal::BadLength { len });
         }
         into.copy_from_slice(bytes);
+        Ok(len)
+    }
+
+    /// Where the bytes of a lease lie.
+    fn lease_place(
+        &mut self,
+        alloc: Global,
+        serial: u64,
+        place: &mut RawPlace,
+    ) -> Result<u64, Refusal>
+        ensures place { IsLeasePlaced self.old serial place.old place.new (λ r. result ≡ r) }
+        ensures same { self.new ≡ self.old }
+    {
+        self.leases.laws();
+        let near = self.leases.place(serial);
+        let Some(lease) = take_lease(alloc, &mut self.leases, serial, near) else {
+            return Err(Refusal::OfTable(Fault::NoLease { serial }));
+        };
+        let len = lease.len() as u64;
+        let (lease, told) = placed(lease);
+        exchange(&mut self.leases, serial, near, lease).abandon();
+        *place = told;
         Ok(len)
     }
 
@@ -241,6 +292,27 @@ pub extern "C" fn lamwiest_lease_write(
         return tell(Err(Refusal::Ended), fault);
     };
     let made = environment.lease_write(lease, bytes);
+    put_back(table, environment);
+    tell(made, fault)
+}
+
+/// Writes where the bytes of a lease lie, so that a kernel reads and writes them there. They do not move until
+/// [`lamwiest_gather`] spends it.
+#[unsafe(no_mangle)]
+pub extern "C" fn lamwiest_lease_place(
+    alloc: Global,
+    table: &mut Handle,
+    lease: u64,
+    place: &mut RawPlace,
+    fault: &mut FaultFields,
+) -> u32
+    ensures { IsOf table.old.value table.new.value (IsAnswered result fault.new)
+        (λ e v. IsLeasePlaced e lease place.old place.new (IsAnswered result fault.new) × (v ≡ e)) }
+{
+    let Some(mut environment) = take_out(alloc, table) else {
+        return tell(Err(Refusal::Ended), fault);
+    };
+    let made = environment.lease_place(alloc, lease, place);
     put_back(table, environment);
     tell(made, fault)
 }

@@ -1,5 +1,5 @@
-//! What a table has beside its mapped ranges: attached pointers, ended blocks, holes, open regions, its limits and what
-//! is left of them. These are queries as those of `queries.rt`.
+//! What a table has beside its mapped ranges: attached pointers, ended blocks, holes, open regions, leases that are out,
+//! its limits and what is left of them. These are queries as those of `queries.rt`.
 
 ghost use Rattle.std.specs.Prelude.{◌≡◌, Some, option_map};
 ghost use Rattle.acc_base.specs.Devices.{view};
@@ -7,12 +7,17 @@ ghost use Rattle.acc_base.specs.Waits.{ended_from};
 ghost use Rattle.acc_table.specs.Queries.{first_attached, newest_of};
 ghost use Rattle.lamwiest_c.specs.Answers.{section_at};
 ghost use Rattle.lamwiest_c.specs.Finds.{IsAskedOf, IsHoleAsked, raw_attached, raw_ended, raw_hole, raw_limits, left_of};
+ghost use Rattle.lamwiest_c.specs.Keeps.{leases_in, told_from};
+ghost use Rattle.lamwiest_c.specs.Leases.{raw_lease, lease_from};
 
+use crate::environments::KeptLease;
 use crate::handles::{Handle, put_back, take_out};
 use crate::queries::{found, number_of_bool};
 use crate::statuses::{ABSENT, ENDED};
 use crate::tables::RawLimits;
 use acc_base::{Attachment, Config, Ended, Hole, Section};
+use acc_index::{Index, IndexEntry};
+use acc_lend::Lease;
 use acc_table::Table;
 use std::alloc::Global;
 
@@ -60,6 +65,22 @@ pub struct RawLeft {
     pub regions: u64,
 }
 
+/// A lease that is out.
+#[repr(C)]
+#[derive(Clone, Copy)]
+pub struct RawLease {
+    /// Its serial number.
+    pub number: u64,
+    /// The number of the device.
+    pub device: u64,
+    /// The number of the block.
+    pub block: u64,
+    /// The place in the block of the first byte that is lent.
+    pub offset: u64,
+    /// How many bytes are lent.
+    pub len: u64,
+}
+
 fn raw_attached(attached: Attachment) -> RawAttached
     ensures { result ≡ raw_attached attached }
 {
@@ -86,6 +107,18 @@ fn raw_hole(hole: Hole) -> RawHole
     RawHole {
         place: hole.place,
         size: hole.size,
+    }
+}
+
+fn raw_lease(lease: &Lease) -> RawLease
+    ensures { result ≡ raw_lease lease.now }
+{
+    RawLease {
+        number: lease.serial(),
+        device: lease.device(),
+        block: lease.block(),
+        offset: lease.offset() as u64,
+        len: lease.len() as u64,
     }
 }
 
@@ -228,4 +261,46 @@ pub extern "C" fn lw_left(alloc: Global, table: &mut Handle, left: &mut RawLeft)
     let answer = left_of(&environment.table);
     put_back(table, environment);
     found(Some(answer), left)
+}
+
+/// What is told of the lease at a place, if it is not gone and its number is at least this.
+fn told_from(entry: &IndexEntry<KeptLease>, from: u64) -> Option<RawLease>
+    ensures { result ≡ told_from from entry.now }
+{
+    let own = entry.value.as_ref()?;
+    if own.lease.serial() < from {
+        return None;
+    }
+    Some(raw_lease(&own.lease))
+}
+
+/// The lease of least number at or above a number, if one is out.
+fn lease_from(leases: &Index<KeptLease>, from: u64) -> Option<RawLease>
+    ensures { result ≡ lease_from from (leases_in leases.now.entries) }
+{
+    let items = leases.items();
+    for entry in items {
+        if let Some(told) = told_from(entry, from) {
+            return Some(told);
+        }
+    }
+    None
+}
+
+/// Writes the lease of least number, at or above a number, that is out; returns `ABSENT` where there is none.
+#[unsafe(no_mangle)]
+pub extern "C" fn lw_lease(
+    alloc: Global,
+    table: &mut Handle,
+    from: u64,
+    lease: &mut RawLease,
+) -> u32
+    ensures { IsAskedOf table.old.value table.new.value (λ e. lease_from from e.leases) result lease.old lease.new }
+{
+    let Some(environment) = take_out(alloc, table) else {
+        return ENDED;
+    };
+    let answer = lease_from(&environment.leases, from);
+    put_back(table, environment);
+    found(answer, lease)
 }

@@ -98,7 +98,6 @@ static void draw_arrays(run *run)
 /* A new table, with counted traces or with full ones. */
 static void begin(run *run, const char *folder)
 {
-    bool is_full = is_drawn(run, 3);
     FILE *args = file_in(folder, "args");
     lw_limits limits = LW_LIMITS;
     lw_fault fault;
@@ -106,7 +105,7 @@ static void begin(run *run, const char *folder)
 
     limits.host = run->profile->host;
     limits.device = run->profile->device;
-    limits.full = is_full;
+    limits.full = run->is_full = is_drawn(run, 3);
     limits.devices = run->devices;
     if (lw_table_new(&run->table, &limits, &fault) != LW_DONE) {
         fail(run, "there is no table", fault.status);
@@ -117,7 +116,7 @@ static void begin(run *run, const char *folder)
         }
     }
     fprintf(args, "--host %" PRIu64 " --device %" PRIu64 " --devices %" PRIu64 " --threads %" PRIu64 "%s\n",
-            limits.host, limits.device, limits.devices, 1 + draw(run, 3), is_full ? " --trace full" : "");
+            limits.host, limits.device, limits.devices, 1 + draw(run, 3), run->is_full ? " --trace full" : "");
     close_file(args);
 }
 

@@ -225,6 +225,13 @@ static size_t say_directive(run *run, const char *name, lw_item *items, const cl
     return count;
 }
 
+/* A directive that may have a queue, and an option, left this event. */
+static void want_directive(run *run, uint32_t kind, const lw_item *items, size_t count, const options *options)
+{
+    want_event(run, (lw_stored_event){.kind = kind, .option = options->has_word, .device = run->device,
+                                      .queue = options->queue, .count = count}, items, NULL);
+}
+
 static void enter(run *run, const lw_item *items, size_t count)
 {
     uint64_t region = UNTOUCHED;
@@ -232,6 +239,9 @@ static void enter(run *run, const lw_item *items, size_t count)
     uint32_t status = lw_enter(&run->table, run->device, items, count, &region, &fault);
 
     if (is_answered(run, status, &fault, region)) {
+        want_event(run, (lw_stored_event){.kind = LW_ENTERED, .device = run->device, .queue = LW_NO_QUEUE_GIVEN,
+                                          .region = region, .count = count}, items, NULL);
+        run->entered[run->depth] = count;
         run->on[run->depth] = run->device;
         run->regions[run->depth++] = region;
     }
@@ -253,6 +263,8 @@ void say_end_data(run *run)
     end_line(run);
     if (is_done(run, lw_exit(&run->table, run->regions[run->depth - 1], &fault), &fault)) {
         run->left = run->regions[--run->depth];
+        want_event(run, (lw_stored_event){.kind = LW_LEFT, .device = run->on[run->depth], .queue = LW_NO_QUEUE_GIVEN,
+                                          .region = run->left, .count = run->entered[run->depth]}, NULL, NULL);
     }
 }
 
@@ -263,7 +275,9 @@ static void say_enter_data(run *run)
     size_t count = say_directive(run, "enter data", items, OF_ENTER_DATA, LENGTH_OF(OF_ENTER_DATA), &options);
     lw_fault fault;
 
-    is_done(run, lw_enter_data(&run->table, run->device, items, count, async_of(options.queue), &fault), &fault);
+    if (is_done(run, lw_enter_data(&run->table, run->device, items, count, async_of(options.queue), &fault), &fault)) {
+        want_directive(run, LW_ENTERED_DATA, items, count, &options);
+    }
 }
 
 static void say_exit_data(run *run)
@@ -272,10 +286,12 @@ static void say_exit_data(run *run)
     options options = draw_options(run, "finalize");
     size_t count = say_directive(run, "exit data", items, OF_EXIT_DATA, LENGTH_OF(OF_EXIT_DATA), &options);
     lw_fault fault;
+    uint32_t status =
+        lw_exit_data(&run->table, run->device, items, count, options.has_word, async_of(options.queue), &fault);
 
-    is_done(run,
-            lw_exit_data(&run->table, run->device, items, count, options.has_word, async_of(options.queue), &fault),
-            &fault);
+    if (is_done(run, status, &fault)) {
+        want_directive(run, LW_EXITED_DATA, items, count, &options);
+    }
 }
 
 static void say_update(run *run)
@@ -284,9 +300,12 @@ static void say_update(run *run)
     options options = draw_options(run, "if_present");
     size_t count = say_directive(run, "update", items, OF_UPDATE, LENGTH_OF(OF_UPDATE), &options);
     lw_fault fault;
+    uint32_t status =
+        lw_update(&run->table, run->device, items, count, options.has_word, async_of(options.queue), &fault);
 
-    is_done(run, lw_update(&run->table, run->device, items, count, options.has_word, async_of(options.queue), &fault),
-            &fault);
+    if (is_done(run, status, &fault)) {
+        want_directive(run, LW_UPDATED, items, count, &options);
+    }
 }
 
 /* A directive without items. No script can say that, so the script has one with an empty section, which does as little:
@@ -331,7 +350,10 @@ static void say_wait(run *run)
     }
     end_line(run);
     status = lw_wait(&run->table, run->device, queue, &made, &fault);
-    is_answered(run, status, &fault, made);
+    if (is_answered(run, status, &fault, made)) {
+        want_event(run, (lw_stored_event){.kind = LW_WAITED, .device = run->device, .queue = queue, .count = made},
+                   NULL, NULL);
+    }
 }
 
 static void say_step(run *run)
@@ -344,19 +366,34 @@ static void say_step(run *run)
     say(run, "step(%" PRIu64 ")", queue);
     end_line(run);
     status = lw_step(&run->table, run->device, queue, &made, &fault);
-    if (is_answered(run, status, &fault, made) && made == 0) {
+    if (!is_answered(run, status, &fault, made)) {
+        return;
+    }
+    if (made == 0) {
         fprintf(run->wanted, "idle\n");
+    } else {
+        want_event(run, (lw_stored_event){.kind = LW_STEPPED, .device = run->device, .queue = queue}, NULL, NULL);
     }
 }
 
 /* ---- Bytes ---- */
+
+/* The host writes, which leaves its event with the bytes. */
+static void write_host(run *run, uint64_t start, const uint8_t *bytes, size_t len)
+{
+    lw_fault fault;
+
+    if (is_done(run, lw_host_write(&run->table, start, bytes, len, &fault), &fault)) {
+        want_event(run, (lw_stored_event){.kind = LW_WRITTEN, .queue = LW_NO_QUEUE_GIVEN, .start = start, .len = len,
+                                          .stored = len}, NULL, bytes);
+    }
+}
 
 static void say_write(run *run)
 {
     place at = is_drawn(run, 3 * run->profile->wild) ? draw_pointer(run, WILD) : draw_byte(run);
     uint8_t bytes[64];
     size_t len = 1 + draw(run, is_drawn(run, 20) ? sizeof bytes : 16);
-    lw_fault fault;
 
     say(run, "write %s ", at.name);
     for (size_t i = 0; i < len; i++) {
@@ -364,7 +401,7 @@ static void say_write(run *run)
         say(run, is_drawn(run, 2) ? "%02x" : "%02X", bytes[i]);
     }
     end_line(run);
-    is_done(run, lw_host_write(&run->table, at.address, bytes, len, &fault), &fault);
+    write_host(run, at.address, bytes, len);
 }
 
 /* The host makes a pointer: the address as eight bytes, the lowest one first. */
@@ -373,14 +410,13 @@ static void say_point(run *run)
     place at = draw_pointer(run, draw_manner(run, WHOLE));
     place to = draw_byte(run);
     uint8_t bytes[8];
-    lw_fault fault;
 
     say(run, "point %s to %s", at.name, to.name);
     end_line(run);
     for (size_t i = 0; i < sizeof bytes; i++) {
         bytes[i] = (uint8_t)(to.address >> (8 * i));
     }
-    is_done(run, lw_host_write(&run->table, at.address, bytes, sizeof bytes, &fault), &fault);
+    write_host(run, at.address, bytes, sizeof bytes);
 }
 
 static void want_bytes(run *run, const uint8_t *bytes, size_t len)
@@ -500,26 +536,58 @@ static uint8_t changed(const task *task, uint8_t byte, size_t place)
     }
 }
 
-/* What the kernel does with its lease: the bytes are changed, and brought back. */
-static void work_on(run *run, const task *task, const section *lent, uint64_t lease)
+/* The kernel changes the bytes where they lie, and they come to stand in the buffer. */
+static void change_there(run *run, const task *task, uint64_t lease, uint8_t *buffer, uint64_t len)
 {
-    static uint8_t bytes[BYTES_MAX];
-    lw_fault fault;
-    uint32_t status = lw_lease_read(&run->table, lease, bytes, lent->len, &fault);
+    void *bytes = NULL;
+    uint64_t told = 0;
+    uint32_t status = lw_lease_bytes(&run->table, lease, &bytes, &told, NULL);
+
+    if (status != LW_DONE || told != len) {
+        fail(run, "the bytes of a lease lie nowhere", status);
+    }
+    for (uint64_t i = 0; i < len; i++) {
+        buffer[i] = ((uint8_t *)bytes)[i] = changed(task, ((const uint8_t *)bytes)[i], i);
+    }
+}
+
+/* The kernel changes them in a buffer, into which they are copied, and from which they are copied back. */
+static void change_copy(run *run, const task *task, uint64_t lease, uint8_t *buffer, uint64_t len)
+{
+    uint32_t status = lw_lease_read(&run->table, lease, buffer, len, NULL);
 
     if (status != LW_DONE) {
         fail(run, "the bytes of a lease cannot be read", status);
     }
-    for (size_t i = 0; i < lent->len; i++) {
-        bytes[i] = changed(task, bytes[i], i);
+    for (uint64_t i = 0; i < len; i++) {
+        buffer[i] = changed(task, buffer[i], i);
     }
-    status = lw_lease_write(&run->table, lease, bytes, lent->len, &fault);
+    status = lw_lease_write(&run->table, lease, buffer, len, NULL);
     if (status != LW_DONE) {
         fail(run, "the bytes of a lease cannot be written", status);
     }
+}
+
+/* What the kernel does with its lease: the bytes are changed, and brought back. */
+static void work_on(run *run, const task *task, const section *lent, uint64_t lease)
+{
+    static uint8_t bytes[BYTES_MAX];
+    lw_lent_lease told;
+    lw_fault fault;
+
+    want_event(run, (lw_stored_event){.kind = LW_LENT_BLOCK, .device = run->device, .queue = LW_NO_QUEUE_GIVEN,
+                                      .region = run->regions[run->depth - 1], .lease = lease, .start = lent->start,
+                                      .len = lent->len}, NULL, NULL);
+    if (lw_lease(&run->table, 0, &told) != LW_DONE || told.lease != lease || told.device != run->device ||
+        told.len != lent->len || lw_lease(&run->table, lease + 1, &told) != LW_ABSENT) {
+        fail(run, "another lease is out", 0);
+    }
+    (is_drawn(run, 2) ? change_there : change_copy)(run, task, lease, bytes, lent->len);
     make_unsaid_of_lent(run, lent, lease);
     if (is_done(run, lw_gather(&run->table, lease, &fault), &fault)) {
         run->spent = lease;
+        want_event(run, (lw_stored_event){.kind = LW_GATHERED, .device = run->device, .queue = LW_NO_QUEUE_GIVEN,
+                                          .lease = lease, .stored = lent->len}, NULL, bytes);
     }
 }
 

@@ -70,9 +70,11 @@ typedef struct run {
     lw_table table;
     uint64_t devices;
     uint64_t device; /* that of the calls */
+    bool is_full;    /* the trace stores bytes */
     array arrays[ARRAYS_MAX];
     uint64_t regions[REGIONS_MAX]; /* the open regions, the innermost one last */
     uint64_t on[REGIONS_MAX];      /* the device of each */
+    uint64_t entered[REGIONS_MAX]; /* how many items each was entered with */
     size_t depth;
     uint64_t left;  /* the region that was exited last, or 0 */
     uint64_t spent; /* the lease that was brought back last, or 0 */
@@ -155,6 +157,11 @@ size_t report_of(run *run, char *report);
 
 /* Ends the program where the report does not say what the queries answer. */
 void check_report(run *run, const char *report, size_t len);
+
+/* ---- events.c ---- */
+
+/* Ends the program where the last stored event is not this one, but for its block, with these items and bytes. */
+void want_event(run *run, lw_stored_event wanted, const lw_item *items, const void *bytes);
 
 /* ---- unsaid.c: what no script can say ---- */
 

@@ -241,6 +241,8 @@ static void no_lease(run *run)
     uint64_t lease = one_of(run, 0, UINT64_MAX, run->spent);
     lw_fault wanted = refusal(LW_NO_LEASE, 0, lease);
     uint8_t byte = 77;
+    void *bytes = &byte;
+    uint64_t len = 77;
     lw_fault fault;
     uint32_t status = lw_gather(&run->table, lease, &fault);
 
@@ -249,7 +251,9 @@ static void no_lease(run *run)
     want(run, "no lease is read", status, &fault, wanted);
     status = lw_lease_write(&run->table, lease, &byte, 1, &fault);
     want(run, "no lease is written", status, &fault, wanted);
-    if (byte != 77) {
+    status = lw_lease_bytes(&run->table, lease, &bytes, &len, &fault);
+    want(run, "no lease has bytes", status, &fault, wanted);
+    if (byte != 77 || bytes != &byte || len != 77) {
         fail(run, "a refused read writes", status);
     }
 }

@@ -1,4 +1,4 @@
-use Rattle.std.proofs.Common.{ℕ, ◌≡◌, ◌∙◌, refl, sym, ap, subst, IsSome, None, Some, Ok, Err}
+use Rattle.std.proofs.Common.{ℕ, ◌≡◌, ◌∙◌, refl, ap, subst, None, Some, Ok, Err}
 use Rattle.acc_base.specs.declared.calls.Call.{Call}
 use Rattle.acc_base.specs.declared.calls.Call.TheVariants.{Gather}
 use Rattle.acc_base.specs.declared.faults.Fault.TheVariants.{NoLease}
@@ -8,21 +8,15 @@ use Rattle.lamwiest_c.specs.declared.statuses.Refusal.TheVariants.{OfTable}
 use Rattle.lamwiest_c.specs.Environments.{DataEnvironment}
 use Rattle.lamwiest_c.specs.Keeps.{Entries, leases_in, kept, lease_of_nothing, restored}
 use Rattle.lamwiest_c.specs.Answers.{Told, lease_of, leases_without, IsGathered}
-use Rattle.lamwiest_c.proofs.Keeping.{kept_done, kept_without, found_kept, none_kept, leases-without, other_there, without_other, other_back}
+use Rattle.lamwiest_c.proofs.Keeping.{kept_done, kept_without, found_kept, none_kept, leases-without, taken_there, without_other, other_back}
 use Rattle.lamwiest_c.proofs.Leasing.{done_gathered, refused_gathered, none_gathered}
 use Rattle.lamwiest_c.proofs.environments.TableWithLeases.gather.Goals as goal
 
--- the lease of the number is there while another one stands in its place
-there : (n : ℕ) (es taken : Entries) (lease : Leased) → value_at n es ≡ Some (kept lease) → taken ≡ with_other n (kept lease_of_nothing) es → IsSome (value_at n taken)
-there n es taken lease value is =
-    let some : IsSome (value_at n es) = subst IsSome (sym value) refl in
-    subst (λ (xs : Entries). IsSome (value_at n xs)) (sym is) (other_there n (kept lease_of_nothing) es some)
-
 pub take_out_near-requires : goal.take_out_near-requires
-take_out_near-requires c = there c.args.serial c.self.inside.leases.entries c.take_lease.new.leases.entries c.in-Some.lease c.in-Some.ensures.0 c.in-Some.ensures.1
+take_out_near-requires c = taken_there c.args.serial c.self.inside.leases.entries c.take_lease.new.leases.entries c.in-Some.lease c.in-Some.ensures.0 c.in-Some.ensures.1
 
 pub restore-requires : goal.restore-requires
-restore-requires c = there c.args.serial c.self.inside.leases.entries c.take_lease.new.leases.entries c.in-Some.lease c.in-Some.ensures.0 c.in-Some.ensures.1
+restore-requires c = taken_there c.args.serial c.self.inside.leases.entries c.take_lease.new.leases.entries c.in-Some.lease c.in-Some.ensures.0 c.in-Some.ensures.1
 
 pub returns-in_default : goal.returns-in_default
 returns-in_default c =

@@ -153,10 +153,10 @@ other_none n k [] h = refl
 other_none n k (e ∷ es) h = rw h.0 (ap (λ (ds : Entries). e ∷ ds) (other_none n k es h.1))
 
 -- a list behind another lease: what is taken out of it, and what is written into it
-remove_later : (l : Leased) (ls : List Leased) (k : ℕ) → remove (l ∷ ls) (1 + k) ≡ l ∷ remove ls k
+pub remove_later : (l : Leased) (ls : List Leased) (k : ℕ) → remove (l ∷ ls) (1 + k) ≡ l ∷ remove ls k
 remove_later l ls k = let next : 1 + k ≡ suc k = omega arith in ap (remove (l ∷ ls)) next
 
-set_later : (l x : Leased) (ls : List Leased) (k : ℕ) → slice_set (l ∷ ls) (1 + k) x ≡ l ∷ slice_set ls k x
+pub set_later : (l x : Leased) (ls : List Leased) (k : ℕ) → slice_set (l ∷ ls) (1 + k) x ≡ l ∷ slice_set ls k x
 set_later l x ls k = let next : 1 + k ≡ suc k = omega arith in ap (λ (i : ℕ). slice_set (l ∷ ls) i x) next
 
 -- the leases without it

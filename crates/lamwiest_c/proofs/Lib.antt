@@ -5,3 +5,4 @@ pub mod Leasing
 pub mod Copying
 pub mod Telling
 pub mod Looking
+pub mod Lasting

@@ -33,6 +33,7 @@ fn offset_at(array: Array, text: &[u8]) -> Result<(u64, &[u8]), ScriptFault>
 }
 
 /// The host address of a byte of an array, and the text after it.
+#[inline(always)]
 #[tactic(auto, unfolding(crate::specs::Places::address_at))]
 pub fn address_at<'a>(arrays: &Arrays, text: &'a [u8]) -> Result<(u64, &'a [u8]), ScriptFault>
     ensures { let read = address_at arrays.now text.now in

@@ -184,20 +184,24 @@ fn statement_at<'a>(
 {
     let (word, rest) = word_at(text)?;
     if is_text(word, "data") {
-        data_at(alloc, arrays, device, rest)
-    } else if is_text(word, "enter") {
-        enter_at(alloc, arrays, device, rest)
-    } else if is_text(word, "exit") {
-        exit_at(alloc, arrays, device, rest)
-    } else if is_text(word, "update") {
-        update_at(alloc, arrays, device, rest)
-    } else if is_text(word, "write") {
-        write_at(alloc, arrays, rest)
-    } else if is_text(word, "point") {
-        point_at(alloc, arrays, rest)
-    } else {
-        Ok(short_at(word, arrays, device, innermost, rest)?)
+        return data_at(alloc, arrays, device, rest);
     }
+    if is_text(word, "enter") {
+        return enter_at(alloc, arrays, device, rest);
+    }
+    if is_text(word, "exit") {
+        return exit_at(alloc, arrays, device, rest);
+    }
+    if is_text(word, "update") {
+        return update_at(alloc, arrays, device, rest);
+    }
+    if is_text(word, "write") {
+        return write_at(alloc, arrays, rest);
+    }
+    if is_text(word, "point") {
+        return point_at(alloc, arrays, rest);
+    }
+    Ok(short_at(word, arrays, device, innermost, rest)?)
 }
 
 /// The statement that begins with this word, which takes no memory.

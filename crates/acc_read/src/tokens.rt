@@ -1,6 +1,6 @@
 //! Words, marks, numbers, names and bytes at the front of a text.
 
-ghost use Rattle.std.specs.Prelude.{◌≡◌, ◌≤◌, ◌<◌, ◌+◌, ◌*◌, ◌==◌, not, true, Some, min, take, length, IfOk, IsOk, MatchResult};
+ghost use Rattle.std.specs.Prelude.{◌≡◌, ◌≤◌, ◌<◌, ◌+◌, ◌*◌, ◌/◌, ◌%◌, ◌==◌, not, true, Some, min, take, length, slice_index, IfOk, IsOk, MatchResult};
 ghost use Rattle.std.specs.List.{list_all, prefix_len};
 ghost use Rattle.std.specs.Char.{is_ascii_digit, is_ascii_hexdigit};
 ghost use Rattle.std.specs.Str.{bytes_eq};
@@ -271,6 +271,7 @@ impl ByteTest for HexDigit {
 }
 
 /// The next word, which has to say bytes, and the text after it. It has pairs of hexadecimal digits, of either case.
+#[inline(always)]
 #[tactic(auto, using(crate::proofs::ByteWords::word_laws))]
 pub fn byte_word_at(text: &[u8]) -> Result<(&[u8], &[u8]), ScriptFault>
     ensures { MatchResult result
@@ -297,6 +298,7 @@ pub fn byte_word_at(text: &[u8]) -> Result<(&[u8], &[u8]), ScriptFault>
 /// # Errors
 ///
 /// Where memory is wanting.
+#[inline(always)]
 #[tactic(auto, using(crate::proofs::ByteWords::said_laws))]
 pub fn bytes_said(alloc: Global, word: &[u8]) -> Result<List<u8>, AllocError>
     requires { IsOk (bytes_said word.now) }
@@ -313,17 +315,22 @@ fn put_bytes(word: &[u8], bytes: &mut [u8])
     requires room { length word.now ≡ 2 * length bytes.old }
     ensures { decode_of word.now ≡ Ok bytes.new }
 {
+    let (pairs, _) = word.as_chunks::<2>();
     'bytes: for i in 0..bytes.len() {
-        bytes[i] = digit_value(word[2 * i]) * 16 + digit_value(word[2 * i + 1]);
+        bytes[i] = pair_value(pairs[i]);
     }
 }
 
-/// The value of a hexadecimal digit. No branch depends on the digit, so that the compiler can read many at once: of a
-/// letter the four low bits are its place from 1 on, and 9 stand before it.
-fn digit_value(digit: u8) -> u8
-    requires { is_ascii_hexdigit digit ≡ true }
-    ensures value { hex_digit_value digit ≡ Some result }
-    ensures bound { result < 16 }
+/// The byte that two hexadecimal digits say. They are taken together and no branch depends on them, so that the
+/// compiler can read many at once. Of a letter the four low bits are its place from 1 on, and 9 stand before it.
+fn pair_value(pair: [u8; 2]) -> u8
+    requires high { is_ascii_hexdigit (slice_index pair 0) ≡ true }
+    requires low { is_ascii_hexdigit (slice_index pair 1) ≡ true }
+    ensures high { hex_digit_value (slice_index pair 0) ≡ Some (result / 16) }
+    ensures low { hex_digit_value (slice_index pair 1) ≡ Some (result % 16) }
 {
-    digit % 16 + digit / 64 * 9
+    let digits = u16::from(pair[0]) + u16::from(pair[1]) * 256;
+    let high = digits % 16 + digits / 64 % 4 * 9;
+    let low = digits / 256 % 16 + digits / 16384 * 9;
+    (high * 16 + low) as u8
 }

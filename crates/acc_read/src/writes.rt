@@ -14,6 +14,7 @@ use acc_base::{List, ScriptFault};
 use std::alloc::Global;
 
 /// The host address and the bytes of a `write`.
+#[inline(always)]
 #[tactic(auto, unfolding(crate::specs::Statements::write_at))]
 pub fn write_at(alloc: Global, arrays: &Arrays, text: &[u8]) -> Result<Statement<'static>, Trouble>
     ensures { let read = write_at arrays.now text.now in MatchResult result

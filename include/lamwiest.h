@@ -16,6 +16,8 @@
  *   - No two of the objects that one call is given overlap, and no other thread writes one of them meanwhile.
  *   - A table is used by one thread at a time, by queries too, which write the handle. It is not used in a signal
  *     handler, nor in the child that a process with threads forks. Its thread is not cancelled in a call.
+ *   - Through an address of lw_lease_bytes only the bytes of its lease are read and written. No thread does so while
+ *     one is in a call on the table. Nor does any once the lease is spent, or the table has ended or begun anew.
  *   - A thread has 256 KiB of stack for a call.
  * All else that is wrong is told: as a status, with no change. So is a call that the program's own memory functions
  * make on the same handle: it is LW_ENDED.
@@ -33,7 +35,8 @@ extern "C" {
 /* ---- Versions ---- */
 
 /* The version of this header, 0.2.1: a million times the first number, a thousand times the second, and the third. A
-   library with the same first two numbers and any third takes programs that were compiled with this header. */
+   library with the same first two numbers, and this third one or a greater one, takes programs that were compiled with
+   this header. One with a lesser third takes those that make no call which came since. */
 #define LW_VERSION 2001
 
 /* The version of the library that the program is linked with. */
@@ -67,8 +70,10 @@ enum {
     LW_ENDED = 32,         /* the handle has no table: none was made, or it was ended */
     LW_BAD_CLAUSE = 33,    /* the clause number of an item is none of the directive's; item. It is told before all else
                               that a table refuses */
-    LW_BAD_LENGTH = 34,    /* a buffer is too short, or not as long as a lease; value: the length that is wanted */
-    LW_ABSENT = 35,        /* there is no such thing: nothing is mapped there */
+    LW_BAD_LENGTH = 34,    /* a buffer is too short, or not as long as a lease or the bytes of an event;
+                              value: the length that is wanted */
+    LW_ABSENT = 35,        /* there is no such thing: nothing is mapped there, or there is no such lease, event or
+                              item */
     LW_BAD_VERSION = 36    /* the limits are those of another header than the library knows: compile the program again;
                               value: the version of the library */
 };
@@ -135,8 +140,9 @@ typedef struct lw_limits {
    handle stays as it is. */
 uint32_t lw_table_new(lw_table *table, const lw_limits *limits, lw_fault *fault);
 
-/* Begins a table anew, with the limits that it has, as lw_table_new does. LW_ENDED or LW_MEMORY, and the handle stays
-   as it is. */
+/* Begins a table anew, with the limits that it has, as lw_table_new does. What it had is ended, with its leases.
+   Numbers begin anew, so one of before may be another region's or lease's; lw_array begins at LW_HOST_BASE again. For a
+   moment there is memory for both. LW_ENDED or LW_MEMORY, and the handle stays as it is. */
 uint32_t lw_table_reset(lw_table *table, lw_fault *fault);
 
 /* Ends a table with its leases, and gives back all of its memory. A handle without a table stays so. */
@@ -148,7 +154,8 @@ uint32_t lw_rebase(lw_table *table, uint64_t *folded, lw_fault *fault);
 
 /* Hands out the host addresses of an array of so many bytes: the first at LW_HOST_BASE, each other at the least
    multiple of 16 behind the one before it, as the arrays of a script. LW_OUT_OF_HOST where it does not end in host
-   memory. No address comes back before the table ends. It is no event. */
+   memory. No address comes back before the table ends or begins anew. It is no
+   event. */
 uint32_t lw_array(lw_table *table, uint64_t len, uint64_t *start, lw_fault *fault);
 
 /* ---- Items of data clauses (OpenACC 3.3, sections 2.6 and 2.7) ---- */
@@ -198,7 +205,7 @@ static inline lw_async lw_queue(int64_t number)
 #define LW_ASYNC_SYNC lw_queue(-2)
 #define LW_ASYNC_NOVAL lw_queue(-1)
 
-/* In place of the queue of lw_wait: all queues. */
+/* In place of a queue: of lw_wait all queues, and of a stored event also none. */
 #define LW_NO_QUEUE_GIVEN UINT64_MAX
 
 /* ---- Directives ---- */
@@ -258,15 +265,18 @@ uint32_t lw_device_read(lw_table *table, uint64_t device, uint64_t start, void *
    lent: LW_LENT where it is already. */
 uint32_t lw_lend(lw_table *table, uint64_t region, uint64_t start, uint64_t len, uint64_t *lease, lw_fault *fault);
 
-/* Copies the bytes of a lease. LW_BAD_LENGTH where len is not the length of its section. It is no event. */
+/* Copies the bytes of a lease. LW_BAD_LENGTH where len is not the length of its section; LW_NO_LEASE is told before
+   that. It is no event. */
 uint32_t lw_lease_read(lw_table *table, uint64_t lease, void *bytes, size_t len, lw_fault *fault);
 
 /* Writes the bytes of a lease, as the kernel leaves them. LW_BAD_LENGTH as above. It is no event. */
 uint32_t lw_lease_write(lw_table *table, uint64_t lease, const void *bytes, size_t len, lw_fault *fault);
 
 /* Where the bytes of a lease lie, and how many they are, so that a kernel reads and writes them there, and none is
-   copied. They do not move until lw_gather spends the lease. They are the caller's between calls: while any thread is
-   in a call on the table no other one reads or writes them. It is no event. */
+   copied. LW_NO_LEASE where no lease of that number is out. The address may have any alignment. They do not move until
+   lw_gather spends the lease: neither lw_rebase nor a refused lw_gather moves them. Then the address is nobody's, and
+   so it is behind lw_table_end, lw_table_new and lw_table_reset. They are the caller's between calls: while any thread
+   is in a call on the table no other one reads or writes them. It is no event. */
 uint32_t lw_lease_bytes(lw_table *table, uint64_t lease, void **bytes, uint64_t *len, lw_fault *fault);
 
 /* Brings a lease back: the device has its bytes again, as they were last written. A lease that is refused stays.
@@ -434,10 +444,12 @@ uint32_t lw_dids(lw_table *table, lw_item_did *dids, size_t count);
 
 /* ---- The stored trace ---- */
 
+/* These calls answer as the queries do. lw_event_bytes fills in a fault, too. */
+
 /* What an event is: the call that it came of. */
 enum {
     LW_ENTERED = 1,      /* lw_enter */
-    LW_LEFT = 2,         /* lw_exit */
+    LW_EXITED = 2,       /* lw_exit */
     LW_ENTERED_DATA = 3, /* lw_enter_data */
     LW_EXITED_DATA = 4,  /* lw_exit_data */
     LW_UPDATED = 5,      /* lw_update */
@@ -448,18 +460,20 @@ enum {
     LW_GATHERED = 10     /* lw_gather */
 };
 
-/* An event of the stored trace. All numbers that do not apply are 0. */
+/* An event of the stored trace. All numbers that do not apply are 0, but the queue. */
 typedef struct lw_stored_event {
     uint32_t kind;   /* LW_ENTERED to LW_GATHERED */
     uint32_t option; /* 1 with the finalize or the if_present clause, else 0 */
     uint64_t device; /* the number of the device */
-    uint64_t queue;  /* the queue; LW_NO_QUEUE_GIVEN where it has none, and of a wait for all queues */
-    uint64_t region; /* of LW_ENTERED, LW_LEFT and LW_LENT_BLOCK: the number of the region */
+    uint64_t queue;  /* the queue; LW_NO_QUEUE_GIVEN where it has none, and of a wait for all queues. As an async clause
+                        none is LW_ASYNC_SYNC */
+    uint64_t region; /* of LW_ENTERED, LW_EXITED and LW_LENT_BLOCK: the number of the region */
     uint64_t lease;  /* of LW_LENT_BLOCK and LW_GATHERED: the number of the lease */
     uint64_t block;  /* of LW_STEPPED, LW_LENT_BLOCK and LW_GATHERED: the number of the block */
     uint64_t start;  /* of LW_WRITTEN and LW_LENT_BLOCK: the first host address */
     uint64_t len;    /* of these: how many bytes */
-    uint64_t count;  /* how many items it has; of LW_WAITED: how many copies it made */
+    uint64_t count;  /* how many items its call named; of LW_EXITED those of the entry; of LW_STEPPED 0; of LW_WAITED:
+                        how many copies it made */
     uint64_t stored; /* of LW_WRITTEN and LW_GATHERED: how many bytes the trace has of it */
 } lw_stored_event;
 
@@ -467,12 +481,14 @@ typedef struct lw_stored_event {
    there are no so many. */
 uint32_t lw_event(lw_table *table, uint64_t place, lw_stored_event *event);
 
-/* An item as the call of an event named it, counted from 0. LW_ABSENT where the event has no such item. Those of
-   LW_LEFT are not named: they are those of the LW_ENTERED of its region. */
+/* An item as the call of an event named it, counted from 0; its pointer is 0 for none. LW_ABSENT where there is no such
+   event, or no such item of it. LW_EXITED names none: its items are those of the LW_ENTERED of its region, which
+   lw_rebase may have folded. */
 uint32_t lw_event_item(lw_table *table, uint64_t place, uint64_t item, lw_item *named);
 
-/* Copies the bytes that the trace has of an event: with full traces those that lw_host_write wrote, or with which the
-   section of a lease came back; else none. LW_ABSENT as above. LW_BAD_LENGTH where len is not how many they are. */
+/* Copies the bytes that the trace has of an event, as many as lw_event tells in stored. With full traces they are those
+   that lw_host_write wrote, or with which the section of a lease came back; else there are none. LW_ABSENT where there
+   is no such event; then LW_BAD_LENGTH where len is not how many they are. */
 uint32_t lw_event_bytes(lw_table *table, uint64_t place, void *bytes, size_t len, lw_fault *fault);
 
 /* ---- The report ---- */
@@ -495,7 +511,8 @@ uint32_t lw_shared_new(lw_shared **shared, const lw_limits *limits, lw_fault *fa
 void lw_shared_end(lw_shared *shared);
 
 /* Waits until no other thread has the lock, takes it, and returns the table. NULL where this thread has it already. The
-   table is this thread's until lw_shared_leave or lw_shared_wait; it is not ended by lw_table_end. */
+   table is this thread's until lw_shared_leave or lw_shared_wait; it is not ended by lw_table_end, nor
+   begun anew by lw_table_new or lw_table_reset. */
 lw_table *lw_shared_take(lw_shared *shared);
 
 /* Leaves the table to the others. */

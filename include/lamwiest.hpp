@@ -182,7 +182,8 @@ public:
         return folded;
     }
 
-    // Begins anew, with the limits that it has.
+    // Begins anew, with the limits that it has. No region and no lease of it is there then: a lease would write where
+    // its bytes lay. Spans of before have no addresses.
     void reset()
     {
         lw_fault fault;
@@ -245,8 +246,8 @@ private:
 };
 
 // The device's elements of a section, lent to a kernel (section 2.5). They are reached where they lie, or in a copy
-// where they are not aligned as elements are. At the end of its block the device has them again, as the kernel left
-// them.
+// where they are not aligned as elements are. While a thread is in a call on the table, no other one reads or writes
+// them. At the end of its block the device has them again, as the kernel left them.
 template <class T> class Lease {
 public:
     Lease(Region &region, Span<T> section) : table(region.table)
@@ -256,8 +257,7 @@ public:
         must(lw_lend(table.get(), region.number, section.start, section.len(), &number, &fault), fault);
         lw_lease_bytes(table.get(), number, &bytes, &len, nullptr);
         if (reinterpret_cast<std::uintptr_t>(bytes) % alignof(T) != 0) {
-            copy.resize(section.count);
-            std::memcpy(copy.data(), bytes, section.len());
+            take_copy(section);
         }
         elements = copy.empty() ? static_cast<T *>(bytes) : copy.data();
         count = section.count;
@@ -265,7 +265,7 @@ public:
     Lease(const Lease &) = delete;
     Lease &operator=(const Lease &) = delete;
 
-    // A destructor can't throw: a lease that is refused stays out until its table ends.
+    // A destructor can't throw: a lease that is refused stays out until its table ends or begins anew.
     ~Lease()
     {
         if (is_out) {
@@ -290,6 +290,18 @@ public:
     T *end() { return elements + count; }
 
 private:
+    // Without memory for the copy the lease is brought back.
+    void take_copy(Span<T> section)
+    {
+        try {
+            copy.resize(section.count);
+        } catch (...) {
+            lw_gather(table.get(), number, nullptr);
+            throw;
+        }
+        std::memcpy(copy.data(), bytes, section.len());
+    }
+
     void put_back()
     {
         if (!copy.empty()) {

@@ -903,7 +903,7 @@ static const row TRACE[] = {
     {"its bytes", event_bytes, .at = 8, .len = 8, ANSWERS(0x1112131415161718)},
     {"the exit data", event, .at = 9, ANSWERS(EVENT(LW_EXITED_DATA, 1, 0, NO_QUEUE, 0, 0, 0, 1))},
     {"its item", event_item, .at = 9, .len = 0, ANSWERS(ITEM(LW_COPYOUT, C, 16, 0))},
-    {"the end", event, .at = 10, ANSWERS(EVENT(LW_LEFT, 0, 1, NO_QUEUE, 1, 0, 0, 2))},
+    {"the end", event, .at = 10, ANSWERS(EVENT(LW_EXITED, 0, 1, NO_QUEUE, 1, 0, 0, 2))},
     {"it names no item", event_item, .at = 10, .len = 0, REFUSED(LW_ABSENT, 0, 0)},
     {"no event behind it", event, .at = 11, REFUSED(LW_ABSENT, 0, 0)},
     {"nor far behind", event, .at = UINT64_MAX, REFUSED(LW_ABSENT, 0, 0)},

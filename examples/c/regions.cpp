@@ -42,6 +42,14 @@ void fail_in_region(lamwiest::Table &table, Doubles b)
     throw std::runtime_error("the kernel failed");
 }
 
+// Elements that lie where the machine wants none: the kernel has a copy of them, which comes back.
+void add_at_an_odd_address(lamwiest::Region &region, Doubles odd)
+{
+    lamwiest::Lease<double> on_odd(region, odd);
+
+    on_odd[0] += on_odd[1];
+}
+
 void show(const char *name, const std::vector<double> &elements)
 {
     std::cout << name << ':';
@@ -80,6 +88,15 @@ void run()
     table.exit_data({lamwiest::copyout(b)});
     show("b", table.read(b));
     std::cout << table.report();
+
+    lamwiest::Span<char> bytes = table.array<char>(1 + 2 * sizeof(double));
+    Doubles odd = {bytes.start + 1, 2};
+    table.write(odd, {1, 2});
+    {
+        lamwiest::Region region(table, {lamwiest::copy(bytes)});
+        add_at_an_odd_address(region, odd);
+    }
+    show("odd", table.read(odd));
 }
 
 } // namespace

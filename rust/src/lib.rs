@@ -338,7 +338,7 @@ impl Table {
         made(|folded, fault| unsafe { raw::lw_rebase(&mut self.0, folded, fault) })
     }
 
-    /// Begins anew, with the limits that it has.
+    /// Begins anew, with the limits that it has. Spans of before have no addresses then.
     pub fn reset(&mut self) -> Result<(), Refused> {
         // SAFETY: as `Table` tells.
         made(|_, fault| unsafe { raw::lw_table_reset(&mut self.0, fault) })?;
@@ -402,7 +402,7 @@ pub struct Region<'table> {
 impl Region<'_> {
     /// Runs a kernel on the device's elements of a section (section 2.5), and returns what it returns. It reaches them
     /// where they lie, or in a copy where they are not aligned as elements are. After a kernel that panics they stay
-    /// lent until the table ends.
+    /// lent until the table ends or begins anew.
     pub fn run<E: Element, T>(
         &mut self,
         section: Span<E>,

@@ -263,7 +263,7 @@ void say_end_data(run *run)
     end_line(run);
     if (is_done(run, lw_exit(&run->table, run->regions[run->depth - 1], &fault), &fault)) {
         run->left = run->regions[--run->depth];
-        want_event(run, (lw_stored_event){.kind = LW_LEFT, .device = run->on[run->depth], .queue = LW_NO_QUEUE_GIVEN,
+        want_event(run, (lw_stored_event){.kind = LW_EXITED, .device = run->on[run->depth], .queue = LW_NO_QUEUE_GIVEN,
                                           .region = run->left, .count = run->entered[run->depth]}, NULL, NULL);
     }
 }

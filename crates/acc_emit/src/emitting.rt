@@ -130,7 +130,7 @@ fn emit_effect(
     }
     match effect {
         Effect::Refused(fault) => emit_refused(alloc, emitter, statement, fault),
-        _ => emit_statement(alloc, emitter, line, statement, printed.as_slice()),
+        _ => emit_statement(alloc, emitter, statement, printed.as_slice()),
     }
 }
 
@@ -149,7 +149,6 @@ fn put_statement(sheet: &mut Sheet, line: &[u8]) {
 fn emit_statement(
     alloc: Global,
     emitter: &mut Emitter<'_>,
-    line: &[u8],
     statement: &Statement<'_>,
     printed: &[u8],
 ) -> Result<(), Fault> {
@@ -166,9 +165,12 @@ fn emit_statement(
         } => emit_kernel(emitter, *kernel, *section),
         Statement::Write { addr, bytes } => {
             let start = *addr;
-            let len = bytes.as_slice().len() as u64;
-            let is_point = statement_text(line).starts_with(b"point");
-            emit_write(emitter, Section { start, len }, is_point)?;
+            let len = bytes.len() as u64;
+            emit_write(emitter, Section { start, len }, false)?;
+        }
+        Statement::Point { addr, .. } => {
+            let start = *addr;
+            emit_write(emitter, Section { start, len: 8 }, true)?;
         }
         Statement::Show(section) | Statement::Peek(section) | Statement::Present(section)
             if section.len == 0 => {

@@ -104,7 +104,11 @@ fn item_in(statement: &Statement<'_>, nth: usize) -> Option<Item<()>> {
         } => Some(section_alone(kernel_section(*kernel, *section, nth))),
         Statement::Write { addr, bytes } => Some(section_alone(Section {
             start: *addr,
-            len: bytes.as_slice().len() as u64,
+            len: bytes.len() as u64,
+        })),
+        Statement::Point { addr, .. } => Some(section_alone(Section {
+            start: *addr,
+            len: 8,
         })),
         Statement::Show(section) => Some(section_alone(*section)),
         _ => None,

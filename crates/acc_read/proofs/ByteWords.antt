@@ -1,19 +1,19 @@
 -- Words that say bytes.
-use Rattle.std.proofs.Common.{◌≡◌, ℕ, ◌<◌, ◌≤◌, ◌%◌, ◌-◌, ◌≢◌, Bool, true, false, cond, List, [], ◌∷◌, length, take, drop, Some, None, Result, Ok, Err, refl, ap, sym, ◌∙◌, arith}
+use Rattle.std.proofs.Common.{◌≡◌, ℕ, ◌<◌, ◌≤◌, ◌%◌, ◌-◌, ◌*◌, ◌≢◌, Bool, true, false, cond, List, [], ◌∷◌, length, take, drop, Some, None, Result, Ok, Err, refl, ap, sym, ◌∙◌, arith}
 use Rattle.std.specs.Prelude.{not, ◌==◌, ◌||◌, ◌&&◌, nat_le, nat_lt, is_some, IsOk}
 use Rattle.std.specs.List.{list_all, prefix_len}
 use Rattle.std.specs.Char.{is_ascii_hexdigit}
+use Rattle.std.specs.Result.{result_unwrap_or}
 use Rattle.std.proofs.lemmas.Bool.{le-ltb, lt-ltb, eq-eqb, eqb-true, ne_eqb, not-false, and_parts}
 use Rattle.std.proofs.lemmas.Bool.Decides.{nat_tests}
 use Rattle.std.proofs.lemmas.List.Folds.{length-prefix_len}
 use Rattle.std.proofs.lemmas.List.Sums.{AllPass-from_list_all}
 use Rattle.hex.specs.Hex.{decode_of, is_hex_digit}
-use Rattle.hex.proofs.HexLemmas.{decode_of-digits}
+use Rattle.hex.proofs.HexLemmas.{decode_of-digits, decode_of-ok}
 use Rattle.hex.specs.declared.error.FromHexError.{FromHexError}
-use Rattle.hex.specs.declared.error.FromHexError.TheVariants.{OddLength}
 use Rattle.acc_base.specs.declared.faults.ScriptFault.{ScriptFault}
 use Rattle.acc_base.specs.declared.faults.ScriptFault.TheVariants.{Syntax, Number}
-use Rattle.acc_read.specs.Bytes.{digit_limit, bytes_said, next_said, decoded}
+use Rattle.acc_read.specs.Bytes.{digit_limit, bytes_said, next_said, decoded, bytes_in}
 use Rattle.acc_read.specs.Reading.{◌>>=◌}
 use Rattle.acc_read.specs.Tokens.{is_word_byte, word_len, word_at, skip_blanks}
 use Rattle.acc_read.proofs.WordFronts.{all_of_word, part_of_word, front_passes}
@@ -63,21 +63,42 @@ said_digits word right = by (list_all is_ascii_hexdigit word) _ right
     by false rest h = absurd cc
     by true rest h = refl
 
--- two digits say a byte
-pub said_pairs : (word : List ℕ) → IsOk (bytes_said word) → length word % 2 ≢ 1
+-- its bytes are those that its digits are decoded to
+said_decoded : (word : List ℕ) → IsOk (bytes_said word) → decode_of word ≡ Ok (bytes_in word)
 unfolding bytes_said
-said_pairs word right odd =
-    by (list_all is_ascii_hexdigit word) (nat_lt digit_limit (length word)) (length word % 2 == 1) _ (eq-eqb (length word % 2) 1 odd) right
+said_decoded word right = by (list_all is_ascii_hexdigit word) (nat_lt digit_limit (length word)) (decode_of word) right
   where
-    by : (b c d : Bool) (pairs : Result (List ℕ) FromHexError) → d ≡ true
-        → IsOk (cond (not b) (Err Syntax) (cond c (Err Number) (decoded (cond d (Err OddLength) pairs)))) → ⊥
-    by false c d pairs e h = cc
-    by true true d pairs e h = cc
-    by true false true pairs e h = cc
-    by true false false pairs e h = cc
+    by : (b c : Bool) (bytes : Result (List ℕ) FromHexError) → let said : Result (List ℕ) ScriptFault = cond (not b) (Err Syntax) (cond c (Err Number) (decoded bytes)) in
+        IsOk said → bytes ≡ Ok (result_unwrap_or said [])
+    by false c bytes h = absurd cc
+    by true true bytes h = absurd cc
+    by true false (Ok bytes) h = refl
+    by true false (Err odd) h = absurd cc
+
+-- they are half as many as the digits
+pub said_len : (word : List ℕ) → IsOk (bytes_said word) → length word ≡ 2 * length (bytes_in word)
+said_len word right = (decode_of-ok word (bytes_in word) (said_decoded word right)).2
+
+-- and not many
+pub said_few : (word : List ℕ) → IsOk (bytes_said word) → length word ≤ 128
+unfolding bytes_said
+said_few word right = by (list_all is_ascii_hexdigit word) (nat_lt digit_limit (length word)) refl right
+  where
+    by : (b c : Bool) → nat_lt digit_limit (length word) ≡ c → IsOk (cond (not b) (Err Syntax) (cond c (Err Number) (decoded (decode_of word)))) → length word ≤ 128
+    by false c e h = absurd cc
+    by true true e h = absurd cc
+    by true false e h = grind (arith, nat_tests)
+
+-- what is decoded is what the word says
+pub said_by_digits : (word bytes : List ℕ) → IsOk (bytes_said word) → decode_of word ≡ Ok bytes → bytes ≡ bytes_in word
+said_by_digits word bytes right e = ap (λ said. result_unwrap_or said []) (sym (word_decoded word bytes right e))
+
+-- a word that says bytes says these
+pub says_bytes : (word : List ℕ) → IsOk (bytes_said word) → bytes_said word ≡ Ok (bytes_in word)
+says_bytes word right = word_decoded word (bytes_in word) right (said_decoded word right)
 
 -- what is known of a word that says bytes
-pub ruleset said_laws = (word_decoded, said_digits, said_pairs)
+pub ruleset said_laws = (said_digits, said_len, said_few, said_by_digits, says_bytes)
 
 -- how many digits stand at the front of the next word
 abbrev digits_len : List ℕ → ℕ

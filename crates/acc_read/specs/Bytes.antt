@@ -1,6 +1,7 @@
 -- Bytes, written as hexadecimal digits.
-use Rattle.std.specs.Prelude.{ℕ, not, List, length, Result, Ok, Err, nat_lt, if◌then◌else◌}
+use Rattle.std.specs.Prelude.{ℕ, not, List, [], length, Result, Ok, Err, nat_lt, if◌then◌else◌}
 use Rattle.std.specs.Char.{is_ascii_hexdigit}
+use Rattle.std.specs.Result.{result_unwrap_or}
 use Rattle.std.specs.List.{list_all}
 use Rattle.hex.specs.declared.error.FromHexError.{FromHexError}
 use Rattle.hex.specs.Hex.{decode_of}
@@ -27,3 +28,7 @@ bytes_said word = if not (list_all is_ascii_hexdigit word) then Err Syntax
 -- the bytes that the next word says
 abbrev pub next_said : List ℕ → Result (List ℕ) ScriptFault
 next_said text = word_at text >>= (λ word. bytes_said word.0)
+
+-- the bytes that a word says, and none where it says no bytes
+abbrev pub bytes_in : List ℕ → List ℕ
+bytes_in word = result_unwrap_or (bytes_said word) []

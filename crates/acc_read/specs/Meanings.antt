@@ -1,5 +1,6 @@
 -- What statements and clauses of the code say, without where they lie in memory.
 use Rattle.std.specs.Prelude.{◌≡◌, true, false, List, [], ◌∷◌, Option, Some, None, length, ◌==◌, vec_len, vec_capacity}
+use Rattle.std.specs.Int.{to_le_bytes, w64}
 use Rattle.acc_read.specs.declared.kept.KeptItems.{KeptItems}
 use Rattle.acc_read.specs.declared.kept.Finished.{Finished}
 use Rattle.acc_read.specs.declared.kept.Finished.TheVariants.{Fitted, Single, Refused}
@@ -18,6 +19,7 @@ meaning_of (code.Direct directive) = Direct directive
 meaning_of (code.Select device) = Select device
 meaning_of (code.Kernel region kernel section) = Kernel region kernel section
 meaning_of (code.Write addr bytes) = Write addr bytes
+meaning_of (code.Point addr target) = Write addr (to_le_bytes w64 target)
 meaning_of (code.Show section) = Show section
 meaning_of (code.Peek section) = Peek section
 meaning_of (code.Present section) = Present section

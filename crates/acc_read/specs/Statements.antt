@@ -41,10 +41,9 @@ has_items (Wait device queue) = false
 has_items (Step device queue) = false
 has_items d = true
 
--- a statement for which reading allocates: a directive with clauses, and a write, whose bytes are a list
+-- a statement for which reading allocates: a directive with clauses
 abbrev pub takes_memory : Meaning → Bool
 takes_memory (Direct directive) = has_items directive
-takes_memory (Write addr bytes) = true
 takes_memory _ = false
 
 -- a new array of a name and a length, if host memory has room for it

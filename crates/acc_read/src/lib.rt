@@ -6,6 +6,7 @@
 #![tactic(auto)]
 
 mod arrays;
+mod byte_words;
 mod clauses;
 mod directives;
 mod grammar;
@@ -24,6 +25,7 @@ mod troubles;
 mod writes;
 
 pub use arrays::{Array, Arrays};
+pub use byte_words::ByteWord;
 pub use items::ItemKind;
 pub use kernels::ScriptKernel;
 pub use lines::next_line;

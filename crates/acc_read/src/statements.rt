@@ -8,6 +8,7 @@ ghost use Rattle.acc_read.specs.Meanings.{meaning_of};
 ghost use Rattle.acc_read.specs.PlainLines.{is_plain_byte, text_of};
 
 use crate::arrays::{Array, Arrays};
+use crate::byte_words::ByteWord;
 use crate::directives::{
     data_at, end_at, enter_at, exit_at, select_at, step_at, update_at, wait_at,
 };
@@ -17,7 +18,7 @@ use crate::runs::{ByteTest, all_pass};
 use crate::tokens::{is_at_end, is_text, name_at, number_at, word_at};
 use crate::troubles::Trouble;
 use crate::writes::{point_at, write_at};
-use acc_base::{Directive, List, ScriptFault, Section};
+use acc_base::{Directive, ScriptFault, Section};
 use std::alloc::Global;
 
 /// How many bytes a line may have, with its comment.
@@ -53,7 +54,14 @@ pub enum Statement<'a> {
         /// The first host address.
         addr: u64,
         /// The bytes to write, at most 64.
-        bytes: List<u8>,
+        bytes: ByteWord<'a>,
+    },
+    /// A write of a host address into a pointer, as eight bytes, the lowest first.
+    Point {
+        /// The host address of the pointer.
+        addr: u64,
+        /// The host address that the pointer has then.
+        target: u64,
     },
     /// The bytes of a section of host memory.
     Show(Section),
@@ -72,7 +80,7 @@ pub enum Statement<'a> {
 ///
 /// # Errors
 ///
-/// The first fault of the line; lack of memory where it has none, and its items or bytes found no memory.
+/// The first fault of the line; lack of memory where it has none, and its items found no memory.
 #[tactic(auto, unfolding(crate::specs::Statements::line_at))]
 pub fn line_at<'a>(
     alloc: Global,
@@ -196,10 +204,10 @@ fn statement_at<'a>(
         return update_at(alloc, arrays, device, rest);
     }
     if is_text(word, "write") {
-        return write_at(alloc, arrays, rest);
+        return Ok(write_at(arrays, rest)?);
     }
     if is_text(word, "point") {
-        return point_at(alloc, arrays, rest);
+        return Ok(point_at(arrays, rest)?);
     }
     Ok(short_at(word, arrays, device, innermost, rest)?)
 }

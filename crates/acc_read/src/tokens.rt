@@ -1,16 +1,12 @@
-//! Words, marks, numbers, names and bytes at the front of a text.
+//! Words, marks, numbers and names at the front of a text.
 
-ghost use Rattle.std.specs.Prelude.{◌≡◌, ◌≤◌, ◌<◌, ◌+◌, ◌*◌, ◌/◌, ◌%◌, ◌==◌, not, true, Some, min, take, length, slice_index, IfOk, IsOk, MatchResult};
+ghost use Rattle.std.specs.Prelude.{◌≡◌, ◌≤◌, ◌<◌, ◌+◌, ◌==◌, not, true, min, take, length, IfOk, MatchResult};
 ghost use Rattle.std.specs.List.{list_all, prefix_len};
-ghost use Rattle.std.specs.Char.{is_ascii_digit, is_ascii_hexdigit};
+ghost use Rattle.std.specs.Char.{is_ascii_digit};
 ghost use Rattle.std.specs.Str.{bytes_eq};
 ghost use Rattle.acc_read.specs.Tokens.{is_blank, is_word_byte, word_len, skip_blanks, is_at_end, word_at, keyword_at, is_word_next, is_mark_next, mark_at, skip_comma, is_word_before, is_keyword, number_at, is_name_byte, begins_lower, is_name, value_of, name_at};
-ghost use Rattle.acc_read.specs.Bytes.{bytes_said, next_said};
-ghost use Rattle.hex.specs.Hex.{decode_of, hex_digit_value};
 
-use crate::runs::{ByteTest, passing_len};
-use acc_base::{List, ScriptFault};
-use std::alloc::{AllocError, Global};
+use acc_base::ScriptFault;
 
 /// The byte is a space or a tab.
 pub fn is_blank(b: u8) -> bool
@@ -56,7 +52,7 @@ fn word_len(text: &[u8]) -> usize
 
 /// The text from its first token on. A token mostly stands first, or behind one blank.
 #[inline(always)]
-fn skip_blanks(text: &[u8]) -> &[u8]
+pub fn skip_blanks(text: &[u8]) -> &[u8]
     ensures { result.now ≡ skip_blanks text.now }
 {
     match text {
@@ -101,7 +97,7 @@ pub fn word_at(text: &[u8]) -> Result<(&[u8], &[u8]), ScriptFault>
 }
 
 /// A byte of a word stands first.
-fn begins_word(text: &[u8]) -> bool
+pub fn begins_word(text: &[u8]) -> bool
     ensures { result ≡ not (word_len text.now == 0) }
 {
     match text {
@@ -252,85 +248,4 @@ pub fn name_at(text: &[u8]) -> Result<(&[u8], &[u8]), ScriptFault>
         return Err(ScriptFault::Syntax);
     }
     Ok((word, rest))
-}
-
-/// How many digits may stand in one word.
-const DIGIT_LIMIT: usize = 128;
-
-/// A hexadecimal digit, of either case.
-struct HexDigit;
-
-impl ByteTest for HexDigit {
-    ghost test = { is_ascii_hexdigit };
-
-    fn passes(byte: u8) -> bool {
-        ((b'0' <= byte) & (byte <= b'9'))
-            | ((b'A' <= byte) & (byte <= b'F'))
-            | ((b'a' <= byte) & (byte <= b'f'))
-    }
-}
-
-/// The next word, which has to say bytes, and the text after it. It has pairs of hexadecimal digits, of either case.
-#[inline(always)]
-#[tactic(auto, using(crate::proofs::ByteWords::word_laws))]
-pub fn byte_word_at(text: &[u8]) -> Result<(&[u8], &[u8]), ScriptFault>
-    ensures { MatchResult result
-        (λ x. (word_at text.now ≡ Ok (x.0.now, x.1.now)) × IsOk (bytes_said x.0.now))
-        (λ fault. next_said text.now ≡ Err fault) }
-{
-    let token = skip_blanks(text);
-    let len = passing_len::<HexDigit>(token);
-    let (word, rest) = token.split_at(len);
-    if begins_word(rest) || len == 0 {
-        return Err(ScriptFault::Syntax);
-    }
-    if len > DIGIT_LIMIT {
-        return Err(ScriptFault::Number);
-    }
-    if len % 2 == 1 {
-        return Err(ScriptFault::Number);
-    }
-    Ok((word, rest))
-}
-
-/// The bytes that a word says, two digits each. [`byte_word_at`] gives such words.
-///
-/// # Errors
-///
-/// Where memory is wanting.
-#[inline(always)]
-#[tactic(auto, using(crate::proofs::ByteWords::said_laws))]
-pub fn bytes_said(alloc: Global, word: &[u8]) -> Result<List<u8>, AllocError>
-    requires { IsOk (bytes_said word.now) }
-    ensures { IfOk result (λ bytes. bytes_said word.now ≡ Ok bytes) }
-{
-    let mut bytes = vec![in alloc; 0u8; word.len() / 2]?;
-    put_bytes(word, bytes.as_mut_slice());
-    Ok(List::from_vec(bytes))
-}
-
-/// Puts the bytes that a word says where there is room for them.
-fn put_bytes(word: &[u8], bytes: &mut [u8])
-    requires digits { list_all is_ascii_hexdigit word.now ≡ true }
-    requires room { length word.now ≡ 2 * length bytes.old }
-    ensures { decode_of word.now ≡ Ok bytes.new }
-{
-    let (pairs, _) = word.as_chunks::<2>();
-    'bytes: for i in 0..bytes.len() {
-        bytes[i] = pair_value(pairs[i]);
-    }
-}
-
-/// The byte that two hexadecimal digits say. They are taken together and no branch depends on them, so that the
-/// compiler can read many at once. Of a letter the four low bits are its place from 1 on, and 9 stand before it.
-fn pair_value(pair: [u8; 2]) -> u8
-    requires high { is_ascii_hexdigit (slice_index pair 0) ≡ true }
-    requires low { is_ascii_hexdigit (slice_index pair 1) ≡ true }
-    ensures high { hex_digit_value (slice_index pair 0) ≡ Some (result / 16) }
-    ensures low { hex_digit_value (slice_index pair 1) ≡ Some (result % 16) }
-{
-    let digits = u16::from(pair[0]) + u16::from(pair[1]) * 256;
-    let high = digits % 16 + digits / 64 % 4 * 9;
-    let low = digits / 256 % 16 + digits / 16384 * 9;
-    (high * 16 + low) as u8
 }

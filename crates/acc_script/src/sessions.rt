@@ -1,6 +1,7 @@
 //! A table and the arrays of a script, and what statements do to them.
 
 ghost use Rattle.std.specs.Prelude.{◌≡◌, IfSome, MatchResult};
+ghost use Rattle.acc_base.specs.declared.calls.Call.TheVariants.{HostWrite};
 ghost use Rattle.acc_base.specs.declared.faults.Fault.TheVariants.{Memory};
 ghost use Rattle.acc_read.specs.Meanings.{meaning_of};
 ghost use Rattle.acc_read.specs.Statements.{Kernel};
@@ -78,7 +79,13 @@ impl Session {
                 kernel,
                 section,
             } => self.launch(rt, region, kernel, section),
-            Statement::Write { addr, bytes } => self.call(Call::HostWrite { addr, bytes }),
+            Statement::Write { addr, bytes } => {
+                let mut room = [0u8; 64];
+                let copy = &mut room[..bytes.len()];
+                bytes.copy_to(copy);
+                self.write(addr, copy)
+            }
+            Statement::Point { addr, target } => self.write(addr, &target.to_le_bytes()),
             Statement::Show(section) => Ok(self.answer_show(section)),
             Statement::Peek(section) => Ok(Effect::DeviceBytes {
                 device: self.device,
@@ -121,6 +128,18 @@ impl Session {
         match self.table.apply(call) {
             Ok(reply) => Ok(effect_of(reply)),
             Err(back) => refused(back),
+        }
+    }
+
+    /// Writes bytes into host memory.
+    #[inline(always)]
+    #[tactic(auto, using(crate::proofs::Refused::refused_call))]
+    fn write(&mut self, addr: u64, bytes: &[u8]) -> Result<Effect, Fault>
+        ensures { CallsFor (session_state self.old) (HostWrite addr bytes.now) (session_state self.new) result }
+    {
+        match self.table.host_write(addr, bytes) {
+            Ok(()) => Ok(Effect::Nothing),
+            Err(fault) => refusal_of(fault),
         }
     }
 
@@ -189,12 +208,19 @@ fn effect_of(reply: Reply) -> Effect
     effect
 }
 
-/// What a refused call has to print; lack of memory ends the run. It drops the call.
+/// What a refused call has to print. It drops the call.
 fn refused(back: (Call, Fault)) -> Result<Effect, Fault>
     ensures { result ≡ refusal_of back.1 }
 {
     let (call, fault) = back;
     abandon(call);
+    refusal_of(fault)
+}
+
+/// What a refusal has to print; lack of memory ends the run.
+fn refusal_of(fault: Fault) -> Result<Effect, Fault>
+    ensures { result ≡ refusal_of fault }
+{
     match fault {
         Fault::Memory => Err(Fault::Memory),
         fault => Ok(Effect::Refused(fault)),

@@ -342,3 +342,39 @@ pub fn write_host(
     trace.push_reserved(Event::HostWritten { addr, len, bytes });
     Ok(())
 }
+
+/// The same of bytes that stay where they are. With full traces the event has a copy of them.
+///
+/// # Errors
+///
+/// [`Fault::Memory`] alone, where there was no room for the event or for the copy. Nothing changed.
+pub fn copy_to_host(
+    store: &mut Store,
+    trace: &mut Vec<Event>,
+    full: bool,
+    addr: u64,
+    bytes: &[u8],
+) -> Result<(), Fault>
+    requires can { CanWrite (record { start = addr; len = length bytes.now }) store.old.state.host }
+    requires full { full ≡ store.old.limits.full }
+    ensures limits { store.new.limits ≡ store.old.limits }
+    ensures state { OnOk result (store.new.state ≡ record store.old.state { host = host_after_write addr (length bytes.now) bytes.now store.old.state.host }) }
+    ensures trace { OnOk result (trace.new.items ≡ trace.old.items ++ written store.old.limits.full addr bytes.now ∷ []) }
+    ensures memory { IfErr result (λ fault. fault ≡ Memory) }
+    ensures same { OnErr result (IsAsBefore store.old store.new trace.old.items trace.new.items) }
+{
+    trace.reserve(1)?;
+    let alloc = *trace.allocator();
+    let kept = if full {
+        List::from_slice(alloc, bytes)?
+    } else {
+        List::from_vec(Vec::new(alloc))
+    };
+    store.host_write(addr, bytes);
+    trace.push_reserved(Event::HostWritten {
+        addr,
+        len: bytes.len() as u64,
+        bytes: kept,
+    });
+    Ok(())
+}

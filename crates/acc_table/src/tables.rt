@@ -9,6 +9,7 @@ ghost use Rattle.acc_base.specs.Limits.{IsWithinBounds};
 ghost use Rattle.acc_base.specs.Devices.{device_of_region};
 ghost use Rattle.acc_base.specs.Calls.{ticket, allowance, trace_room, device_for, device_there, new_world, judge};
 ghost use Rattle.acc_base.specs.Accounts.{IsAccounted};
+ghost use Rattle.acc_table.specs.declared.calls.Reply.TheVariants.{Done};
 ghost use Rattle.acc_table.specs.Calls.{IsDone, IsRefusal};
 ghost use Rattle.acc_table.specs.Devices.{whole_of, AreSet};
 ghost use Rattle.acc_table.specs.Tables.{IsTableSound, world_of};
@@ -17,7 +18,7 @@ ghost use Rattle.acc_table.specs.Making.{admitted, write_admitted, IsLoanJudged,
 use crate::calls::{Call, Reply};
 use crate::devices::Devices;
 use crate::lending::{gather, lend};
-use crate::making::{carry_out, write_host};
+use crate::making::{carry_out, copy_to_host, write_host};
 use acc_base::{Config, Directive, Event, Fault, List, Loan, Section};
 use acc_clauses::{Base, Plan, check_items};
 use acc_lend::Lease;
@@ -182,6 +183,27 @@ impl Table {
                 Err((lease, fault)) => Err((Call::Gather(lease), fault)),
             },
         }
+    }
+
+    /// Writes into host memory from an address on, as [`Call::HostWrite`](acc_base::Call::HostWrite) does. The bytes
+    /// stay the caller's, and are copied once; with full traces the event has a second copy.
+    ///
+    /// # Errors
+    ///
+    /// The refusals of a host write that [`Table::apply`] lists, and in their order. Nothing changed.
+    #[tactic(auto, using(crate::proofs::Verdicts::judge_write))]
+    pub fn host_write(&mut self, addr: u64, bytes: &[u8]) -> Result<(), Fault>
+        ensures done { OnOk result (IsDone self.old (HostWrite addr bytes.now) Done self.new) }
+        ensures refused { IfErr result (IsRefusal self.old (HostWrite addr bytes.now)) }
+        ensures same { OnErr result (self.new ≡ self.old) }
+    {
+        self.admit_write(Section {
+            start: addr,
+            len: bytes.len() as u64,
+        })?;
+        let data = &mut *self.data;
+        let full = data.config.full();
+        copy_to_host(&mut data.devices.store, &mut data.trace, full, addr, bytes)
     }
 
     /// Carries out a directive, or hands it back with what it is refused for.

@@ -27,7 +27,16 @@ pub fn two_arrays(alloc: Global) -> Result<Arrays, AllocError> {
 fn said(alloc: Global, arrays: &Arrays, device: u64, text: &str) -> Result<Turn, Fault> {
     match line_at(alloc, arrays, device, None, text.as_bytes()) {
         Ok(Statement::Direct(directive)) => Ok(Turn::Do(directive)),
-        Ok(Statement::Write { addr, bytes }) => Ok(Turn::HostWrite { addr, bytes }),
+        Ok(Statement::Write { addr, bytes }) => {
+            let mut list = vec![in alloc; 0u8; bytes.len()]?;
+            bytes.copy_to(list.as_mut_slice());
+            let bytes = List::from_vec(list);
+            Ok(Turn::HostWrite { addr, bytes })
+        }
+        Ok(Statement::Point { addr, target }) => {
+            let bytes = List::from_slice(alloc, &target.to_le_bytes())?;
+            Ok(Turn::HostWrite { addr, bytes })
+        }
         Err(Trouble::Memory) => Err(Fault::Memory),
         _ => Err(Fault::Script {
             line: 0,

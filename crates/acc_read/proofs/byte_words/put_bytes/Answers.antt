@@ -8,7 +8,7 @@ use Rattle.std.proofs.lemmas.List.Sums.{AllPass-from_list_all}
 use Rattle.hex.specs.Hex.{hex_digit_value, pair_value, value_at, digit_or_error}
 use Rattle.hex.proofs.Pairs.{decode_step, decode_done}
 use Rattle.hex.proofs.HexLemmas.{decode_of-even}
-use Rattle.acc_read.proofs.tokens.put_bytes.Goals as goal
+use Rattle.acc_read.proofs.byte_words.put_bytes.Goals as goal
 
 -- a pair stands behind those before it
 pair_at : (k i : ℕ) (xs none : List ℕ) → i < k → get_or (first_chunks 2 k xs) i none ≡ take 2 (drop (2 * i) xs)

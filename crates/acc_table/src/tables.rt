@@ -203,7 +203,8 @@ impl Table {
         })?;
         let data = &mut *self.data;
         let full = data.config.full();
-        copy_to_host(&mut data.devices.store, &mut data.trace, full, addr, bytes)
+        copy_to_host(&mut data.devices.store, &mut data.trace, full, addr, bytes)?;
+        Ok(())
     }
 
     /// Carries out a directive, or hands it back with what it is refused for.

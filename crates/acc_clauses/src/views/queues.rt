@@ -5,7 +5,7 @@ ghost use Rattle.acc_base.specs.Queues.{queue_at, head_of};
 ghost use Rattle.acc_base.specs.Waits.{steps_of};
 
 use crate::views::View;
-use acc_base::QUEUE_COUNT;
+use acc_base::{QUEUE_COUNT, Transfer};
 
 impl View<'_> {
     /// How many transfers wait in a queue; 0 where there is no such queue (OpenACC 3.3, section 2.16).
@@ -40,6 +40,14 @@ impl View<'_> {
         ensures { result ≡ option_map (λ t. t.block) (head_of q self.now.state.records.queues) }
     {
         self.environment.queues.head(q).map(|t| t.block)
+    }
+
+    /// The transfer at a place of a queue, counted from the one that is made next. `None` exactly where not as many wait in
+    /// it, or there is no such queue (OpenACC 3.3, section 2.16).
+    pub fn queued(&self, q: u64, place: u64) -> Option<Transfer>
+        ensures { result ≡ slice_get (queue_at q self.now.state.records.queues) place }
+    {
+        self.environment.queues.at(q, place).copied()
     }
 
     /// The block that the transfer at a place of a queue names, counted from its first one, if it has so many.

@@ -6,7 +6,7 @@ ghost use Rattle.acc_base.specs.Register.{holdings_at, newest_region, region_at}
 use crate::views::View;
 use acc_base::Holding;
 
-impl View<'_> {
+impl<'a> View<'a> {
     /// How many data regions are open that were entered on the device.
     pub fn regions(&self) -> u64
         ensures { result ≡ length self.now.state.register.regions }
@@ -28,8 +28,9 @@ impl View<'_> {
         self.holdings(number).is_some()
     }
 
-    /// What an open region holds. `None` exactly where no region of the number is open.
-    pub(crate) fn holdings(&self, number: u64) -> Option<&[Holding]>
+    /// What an open region holds, in the written order of its items (OpenACC 3.3, section 2.6.5). `None` exactly where no
+    /// region of the number is open.
+    pub fn holdings(&self, number: u64) -> Option<&'a [Holding]>
         ensures { MatchOption result (holdings_at number self.now.state.register.regions ≡ None) (λ holdings. holdings_at number self.now.state.register.regions ≡ Some holdings.now) }
     {
         self.environment.present.holdings(number)

@@ -5,6 +5,7 @@ pub mod AllDevices
 pub mod InUse
 pub mod Nothing
 pub mod Verdicts
+pub mod Foretold
 pub mod Judging
 pub mod Keeping
 pub mod Answering

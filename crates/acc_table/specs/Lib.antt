@@ -4,6 +4,7 @@ pub mod Calls
 pub mod Counts
 pub mod Making
 pub mod Queries
+pub mod Foreseen
 pub mod Turns
 pub mod Turning
 pub mod Laws

@@ -4,13 +4,14 @@ use Rattle.std.specs.List.{AllByRecursion}
 use Rattle.acc_clauses.specs.Words.{Section, Range, Block, Counters, Loan, Found}
 use Rattle.acc_base.specs.declared.mappings.Found.TheVariants.{Inside}
 use Rattle.acc_base.specs.declared.attachments.Attachment.{Attachment}
+use Rattle.acc_base.specs.declared.regions.Holding.{Holding}
 use Rattle.acc_base.specs.Section.{covers, is_empty, is_within, host_memory, host_base}
 use Rattle.acc_base.specs.Ranges.{where_is, range_from, dynamic_of, structured_of}
 use Rattle.acc_base.specs.Blocks.{place_of}
 use Rattle.acc_base.specs.Loans.{is_lent}
 use Rattle.acc_base.specs.Records.{Records, State}
 use Rattle.acc_base.specs.Bytes.{bytes_of}
-use Rattle.acc_base.specs.Register.{region_at, newest_region}
+use Rattle.acc_base.specs.Register.{region_at, newest_region, holdings_at}
 use Rattle.acc_base.specs.Devices.{OneDevice, Whole, view, device_of_region}
 use Rattle.acc_table.specs.declared.calls.Mapped.{Mapped}
 
@@ -65,6 +66,10 @@ abbrev pub device_read_of : Section → State → Option (List ℕ)
 device_read_of s state = device_read_in (where_is s state.records.ranges) s.len state
 
 -- ---- the open regions of all devices
+
+-- what an open region holds, on the device on which it is open, in the written order of its items
+abbrev pub holdings_of : ℕ → Whole → Option (List Holding)
+holdings_of number w = holdings_at number (view (device_of_region number w) w).register.regions
 
 -- the later of two regions, by their numbers, which rise
 abbrev pub later : Option ℕ → Option ℕ → Option ℕ

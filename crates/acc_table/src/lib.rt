@@ -8,6 +8,7 @@
 
 mod calls;
 mod devices;
+mod dry_runs;
 pub mod laws;
 mod lending;
 mod making;

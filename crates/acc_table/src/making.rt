@@ -149,7 +149,11 @@ fn reply_told(kind: Kind, number: u64) -> Reply
 
 /// Of what the items do, in written order, what stands in memory of its own: all of it, but nothing where that is of one
 /// item. On the exit from a region the last item acts first.
-fn copy_apart(alloc: Global, directive: &Directive, acts: &[Acted]) -> Result<Vec<Did>, AllocError>
+pub fn copy_apart(
+    alloc: Global,
+    directive: &Directive,
+    acts: &[Acted],
+) -> Result<Vec<Did>, AllocError>
     ensures { IfOk result (λ apart. apart.items ≡ apart_of (in_written_order directive.now (dids_in acts.now))) }
 {
     if acts.len() == 1 {
@@ -167,7 +171,7 @@ fn copy_apart(alloc: Global, directive: &Directive, acts: &[Acted]) -> Result<Ve
 
 /// The list of what the items do, in written order, of which this stands in memory of its own.
 #[inline(always)]
-fn list_of(directive: &Directive, acts: &[Acted], apart: Vec<Did>) -> List<Did>
+pub fn list_of(directive: &Directive, acts: &[Acted], apart: Vec<Did>) -> List<Did>
     requires { apart.items ≡ apart_of (in_written_order directive.now (dids_in acts.now)) }
     ensures { result ≡ in_written_order directive.now (dids_in acts.now) }
 {

@@ -1,6 +1,6 @@
 //! The queries of a table. None allocates or is refused.
 
-ghost use Rattle.std.specs.Prelude.{◌≡◌, ◌-◌, ◌<◌, ◌≤◌, ◌↔◌, None, IsSomeAnd, IsTrue, IfSome, IfNone, length, option_map};
+ghost use Rattle.std.specs.Prelude.{◌≡◌, ◌-◌, ◌<◌, ◌≤◌, ◌↔◌, None, IsSomeAnd, IsTrue, IfSome, IfNone, length, option_map, slice_get};
 ghost use Rattle.acc_base.specs.Blocks.{used_bytes};
 ghost use Rattle.acc_base.specs.Limits.{limits_on};
 ghost use Rattle.acc_base.specs.Calls.{event_count, device_for};
@@ -13,11 +13,14 @@ ghost use Rattle.acc_base.specs.Section.{device_memory};
 ghost use Rattle.acc_base.specs.Holes.{IsLeft, IsNextHole};
 ghost use Rattle.acc_base.specs.Waits.{ended_from};
 ghost use Rattle.acc_base.specs.Inside.{IsInsideOne};
-ghost use Rattle.acc_table.specs.Queries.{is_inside, counters_of_section, mapped_from, first_attached, IsLeastFrom, host_read_of, device_read_of, later, newest_of, IsLastEntered};
+ghost use Rattle.acc_table.specs.Queries.{is_inside, counters_of_section, mapped_from, first_attached, IsLeastFrom, host_read_of, device_read_of, holdings_of, later, newest_of, IsLastEntered};
 
 use crate::calls::Mapped;
 use crate::tables::Table;
-use acc_base::{Attachment, Config, Counters, Directive, Ended, Event, Found, Free, Hole, Section};
+use acc_base::{
+    Attachment, Config, Counters, Directive, Ended, Event, Found, Free, Holding, Hole, Section,
+    Transfer,
+};
 use acc_clauses::{Base, Place, View, device_named};
 
 fn is_inside(found: Found) -> bool
@@ -221,6 +224,14 @@ impl Table {
         }
     }
 
+    /// The transfer at a place of a queue of a device, counted from 0 for the one that it makes next (OpenACC 3.3, section
+    /// 2.16). `None` exactly where not as many wait in it, or there is no such queue or device.
+    pub fn queued(&self, device: u64, q: u64, place: u64) -> Option<Transfer>
+        ensures { result ≡ slice_get (queue_at q (view device self.now.state).records.queues) place }
+    {
+        self.on(device)?.queued(q, place)
+    }
+
     /// The bytes of the memory of a device that all blocks take, each rounded up to a multiple of 16.
     pub fn used(&self, device: u64) -> u64
         ensures { result ≡ used_bytes (view device self.now.state).records.blocks }
@@ -245,6 +256,15 @@ impl Table {
         ensures there { result < self.now.limits.devices }
     {
         self.data.devices.device_of_region(number)
+    }
+
+    /// What each item of the entry of an open data region counted, in written order (OpenACC 3.3, sections 2.6.5 and
+    /// 2.6.7). The exit from the region undoes that and nothing else. `None` exactly where no region of the number is
+    /// open.
+    pub fn holdings(&self, number: u64) -> Option<&[Holding]>
+        ensures { option_map (λ holdings. holdings.now) result ≡ holdings_of number self.now.state }
+    {
+        self.on(self.device_of_region(number))?.holdings(number)
     }
 
     /// The device for which a directive is: the one that it names, or that of the region that it exits. It is 0 where

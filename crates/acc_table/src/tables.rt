@@ -47,7 +47,7 @@ pub(crate) struct TableData {
     pub(crate) trace: Vec<Event>,
     // What was planned last; it stands here so that no call has to make one. It is large, and so in a box: less of the
     // stack is taken while a table is made.
-    plan: Box<Plan>,
+    pub(crate) plan: Box<Plan>,
 }
 
 impl Model for Table {
@@ -278,7 +278,7 @@ impl Table {
     /// The device of a directive, or what is refused before its items are judged.
     #[tactic(auto, unfolding(crate::specs::Making::admitted))]
     #[inline(always)]
-    fn admit(&self, directive: &Directive) -> Result<u64, Fault>
+    pub(crate) fn admit(&self, directive: &Directive) -> Result<u64, Fault>
         ensures { MatchResult result (λ device. (device ≡ device_for directive.now self.now.state) × (admitted self.now directive.now ≡ Ok tt)) (λ fault. admitted self.now directive.now ≡ Err fault) }
     {
         self.admit_ticket()?;

@@ -7,3 +7,4 @@ pub mod Steps
 pub mod Aims
 pub mod Written
 pub mod Parts
+pub mod Counts

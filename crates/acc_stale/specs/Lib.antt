@@ -4,3 +4,4 @@ pub mod MarkLaws
 pub mod Marks
 pub mod Parts
 pub mod Told
+pub mod Accounts

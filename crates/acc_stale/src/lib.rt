@@ -1,6 +1,7 @@
 //! Which bytes are stale: those of which another memory has had a newer one, and those that nothing ever filled.
 #![tactic(auto)]
 
+mod accounts;
 mod changes;
 mod items;
 mod known;
@@ -8,6 +9,7 @@ mod marks;
 mod tasks;
 mod writes;
 
+pub use accounts::{Account, Held, Waiting};
 pub use items::{Acted, Holder, Watch};
 pub use known::{Known, Placed};
 pub use marks::{Mark, Run};

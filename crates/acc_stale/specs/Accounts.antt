@@ -1,0 +1,71 @@
+-- What an account says of blocks, their attached pointers, and the transfers that wait.
+use Rattle.std.specs.Prelude.{ℕ, ◌≡◌, Bool, false, ◌&&◌, ◌==◌, if◌then◌else◌, List, [], ◌∷◌, map, filter, Option, Some, None, unwrap_or, option_map}
+use Rattle.std.specs.BTreeMap.{get}
+use Rattle.std.specs.declared.cmp.Ordering.{Ordering}
+use Rattle.std.specs.Ordering.{nat_cmp, ordering_then}
+use Rattle.acc_base.specs.declared.attachments.Attachment.{Attachment}
+use Rattle.acc_base.specs.declared.transfers.Transfer.{Transfer}
+use Rattle.acc_base.specs.Attachments.{with_count}
+use Rattle.acc_stale.specs.declared.accounts.Held.{Held}
+use Rattle.acc_stale.specs.declared.accounts.Waiting.{Waiting}
+use Rattle.acc_stale.specs.declared.accounts.Block.{Block}
+use Rattle.acc_stale.specs.declared.accounts.Account.{Account}
+
+-- ---- blocks
+
+-- a block, and its attached pointers by rising address
+pub record Told : Type 0 where
+  pub held : Held
+  pub attached : List Attachment
+
+-- blocks stand by their devices and numbers
+abbrev pub by_number : ℕ × ℕ → ℕ × ℕ → Ordering
+by_number x y = ordering_then (nat_cmp x.0 y.0) (nat_cmp x.1 y.1)
+
+-- a pointer of a block with its count
+abbrev pub counted : ℕ → ℕ × ℕ → Attachment
+counted block e = record { block = block; pointer = e.0; count = e.1 }
+
+abbrev pub told_of : ℕ → Block → Told
+told_of block b = record { held = b.held; attached = map (counted block) b.pointers.entries }
+
+-- what an account says of a block of a device
+abbrev pub told_at : ℕ → ℕ → Account → Option Told
+told_at d block a = option_map (told_of block) (get by_number a.blocks (d, block))
+
+abbrev pub attached_at : ℕ → ℕ → Account → List Attachment
+attached_at d block a = unwrap_or (option_map (λ t. t.attached) (told_at d block a)) []
+
+-- ---- changes
+
+-- the one says of all blocks what the other does
+abbrev pub HasSameBlocks : Account → Account → Type 0
+HasSameBlocks old new = (d block : ℕ) → told_at d block new ≡ told_at d block old
+
+-- an account says this of one block now, and of all others what it did
+pub record IsChanged (d block : ℕ) (now : Option Told) (old new : Account) : Type 0 where
+  pub here : told_at d block new ≡ now
+  pub others : (e b : ℕ) → (e == d && b == block) ≡ false → told_at e b new ≡ told_at e b old
+  pub waiting : new.waiting ≡ old.waiting
+
+-- with the counter of a pointer set to a number
+abbrev pub recounted : ℕ → ℕ → ℕ → Told → Told
+recounted block pointer count t = record { held = t.held; attached = with_count block pointer count t.attached }
+
+abbrev pub IsRecounted : ℕ → ℕ → ℕ → ℕ → Account → Account → Type 0
+IsRecounted d block pointer count old new = IsChanged d block (option_map (recounted block pointer count) (told_at d block old)) old new
+
+-- ---- transfers that wait
+
+-- it waits in this queue of this device
+abbrev pub is_in : ℕ → ℕ → Waiting → Bool
+is_in d q w = w.device == d && w.queue == q
+
+-- without the first that passes a test
+abbrev pub without_first : (Waiting → Bool) → List Waiting → List Waiting
+without_first test [] = []
+without_first test (w ∷ ws) = if test w then ws else w ∷ without_first test ws
+
+-- the transfers of a queue, the oldest first
+abbrev pub waiting_in : ℕ → ℕ → List Waiting → List Transfer
+waiting_in d q waiting = map (λ w. w.transfer) (filter (is_in d q) waiting)

@@ -1,0 +1,222 @@
+//! What the events of a table say of its blocks, pointers, queues and regions, as far as the marks have to be told it.
+
+ghost use Rattle.std.specs.Prelude.{◌≡◌, ℕ, ◌&&◌, ◌==◌, ◌++◌, ◌∷◌, [], Option, Some, OnOk, IfOk, option_map, slice_get};
+ghost use Rattle.std.specs.List.{find, position};
+ghost use Rattle.acc_base.specs.Attachments.{count_at};
+ghost use Rattle.acc_stale.specs.Accounts.{is_in, without_first, told_at, attached_at, IsChanged, IsRecounted, HasSameBlocks};
+
+use crate::known::Placed;
+use acc_base::{Attachment, Section, Transfer};
+use std::alloc::{AllocError, Global};
+use std::collections::{BTreeMap, VecDeque};
+
+/// A block with the line that made it.
+#[derive(Clone, Copy, Debug)]
+pub struct Held {
+    /// Where it lies.
+    pub placed: Placed,
+    /// The section that was mapped to it.
+    pub section: Section,
+    /// The number of the line.
+    pub line: u64,
+}
+
+/// A transfer that waits in a queue of a device.
+#[derive(Clone, Copy, Debug)]
+pub struct Waiting {
+    /// The number of the device.
+    pub device: u64,
+    /// The number of the queue.
+    pub queue: u64,
+    /// The transfer.
+    pub transfer: Transfer,
+}
+
+/// A block, and how often its pointers are attached.
+#[derive(Drop)]
+struct Block {
+    held: Held,
+    /// The counters above zero, by the addresses of the pointers.
+    pointers: BTreeMap<u64, u64>,
+}
+
+/// What the events so far say.
+#[derive(Drop)]
+pub struct Account {
+    alloc: Global,
+    /// The blocks by their devices and numbers, those that were given back too.
+    blocks: BTreeMap<(u64, u64), Block>,
+    /// The transfers that wait, in the order in which they were put.
+    waiting: VecDeque<Waiting>,
+    /// The places in the trace of the entries to the open regions, the innermost last.
+    regions: Vec<usize>,
+}
+
+impl Account {
+    /// The account of no event.
+    pub fn new(alloc: Global) -> Account {
+        Account {
+            alloc,
+            blocks: BTreeMap::new(alloc),
+            waiting: VecDeque::new(alloc),
+            regions: Vec::new(alloc),
+        }
+    }
+
+    // ---- blocks
+
+    /// Keeps a new block, which has no attached pointers.
+    ///
+    /// # Errors
+    ///
+    /// `AllocError` alone, as with those that follow. The account is not to be asked any more then.
+    pub fn born(&mut self, held: Held) -> Result<(), AllocError>
+        ensures ok { OnOk result (IsChanged held.placed.device held.placed.block (Some (record { held = held; attached = [] })) self.old self.new) }
+    {
+        let key = (held.placed.device, held.placed.block);
+        let pointers = BTreeMap::new(self.alloc);
+        self.blocks.insert(key, Block { held, pointers })?;
+        Ok(())
+    }
+
+    /// The block of a number on a device.
+    pub fn block(&self, device: u64, block: u64) -> Option<Held>
+        ensures { result ≡ option_map (λ t. t.held) (told_at device block self.now) }
+    {
+        match self.blocks.get(&(device, block)) {
+            Some(found) => Some(found.held),
+            None => None,
+        }
+    }
+
+    // ---- pointers
+
+    /// How often a pointer in a block is attached.
+    pub fn count(&self, device: u64, block: u64, pointer: u64) -> u64
+        ensures { result ≡ count_at block pointer (attached_at device block self.now) }
+    {
+        match self.blocks.get(&(device, block)) {
+            Some(found) => found.pointers.get(&pointer).copied().unwrap_or(0),
+            None => 0,
+        }
+    }
+
+    /// Keeps how often a pointer in a block is attached now.
+    pub fn attach(
+        &mut self,
+        device: u64,
+        block: u64,
+        pointer: u64,
+        count: u64,
+    ) -> Result<(), AllocError>
+        ensures ok { OnOk result (IsRecounted device block pointer count self.old self.new) }
+    {
+        let Some(found) = self.blocks.get_mut(&(device, block)) else {
+            return Ok(());
+        };
+        if count == 0 {
+            found.pointers.remove(&pointer);
+        } else {
+            found.pointers.insert(pointer, count)?;
+        }
+        Ok(())
+    }
+
+    /// The attached pointers of a block, by rising address.
+    pub fn attached(&self, device: u64, block: u64) -> Result<Vec<Attachment>, AllocError>
+        ensures ok { IfOk result (λ attached. attached.items ≡ attached_at device block self.now) }
+    {
+        let mut attached = Vec::new(self.alloc);
+        if let Some(found) = self.blocks.get(&(device, block)) {
+            for (pointer, count) in &found.pointers {
+                attached.push(Attachment {
+                    block,
+                    pointer: *pointer,
+                    count: *count,
+                })?;
+            }
+        }
+        Ok(attached)
+    }
+
+    // ---- queues
+
+    /// Puts a transfer at the end of a queue (OpenACC 3.3, section 2.16).
+    pub fn put(&mut self, waiting: Waiting) -> Result<(), AllocError>
+        ensures ok { OnOk result (self.new.waiting.items ≡ self.old.waiting.items ++ waiting ∷ []) }
+        ensures blocks { HasSameBlocks self.old self.new }
+    {
+        self.waiting.push_back(waiting)?;
+        Ok(())
+    }
+
+    /// Takes the first transfer out of a queue, or out of the first queue that has one.
+    pub fn take(&mut self, device: u64, queue: Option<u64>) -> Option<Transfer>
+        ensures blocks { HasSameBlocks self.old self.new }
+    {
+        match queue {
+            Some(queue) => self.take_from(device, queue),
+            None => self.take_from(device, self.first_queue(device)?),
+        }
+    }
+
+    /// Takes the first transfer out of a queue.
+    fn take_from(&mut self, device: u64, queue: u64) -> Option<Transfer>
+        ensures taken { result ≡ option_map (λ w. w.transfer) (find (is_in device queue) self.old.waiting.items) }
+        ensures left { self.new.waiting.items ≡ without_first (is_in device queue) self.old.waiting.items }
+        ensures blocks { HasSameBlocks self.old self.new }
+    {
+        let nth = self.first_in(device, queue)?;
+        match self.waiting.remove(nth) {
+            Some(waiting) => Some(waiting.transfer),
+            None => None,
+        }
+    }
+
+    /// The place of the first transfer of a queue.
+    fn first_in(&self, device: u64, queue: u64) -> Option<usize>
+        ensures { result ≡ position (is_in device queue) self.now.waiting.items }
+    {
+        self.waiting
+            .iter()
+            .position(|w| w.device == device && w.queue == queue)
+    }
+
+    /// The least number of a queue of a device in which transfers wait.
+    fn first_queue(&self, device: u64) -> Option<u64> {
+        let here = self.waiting.iter().filter(|w| w.device == device);
+        here.map(|w| w.queue).min()
+    }
+
+    /// The queue in which a transfer waits that copies an address, to host memory or to a device.
+    pub fn queue_with(&self, address: u64, out: bool) -> Option<u64> {
+        let waiting = self.waiting.iter().find(|w| w.transfer.out == out
+            && has_address(w.transfer.section, address))?;
+        Some(waiting.queue)
+    }
+
+    // ---- regions
+
+    /// Keeps that a region is open, by the place of its entry in the trace.
+    pub fn open(&mut self, at: usize) -> Result<(), AllocError>
+        ensures blocks { HasSameBlocks self.old self.new }
+        ensures waiting { self.new.waiting ≡ self.old.waiting }
+        ensures ok { OnOk result (self.new.regions.items ≡ self.old.regions.items ++ at ∷ []) }
+    {
+        self.regions.push(at)?;
+        Ok(())
+    }
+
+    /// Drops the innermost region, and returns the place of its entry in the trace.
+    pub fn close(&mut self) -> Option<usize>
+        ensures blocks { HasSameBlocks self.old self.new }
+        ensures waiting { self.new.waiting ≡ self.old.waiting }
+    {
+        self.regions.pop()
+    }
+}
+
+/// Whether an address is one of a section.
+fn has_address(section: Section, address: u64) -> bool {
+    section.start <= address && address - section.start < section.len
+}

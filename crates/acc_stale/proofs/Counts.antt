@@ -17,7 +17,7 @@ use Rattle.acc_base.specs.Attachments.{is_of, is_before, count_at, with_attachme
 use Rattle.acc_stale.specs.declared.accounts.Block.{Block}
 use Rattle.acc_stale.specs.declared.accounts.Waiting.{Waiting}
 use Rattle.acc_stale.specs.declared.accounts.Account.{Account}
-use Rattle.acc_stale.specs.Accounts.{Told, by_number, counted, told_of, told_at, attached_at, IsChanged, recounted, IsRecounted, is_in, without_first}
+use Rattle.acc_stale.specs.Accounts.{ToldBlock, by_number, counted, told_of, told_at, attached_at, IsChanged, recounted, IsRecounted, is_in, without_first}
 
 -- ---- a block
 
@@ -83,7 +83,7 @@ count_there block pointer (e ∷ es) = rw (of_pointer block pointer e) (go (is_a
     go false rest = rest
 
 pub attached_there : (d block : ℕ) (a : Account) (b : Block) → get by_number a.blocks (d, block) ≡ Some b → attached_at d block a ≡ as_attached block b.pointers.entries
-attached_there d block a b there = ap (λ o. unwrap_or (option_map (λ (t : Told). t.attached) (option_map (told_of block) o)) []) there
+attached_there d block a b there = ap (λ o. unwrap_or (option_map (λ (t : ToldBlock). t.attached) (option_map (told_of block) o)) []) there
 
 -- none of these pointers is the one
 kept_all : (block pointer : ℕ) (es : List (ℕ × ℕ)) → lookup (is_at (nat_cmp pointer)) es ≡ None → without_attachment block pointer (as_attached block es) ≡ as_attached block es

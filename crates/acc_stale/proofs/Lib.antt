@@ -8,3 +8,7 @@ pub mod Aims
 pub mod Written
 pub mod Parts
 pub mod Counts
+pub mod Attached
+pub mod Followed
+pub mod Telling
+pub mod Aiming

@@ -17,7 +17,7 @@ use Rattle.acc_stale.specs.declared.writes.Part.{Part}
 use Rattle.acc_stale.specs.Marks.{Change, each, changed, beside_pointers, filled_against, outdated}
 use Rattle.acc_stale.specs.Known.{Known, marks_on, on_device, device_outdated, host_wrote}
 use Rattle.acc_stale.specs.Events.{placed_in, mapped_at, pointers_of, known_of_range, known_of_ranges, known_of_devices}
-use Rattle.acc_stale.specs.Parts.{HasPart, both_in, has_part, part_of, parts_in, parts_on, told_part, AreParts, part_outdated, all_outdated}
+use Rattle.acc_stale.specs.Parts.{TakenPart, both_in, has_part, part_of, parts_in, parts_on, told_part, AreParts, part_outdated, all_outdated}
 use Rattle.acc_stale.proofs.Written.{Agree, changed_same, beside_same, get_in_take}
 
 -- ---- a range that has no part
@@ -77,7 +77,7 @@ all_in : (d addr : ℕ) (bytes : List ℕ) (s : State) (ranges : List Range) (k 
 all_in d addr bytes s [] k = refl
 all_in d addr bytes s (r ∷ rs) k = first_in d addr bytes s r rs k (has_part addr bytes r) refl (λ x. all_in d addr bytes s rs x)
 
-all_joined : (ps qs : List HasPart) (k : Known) → all_outdated (ps ++ qs) k ≡ all_outdated qs (all_outdated ps k)
+all_joined : (ps qs : List TakenPart) (k : Known) → all_outdated (ps ++ qs) k ≡ all_outdated qs (all_outdated ps k)
 all_joined [] qs k = refl
 all_joined (p ∷ ps) qs k = all_joined ps qs (part_outdated p k)
 

@@ -17,7 +17,7 @@ use Rattle.acc_stale.specs.declared.known.Placed.{Placed}
 use Rattle.acc_stale.specs.declared.known.Mapped.{Mapped}
 use Rattle.acc_stale.specs.Known.{Known, copied_in, copied_out}
 use Rattle.acc_stale.specs.Events.{placed_in, placed_new, mapped_behind, pointers_of, known_made, known_stepped, known_copied, known_made_by, known_begun, known_aimed, known_acted, known_drained}
-use Rattle.acc_stale.specs.Told.{IsTold, IsNext, TouchesNone, begun_told, made_told, enters, before_step, before_aim}
+use Rattle.acc_stale.specs.Told.{IsStepBlockTold, IsNextTold, TouchesNone, begun_told, made_told, enters, before_step, before_aim}
 
 -- a new block
 copied_new : (d block place : ℕ) (task : Task) (s : State) (t : Option Transfer) (k : Known) → made_told (placed_new d block place task) t [] k ≡ known_copied d task (Born block place) s t k
@@ -39,7 +39,7 @@ none_made d s None k = refl
 none_made d s (Some q) k = refl
 
 -- the same told
-stepped_so : (p : Placed) (task : Task) (step : Step) (attached : List Attachment) (s : State) (k : Known) → IsTold p task step attached s → made_told p (at_once (queue_of task) (transfer_of task step s.records.ranges)) attached (begun_told p task step k) ≡ known_stepped p.device task step s k
+stepped_so : (p : Placed) (task : Task) (step : Step) (attached : List Attachment) (s : State) (k : Known) → IsStepBlockTold p task step attached s → made_told p (at_once (queue_of task) (transfer_of task step s.records.ranges)) attached (begun_told p task step k) ≡ known_stepped p.device task step s k
 unfolding known_stepped
 stepped_so p task Nothing attached s k told = nothing_made p attached (queue_of task) k ∙ sym (none_made p.device s (queue_of task) k)
 stepped_so p task (Counted block) attached s k told = nothing_made p attached (queue_of task) k ∙ sym (none_made p.device s (queue_of task) k)
@@ -55,7 +55,7 @@ stepped_so p task (Moved block) attached s k told =
     ap₂ (λ x a. made_told x (at_once (queue_of task) (transfer_of task (Moved block) s.records.ranges)) a k) told.placed told.pointers
     ∙ copied_there p.device block task s s.records.ranges true (queue_of task) k
 
-pub stepped_told : (p : Placed) (task : Task) (step : Step) (attached : List Attachment) (s : State) (k : Known) (t : Option Transfer) → IsTold p task step attached s → t ≡ transfer_of task step s.records.ranges → made_told p (at_once (queue_of task) t) attached (begun_told p task step k) ≡ known_stepped p.device task step s k
+pub stepped_told : (p : Placed) (task : Task) (step : Step) (attached : List Attachment) (s : State) (k : Known) (t : Option Transfer) → IsStepBlockTold p task step attached s → t ≡ transfer_of task step s.records.ranges → made_told p (at_once (queue_of task) t) attached (begun_told p task step k) ≡ known_stepped p.device task step s k
 stepped_told p task step attached s k t told e = ap (λ x. made_told p (at_once (queue_of task) x) attached (begun_told p task step k)) e ∙ stepped_so p task step attached s k told
 
 -- a step that touches the bytes of no block
@@ -64,7 +64,8 @@ unfolding known_stepped
 none_touched d task Nothing s k none = sym (none_made d s (queue_of task) k)
 none_touched d task (Counted block) s k none = sym (none_made d s (queue_of task) k)
 none_touched d task (Born block place) s k none = absurd none
-none_touched d task (Dropped block ended) s k none = absurd none
+none_touched d task (Dropped block true) s k none = absurd none
+none_touched d task (Dropped block false) s k none = sym (none_made d s (queue_of task) k)
 none_touched d task (Moved block) s k none = absurd none
 
 -- ---- a queued transfer
@@ -75,20 +76,20 @@ made_there p x t attached pointers k device block place same =
     ∙ ap₂ (λ at a. known_made (record { device = x.device; block = x.block; start = p.start; place = at }) t a k) place same
 
 -- the next one is made
-next_told : (q : ℕ) (p : Placed) (t : Transfer) (attached : List Attachment) (s : State) (k : Known) → IsNext q p t attached s → known_made p t attached k ≡ known_drained p.device (q ∷ []) s k
+next_told : (q : ℕ) (p : Placed) (t : Transfer) (attached : List Attachment) (s : State) (k : Known) → IsNextTold q p t attached s → known_made p t attached k ≡ known_drained p.device (q ∷ []) s k
 unfolding known_drained
 next_told q p t attached s k next =
     made_there p (placed_in p.device t.block s) t attached (pointers_of t.block s.records.attached) k refl next.block next.place next.pointers
     ∙ sym (ap (λ o. known_made_by p.device o s k) next.head)
 
-pub next_out : (q : ℕ) (p : Placed) (m : Mapped) (t : Transfer) (attached : List Attachment) (s : State) (k r : Known) → m ≡ mapped_behind p t.offset t.section → t.out ≡ true → r ≡ copied_out m attached k → IsNext q p t attached s → r ≡ known_drained p.device (q ∷ []) s k
+pub next_out : (q : ℕ) (p : Placed) (m : Mapped) (t : Transfer) (attached : List Attachment) (s : State) (k r : Known) → m ≡ mapped_behind p t.offset t.section → t.out ≡ true → r ≡ copied_out m attached k → IsNextTold q p t attached s → r ≡ known_drained p.device (q ∷ []) s k
 next_out q p m t attached s k r e out is next =
     is
     ∙ ap (λ x. copied_out x attached k) e
     ∙ sym (ap (λ b. if b then copied_out (mapped_behind p t.offset t.section) attached k else copied_in (mapped_behind p t.offset t.section) attached k) out)
     ∙ next_told q p t attached s k next
 
-pub next_in : (q : ℕ) (p : Placed) (m : Mapped) (t : Transfer) (attached : List Attachment) (s : State) (k r : Known) → m ≡ mapped_behind p t.offset t.section → t.out ≡ false → r ≡ copied_in m attached k → IsNext q p t attached s → r ≡ known_drained p.device (q ∷ []) s k
+pub next_in : (q : ℕ) (p : Placed) (m : Mapped) (t : Transfer) (attached : List Attachment) (s : State) (k r : Known) → m ≡ mapped_behind p t.offset t.section → t.out ≡ false → r ≡ copied_in m attached k → IsNextTold q p t attached s → r ≡ known_drained p.device (q ∷ []) s k
 next_in q p m t attached s k r e out is next =
     is
     ∙ ap (λ x. copied_in x attached k) e

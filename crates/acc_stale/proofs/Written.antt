@@ -21,7 +21,7 @@ use Rattle.acc_stale.specs.Marks.{Change, each, changed, beside_pointers, agains
 use Rattle.acc_stale.specs.declared.known.Placed.{Placed}
 use Rattle.acc_stale.specs.Known.{Known, on_mapped, on_section, marks_on, kernel_wrote, kernel_wrote_all}
 use Rattle.acc_stale.specs.Events.{placed_in, mapped_at, known_gathered}
-use Rattle.acc_stale.specs.Told.{AreOther, IsBack}
+use Rattle.acc_stale.specs.Told.{AreOther, IsLeaseTold}
 use Rattle.acc_stale.proofs.Each.{length-each, get_or-each}
 
 -- two changes agree at so many places
@@ -100,19 +100,19 @@ abbrev found_in : Placed → State → List ℕ
 found_in p s = drop (offset_lent p.block s.records.loans) (bytes_of p.block s.memories)
 
 -- of a block that lies there
-placed_back : (p : Placed) (section : Section) (attached : List Attachment) (found : Option (List ℕ)) (after own : List ℕ) (s : State) (k : Known) → IsBack p section attached found after own s → kernel_wrote (mapped_at p section) attached (found_in p s) after (drop (section.start - host_base) s.host) k ≡ known_gathered p.device p.block after s k
+placed_back : (p : Placed) (section : Section) (attached : List Attachment) (found : Option (List ℕ)) (after own : List ℕ) (s : State) (k : Known) → IsLeaseTold p section attached found after own s → kernel_wrote (mapped_at p section) attached (found_in p s) after (drop (section.start - host_base) s.host) k ≡ known_gathered p.device p.block after s k
 placed_back p section attached found after own s k back =
     let in_state = λ (x : Placed) (a : List Attachment) (at : Section). kernel_wrote (mapped_at x at) a (found_in p s) after (drop (at.start - host_base) s.host) k in
     ap (λ x. in_state x attached section) back.there.placed
     ∙ ap₂ (λ a at. in_state (placed_in p.device p.block s) a at) back.there.pointers (lent_so p section after s back.from back.len)
 
-found_back : (p : Placed) (section : Section) (attached : List Attachment) (before after own : List ℕ) (s : State) (k : Known) → IsBack p section attached (Some before) after own s → kernel_wrote (mapped_at p section) attached before after own k ≡ known_gathered p.device p.block after s k
+found_back : (p : Placed) (section : Section) (attached : List Attachment) (before after own : List ℕ) (s : State) (k : Known) → IsLeaseTold p section attached (Some before) after own s → kernel_wrote (mapped_at p section) attached before after own k ≡ known_gathered p.device p.block after s k
 found_back p section attached before after own s k back =
     ap₂ (λ b o. kernel_wrote (mapped_at p section) attached b after o k) back.kernel back.host
     ∙ wrote_within (mapped_at p section) attached (found_in p s) after (drop (section.start - host_base) s.host) k
     ∙ placed_back p section attached (Some before) after own s k back
 
-other_back : (p : Placed) (section : Section) (attached : List Attachment) (after own : List ℕ) (s : State) (k : Known) → IsBack p section attached None after own s → kernel_wrote_all (mapped_at p section) attached after own k ≡ known_gathered p.device p.block after s k
+other_back : (p : Placed) (section : Section) (attached : List Attachment) (after own : List ℕ) (s : State) (k : Known) → IsLeaseTold p section attached None after own s → kernel_wrote_all (mapped_at p section) attached after own k ≡ known_gathered p.device p.block after s k
 other_back p section attached after own s k back =
     ap (λ o. kernel_wrote_all (mapped_at p section) attached after o k) back.host
     ∙ all_within (mapped_at p section) attached after (drop (section.start - host_base) s.host) k
@@ -120,8 +120,8 @@ other_back p section attached after own s k back =
     ∙ placed_back p section attached None after own s k back
 
 -- whichever it was
-pub back_found : (p : Placed) (section : Section) (attached : List Attachment) (found : Option (List ℕ)) (before after own : List ℕ) (s : State) (k r : Known) → found ≡ Some before → r ≡ kernel_wrote (mapped_at p section) attached before after own k → IsBack p section attached found after own s → r ≡ known_gathered p.device p.block after s k
-back_found p section attached found before after own s k r e is = subst (λ (f : Option (List ℕ)). IsBack p section attached f after own s → r ≡ known_gathered p.device p.block after s k) (sym e) (λ back. is ∙ found_back p section attached before after own s k back)
+pub back_found : (p : Placed) (section : Section) (attached : List Attachment) (found : Option (List ℕ)) (before after own : List ℕ) (s : State) (k r : Known) → found ≡ Some before → r ≡ kernel_wrote (mapped_at p section) attached before after own k → IsLeaseTold p section attached found after own s → r ≡ known_gathered p.device p.block after s k
+back_found p section attached found before after own s k r e is = subst (λ (f : Option (List ℕ)). IsLeaseTold p section attached f after own s → r ≡ known_gathered p.device p.block after s k) (sym e) (λ back. is ∙ found_back p section attached before after own s k back)
 
-pub back_other : (p : Placed) (section : Section) (attached : List Attachment) (found : Option (List ℕ)) (after own : List ℕ) (s : State) (k r : Known) → found ≡ None → r ≡ kernel_wrote_all (mapped_at p section) attached after own k → IsBack p section attached found after own s → r ≡ known_gathered p.device p.block after s k
-back_other p section attached found after own s k r e is = subst (λ (f : Option (List ℕ)). IsBack p section attached f after own s → r ≡ known_gathered p.device p.block after s k) (sym e) (λ back. is ∙ other_back p section attached after own s k back)
+pub back_other : (p : Placed) (section : Section) (attached : List Attachment) (found : Option (List ℕ)) (after own : List ℕ) (s : State) (k r : Known) → found ≡ None → r ≡ kernel_wrote_all (mapped_at p section) attached after own k → IsLeaseTold p section attached found after own s → r ≡ known_gathered p.device p.block after s k
+back_other p section attached found after own s k r e is = subst (λ (f : Option (List ℕ)). IsLeaseTold p section attached f after own s → r ≡ known_gathered p.device p.block after s k) (sym e) (λ back. is ∙ other_back p section attached after own s k back)

@@ -14,7 +14,7 @@ use Rattle.acc_stale.specs.declared.accounts.Account.{Account}
 -- ---- blocks
 
 -- a block, and its attached pointers by rising address
-pub record Told : Type 0 where
+pub record ToldBlock : Type 0 where
   pub held : Held
   pub attached : List Attachment
 
@@ -26,11 +26,11 @@ by_number x y = ordering_then (nat_cmp x.0 y.0) (nat_cmp x.1 y.1)
 abbrev pub counted : ℕ → ℕ × ℕ → Attachment
 counted block e = record { block = block; pointer = e.0; count = e.1 }
 
-abbrev pub told_of : ℕ → Block → Told
+abbrev pub told_of : ℕ → Block → ToldBlock
 told_of block b = record { held = b.held; attached = map (counted block) b.pointers.entries }
 
 -- what an account says of a block of a device
-abbrev pub told_at : ℕ → ℕ → Account → Option Told
+abbrev pub told_at : ℕ → ℕ → Account → Option ToldBlock
 told_at d block a = option_map (told_of block) (get by_number a.blocks (d, block))
 
 abbrev pub attached_at : ℕ → ℕ → Account → List Attachment
@@ -43,13 +43,13 @@ abbrev pub HasSameBlocks : Account → Account → Type 0
 HasSameBlocks old new = (d block : ℕ) → told_at d block new ≡ told_at d block old
 
 -- an account says this of one block now, and of all others what it did
-pub record IsChanged (d block : ℕ) (now : Option Told) (old new : Account) : Type 0 where
+pub record IsChanged (d block : ℕ) (now : Option ToldBlock) (old new : Account) : Type 0 where
   pub here : told_at d block new ≡ now
   pub others : (e b : ℕ) → (e == d && b == block) ≡ false → told_at e b new ≡ told_at e b old
   pub waiting : new.waiting ≡ old.waiting
 
 -- with the counter of a pointer set to a number
-abbrev pub recounted : ℕ → ℕ → ℕ → Told → Told
+abbrev pub recounted : ℕ → ℕ → ℕ → ToldBlock → ToldBlock
 recounted block pointer count t = record { held = t.held; attached = with_count block pointer count t.attached }
 
 abbrev pub IsRecounted : ℕ → ℕ → ℕ → ℕ → Account → Account → Type 0

@@ -5,3 +5,5 @@ pub mod Marks
 pub mod Parts
 pub mod Told
 pub mod Accounts
+pub mod Follows
+pub mod Tells

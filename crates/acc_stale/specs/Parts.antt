@@ -13,7 +13,7 @@ use Rattle.acc_stale.specs.Events.{overlap, placed_in, mapped_at, pointers_of}
 
 -- what one range has: where it lies, the attached pointers of its block, the bytes that the host wrote there, and those
 -- of the device
-pub record HasPart : Type 0 where
+pub record TakenPart : Type 0 where
   pub mapped : Mapped
   pub attached : List Attachment
   pub written : List ℕ
@@ -26,22 +26,22 @@ both_in addr bytes r = overlap (record { start = addr; len = length bytes }) r.s
 abbrev pub has_part : ℕ → List ℕ → Range → Bool
 has_part addr bytes r = not ((both_in addr bytes r).len == 0)
 
-abbrev pub part_of : ℕ → ℕ → List ℕ → State → Range → HasPart
+abbrev pub part_of : ℕ → ℕ → List ℕ → State → Range → TakenPart
 part_of d addr bytes s r =
     let both : Section = both_in addr bytes r in
     record { mapped = mapped_at (placed_in d r.block s) both; attached = pointers_of r.block s.records.attached; written = take both.len (drop (both.start - addr) bytes); own = take both.len (drop (both.start - r.section.start) (bytes_of r.block s.memories)) }
 
 -- the ranges of one device that have part of it, by rising address
-abbrev pub parts_in : ℕ → ℕ → List ℕ → State → List Range → List HasPart
+abbrev pub parts_in : ℕ → ℕ → List ℕ → State → List Range → List TakenPart
 parts_in d addr bytes s ranges = map (part_of d addr bytes s) (filter (has_part addr bytes) ranges)
 
 -- those of the devices from a number on
-abbrev pub parts_on : ℕ → ℕ → List ℕ → Whole → List OneDevice → List HasPart
+abbrev pub parts_on : ℕ → ℕ → List ℕ → Whole → List OneDevice → List TakenPart
 parts_on d addr bytes w [] = []
 parts_on d addr bytes w (x ∷ xs) = parts_in d addr bytes (view d w) x.records.ranges ++ parts_on (suc d) addr bytes w xs
 
 -- a part as it is told
-abbrev pub told_part : Part → HasPart
+abbrev pub told_part : Part → TakenPart
 told_part p = record { mapped = mapped_at p.block p.section; attached = p.attached.items; written = p.written.now; own = p.own.now }
 
 -- these are all parts of the bytes that the host wrote into a section
@@ -50,9 +50,9 @@ pub record AreParts (parts : List Part) (section : Section) (bytes : List ℕ) (
   pub all : map told_part parts ≡ parts_on 0 section.start bytes w w.devices
 
 -- the parts made behind, one after the other
-abbrev pub part_outdated : HasPart → Known → Known
+abbrev pub part_outdated : TakenPart → Known → Known
 part_outdated p k = device_outdated p.mapped p.attached p.written p.own k
 
-abbrev pub all_outdated : List HasPart → Known → Known
+abbrev pub all_outdated : List TakenPart → Known → Known
 all_outdated [] k = k
 all_outdated (p ∷ ps) k = all_outdated ps (part_outdated p k)

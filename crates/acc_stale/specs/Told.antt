@@ -23,14 +23,14 @@ use Rattle.acc_base.specs.Bytes.{bytes_of, step_state}
 use Rattle.acc_base.specs.Pointers.{aimed}
 use Rattle.acc_base.specs.Replay.{offset_lent}
 use Rattle.acc_stale.specs.declared.known.Placed.{Placed}
-use Rattle.acc_stale.specs.declared.items.Acted.{Acted}
+use Rattle.acc_stale.specs.declared.items.ItemDone.{ItemDone}
 use Rattle.acc_stale.specs.declared.items.Holder.{Holder}
 use Rattle.acc_stale.specs.Known.{Known, born}
 use Rattle.acc_stale.specs.Events.{placed_in, placed_new, mapped_at, pointers_of, zeroes, known_made}
 
--- the range that is mapped to the block of a step begins there
+-- the range that is mapped to the block of a step which copies begins there
 abbrev pub StartsAt : Step → ℕ → List Range → Type 0
-StartsAt (Dropped block ended) start ranges = start_of block ranges ≡ start
+StartsAt (Dropped block true) start ranges = start_of block ranges ≡ start
 StartsAt (Moved block) start ranges = start_of block ranges ≡ start
 StartsAt _ start ranges = ⊤
 
@@ -40,11 +40,11 @@ pub record IsThere (p : Placed) (block : ℕ) (attached : List Attachment) (s : 
   pub pointers : attached ≡ pointers_of block s.records.attached
 
 -- what is told of the block of a step is so; a new block lies where the step says, and has no attached pointer
-abbrev pub IsTold : Placed → Task → Step → List Attachment → State → Type 0
-IsTold p task (Born block place) attached s = (p ≡ placed_new p.device block place task) × (attached ≡ [])
-IsTold p task (Dropped block ended) attached s = IsThere p block attached s
-IsTold p task (Moved block) attached s = IsThere p block attached s
-IsTold p task _ attached s = ⊤
+abbrev pub IsStepBlockTold : Placed → Task → Step → List Attachment → State → Type 0
+IsStepBlockTold p task (Born block place) attached s = (p ≡ placed_new p.device block place task) × (attached ≡ [])
+IsStepBlockTold p task (Dropped block true) attached s = IsThere p block attached s
+IsStepBlockTold p task (Moved block) attached s = IsThere p block attached s
+IsStepBlockTold p task _ attached s = ⊤
 
 -- ---- a step as it is told
 
@@ -68,14 +68,14 @@ enters _ = false
 -- the step touches the bytes of no block
 abbrev pub TouchesNone : Step → Type 0
 TouchesNone (Born block place) = ⊥
-TouchesNone (Dropped block ended) = ⊥
+TouchesNone (Dropped block true) = ⊥
 TouchesNone (Moved block) = ⊥
 TouchesNone _ = ⊤
 
 -- what is told of the block of a step on a device, if it has one, is so
 abbrev pub IsStepTold : ℕ → Option Placed → Task → Step → List Attachment → State → Type 0
 IsStepTold d None task step attached s = TouchesNone step
-IsStepTold d (Some p) task step attached s = (p.device ≡ d) × IsTold p task step attached s
+IsStepTold d (Some p) task step attached s = (p.device ≡ d) × IsStepBlockTold p task step attached s
 
 -- what is told of the block that holds the pointer of an item is so: where it lies, and how often the pointer was
 -- attached
@@ -107,14 +107,14 @@ before_aim (Enter counter item queue) did s = step_state (Enter counter item que
 before_aim task did s = s
 
 -- what is told of an item that acted on a state is so
-pub record IsActed (a : Acted) (attached : List Attachment) (s : State) : Type 0 where
+pub record IsItemTold (a : ItemDone) (attached : List Attachment) (s : State) : Type 0 where
   pub step : IsStepTold a.device a.block a.task a.did.step attached (before_step a.task a.did s)
   pub aim : IsAimTold a.device a.holder a.did.aim (before_aim a.task a.did s)
 
 -- ---- a queued transfer that is made
 
 -- a queue makes this transfer next. Its block lies there, whose mapping may have ended
-pub record IsNext (q : ℕ) (p : Placed) (t : Transfer) (attached : List Attachment) (s : State) : Type 0 where
+pub record IsNextTold (q : ℕ) (p : Placed) (t : Transfer) (attached : List Attachment) (s : State) : Type 0 where
   pub head : head_of q s.records.queues ≡ Some t
   pub block : p.block ≡ t.block
   pub place : p.place ≡ place_of t.block s.records.blocks
@@ -135,7 +135,7 @@ AreFound None len before after = AreOther len before after
 
 -- what is told of a block is so to which these bytes come back: its lent section, what the kernel found there, and what
 -- the host has
-pub record IsBack (p : Placed) (section : Section) (attached : List Attachment) (found : Option (List ℕ)) (after own : List ℕ) (s : State) : Type 0 where
+pub record IsLeaseTold (p : Placed) (section : Section) (attached : List Attachment) (found : Option (List ℕ)) (after own : List ℕ) (s : State) : Type 0 where
   pub there : IsThere p p.block attached s
   pub from : section.start ≡ start_of p.block s.records.ranges + offset_lent p.block s.records.loans
   pub len : section.len ≡ length after

@@ -63,6 +63,11 @@ impl Account {
         }
     }
 
+    /// Where it allocates.
+    pub(crate) fn alloc(&self) -> Global {
+        self.alloc
+    }
+
     // ---- blocks
 
     /// Keeps a new block, which has no attached pointers.

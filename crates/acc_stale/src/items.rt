@@ -4,14 +4,14 @@ ghost use Rattle.std.specs.Prelude.{◌≡◌, ℕ, List, OnOk, IfErr};
 ghost use Rattle.acc_base.specs.declared.faults.Fault.TheVariants.{Memory};
 ghost use Rattle.acc_base.specs.Records.{State};
 ghost use Rattle.acc_stale.specs.Events.{known_stepped, known_aimed, known_acted};
-ghost use Rattle.acc_stale.specs.Told.{enters, IsStepTold, IsAimTold, IsHolder, IsActed};
+ghost use Rattle.acc_stale.specs.Told.{enters, IsStepTold, IsAimTold, IsHolder, IsItemTold};
 
 use crate::known::{Known, Placed};
 use acc_base::{Aim, Attachment, Did, Fault, Task};
 
 /// An item that acted, and where the blocks lie whose bytes it touched.
 #[derive(Clone, Copy, Debug)]
-pub struct Acted {
+pub struct ItemDone {
     /// The number of the device.
     pub device: u64,
     /// What it asked.
@@ -35,12 +35,12 @@ pub struct Holder {
 
 /// Who looks at what is known right before the step of an item.
 pub trait Watch {
-    /// Looks at it.
+    /// Looks at it. `item` is what it does next.
     ///
     /// # Errors
     ///
     /// [`Fault::Memory`] alone.
-    fn before_step(&mut self, known: &Known) -> Result<(), Fault>
+    fn before_step(&mut self, known: &Known, item: &ItemDone) -> Result<(), Fault>
         ensures only { IfErr result (λ fault. fault ≡ Memory) };
 }
 
@@ -54,11 +54,11 @@ impl Known {
     #[tactic(auto, using(crate::proofs::Steps::acted_enter, crate::proofs::Steps::acted_other))]
     pub fn acted<W: Watch>(
         &mut self,
-        acted: &Acted,
+        acted: &ItemDone,
         attached: &[Attachment],
         watch: &mut W,
     ) -> Result<(), Fault>
-        ensures ok { OnOk result ((s : State) → IsActed acted.now attached.now s → self.new ≡ known_acted acted.now.device acted.now.task acted.now.did s self.old) }
+        ensures ok { OnOk result ((s : State) → IsItemTold acted.now attached.now s → self.new ≡ known_acted acted.now.device acted.now.task acted.now.did s self.old) }
         ensures only { IfErr result (λ fault. fault ≡ Memory) }
     {
         if enters(acted.task) {
@@ -74,14 +74,14 @@ impl Known {
     #[tactic(auto, using(crate::proofs::Steps::none_touched))]
     fn step<W: Watch>(
         &mut self,
-        acted: &Acted,
+        acted: &ItemDone,
         attached: &[Attachment],
         watch: &mut W,
     ) -> Result<(), Fault>
         ensures ok { OnOk result ((s : State) → IsStepTold acted.now.device acted.now.block acted.now.task acted.now.did.step attached.now s → self.new ≡ known_stepped acted.now.device acted.now.task acted.now.did.step s self.old) }
         ensures only { IfErr result (λ fault. fault ≡ Memory) }
     {
-        watch.before_step(self)?;
+        watch.before_step(self, acted)?;
         match acted.block {
             Some(block) => self.stepped(block, acted.task, acted.did.step, attached),
             None => Ok(()),

@@ -8,7 +8,7 @@ ghost use Rattle.acc_base.specs.Section.{host_base};
 ghost use Rattle.acc_stale.specs.Marks.{filled};
 ghost use Rattle.acc_base.specs.Records.{State};
 ghost use Rattle.acc_stale.specs.Events.{mapped_at, mapped_behind, known_made, known_drained, known_gathered};
-ghost use Rattle.acc_stale.specs.Told.{IsNext, IsBack};
+ghost use Rattle.acc_stale.specs.Told.{IsNextTold, IsLeaseTold};
 ghost use Rattle.acc_stale.specs.Known.{all_new, on_host, on_device, on_mapped, on_section, born, copied_in, copied_out, pointer_aimed, pointer_left, host_wrote, device_outdated, kernel_wrote, kernel_wrote_all, mark_born, stale_host, stale_device};
 
 use crate::changes::{Change, Copied, Filled, Outdated, Outrun, Overrun, Pointers, Rewritten};
@@ -149,7 +149,7 @@ impl Known {
     /// [`Fault::Memory`] alone, as with those that follow. Marks are not to be asked for any more then.
     pub fn made(&mut self, block: Placed, t: Transfer, attached: &[Attachment]) -> Result<(), Fault>
         ensures ok { OnOk result (self.new ≡ known_made block t attached.now self.old) }
-        ensures next { OnOk result ((q : ℕ) (s : State) → IsNext q block t attached.now s → self.new ≡ known_drained block.device (q ∷ []) s self.old) }
+        ensures next { OnOk result ((q : ℕ) (s : State) → IsNextTold q block t attached.now s → self.new ≡ known_drained block.device (q ∷ []) s self.old) }
         ensures only { IfErr result (λ fault. fault ≡ Memory) }
     {
         let p = block.behind(t.offset, t.section);
@@ -225,7 +225,7 @@ impl Known {
         after: &[u8],
         own: &[u8],
     ) -> Result<(), Fault>
-        ensures ok { OnOk result ((s : State) → IsBack block section attached.now (option_map (λ bytes. bytes.now) found.entry) after.now own.now s → self.new ≡ known_gathered block.device block.block after.now s self.old) }
+        ensures ok { OnOk result ((s : State) → IsLeaseTold block section attached.now (option_map (λ bytes. bytes.now) found.entry) after.now own.now s → self.new ≡ known_gathered block.device block.block after.now s self.old) }
         ensures only { IfErr result (λ fault. fault ≡ Memory) }
     {
         match found {

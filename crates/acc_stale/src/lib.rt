@@ -7,10 +7,11 @@ mod items;
 mod known;
 mod marks;
 mod tasks;
+mod tellings;
 mod writes;
 
 pub use accounts::{Account, Held, Waiting};
-pub use items::{Acted, Holder, Watch};
+pub use items::{ItemDone, Holder, Watch};
 pub use known::{Known, Placed};
 pub use marks::{Mark, Run};
 pub use tasks::transfer_of;

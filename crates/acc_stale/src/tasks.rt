@@ -6,7 +6,7 @@ ghost use Rattle.acc_base.specs.declared.mappings.Range.{Range};
 ghost use Rattle.acc_base.specs.Transfers.{transfer_of, at_once};
 ghost use Rattle.acc_base.specs.Records.{State};
 ghost use Rattle.acc_stale.specs.Events.{zeroes, known_stepped};
-ghost use Rattle.acc_stale.specs.Told.{StartsAt, IsTold, begun_told, made_told};
+ghost use Rattle.acc_stale.specs.Told.{StartsAt, IsStepBlockTold, begun_told, made_told};
 
 use crate::known::{Known, Placed};
 use acc_base::{Attachment, Fault, Step, Task, Transfer};
@@ -59,7 +59,7 @@ impl Known {
         step: Step,
         attached: &[Attachment],
     ) -> Result<(), Fault>
-        ensures ok { OnOk result ((s : State) → IsTold block task step attached.now s → self.new ≡ known_stepped block.device task step s self.old) }
+        ensures ok { OnOk result ((s : State) → IsStepBlockTold block task step attached.now s → self.new ≡ known_stepped block.device task step s self.old) }
         ensures only { IfErr result (λ fault. fault ≡ Memory) }
     {
         let t = at_once(task.queue(), transfer_of(task, step, block.start));

@@ -1,0 +1,57 @@
+-- When an account says of a device what its records say: where blocks lie, how often their pointers are attached, and
+-- which transfers wait.
+use Rattle.std.specs.Prelude.{ℕ, ◌≡◌, ◌<◌, ◌+◌, ◌^◌, true, ⊤, List, Option, Some, IsSome}
+use Rattle.std.specs.Option.{IsSomeAnd}
+use Rattle.acc_base.specs.declared.attachments.Aim.{Aim}
+use Rattle.acc_base.specs.declared.attachments.Aim.TheVariants as aims
+use Rattle.acc_base.specs.declared.events.Step.{Step}
+use Rattle.acc_base.specs.declared.events.Step.TheVariants.{Born, Dropped, Moved}
+use Rattle.acc_base.specs.declared.mappings.Range.{Range}
+use Rattle.acc_base.specs.declared.transfers.TheConstants.{QUEUE_COUNT}
+use Rattle.acc_base.specs.Ranges.{range_of}
+use Rattle.acc_base.specs.Blocks.{block_at, place_of}
+use Rattle.acc_base.specs.Attachments.{count_at}
+use Rattle.acc_base.specs.Queues.{queue_at}
+use Rattle.acc_base.specs.Records.{Records}
+use Rattle.acc_stale.specs.declared.accounts.Account.{Account}
+use Rattle.acc_stale.specs.Events.{pointers_of}
+use Rattle.acc_stale.specs.Accounts.{ToldBlock, told_at, waiting_in}
+
+-- a block lies where it is told, and these are its attached pointers
+pub record IsBlockTold (d block : ℕ) (w : Records) (t : ToldBlock) : Type 0 where
+  pub device : t.held.placed.device ≡ d
+  pub number : t.held.placed.block ≡ block
+  pub place : t.held.placed.place ≡ place_of block w.blocks
+  pub attached : t.attached ≡ pointers_of block w.attached
+
+-- its range is what is told
+pub record IsRangeTold (r : Range) (t : ToldBlock) : Type 0 where
+  pub start : t.held.placed.start ≡ r.section.start
+  pub section : t.held.section ≡ r.section
+
+-- each block that is there is told, and each range
+pub record AreBlocksTold (d : ℕ) (told : ℕ → Option ToldBlock) (w : Records) : Type 0 where
+  pub blocks : (block : ℕ) → IsSome (block_at block w.blocks) → IsSomeAnd (told block) (IsBlockTold d block w)
+  pub ranges : (block : ℕ) (r : Range) → range_of block w.ranges ≡ Some r → IsSomeAnd (told block) (IsRangeTold r)
+
+-- an account follows a device: so its blocks are told, and so is each queue
+pub record FollowsDevice (d : ℕ) (a : Account) (w : Records) : Type 0 where
+  pub told : AreBlocksTold d (λ block. told_at d block a) w
+  pub queues : (q : ℕ) → q < QUEUE_COUNT → waiting_in d q a.waiting.items ≡ queue_at q w.queues
+
+-- ---- what an item has to be, so that an account tells it
+
+-- the block of a step is mapped, and a new one has the next number
+abbrev pub IsStepFit : Step → Records → Type 0
+IsStepFit (Born block place) w = block ≡ w.births + 1
+IsStepFit (Dropped block true) w = IsSome (range_of block w.ranges)
+IsStepFit (Moved block) w = IsSome (range_of block w.ranges)
+IsStepFit _ w = ⊤
+
+-- the block that holds a pointer is mapped, and the counter can rise
+abbrev pub IsAimFit : Aim → Records → Type 0
+IsAimFit aims.None w = ⊤
+IsAimFit (aims.New pointer block target) w = IsSome (range_of block w.ranges)
+IsAimFit (aims.Again pointer block) w = IsSome (range_of block w.ranges) × (count_at block pointer w.attached + 1 < 2 ^ 64)
+IsAimFit (aims.Less pointer block) w = IsSome (range_of block w.ranges)
+IsAimFit (aims.Cleared pointer block) w = IsSome (range_of block w.ranges)

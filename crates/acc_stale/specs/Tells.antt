@@ -1,0 +1,77 @@
+-- What an account tells of an item and keeps of it, step by step.
+use Rattle.std.specs.Prelude.{ℕ, ◌≡◌, ◌+◌, ◌-◌, ◌^◌, min, Bool, true, false, ◌==◌, List, [], ◌∷◌, ◌++◌, Option, Some, None, option_map}
+use Rattle.acc_base.specs.declared.attachments.Attachment.{Attachment}
+use Rattle.acc_base.specs.declared.attachments.Aim.{Aim}
+use Rattle.acc_base.specs.declared.attachments.Aim.TheVariants as aims
+use Rattle.acc_base.specs.declared.events.Step.{Step}
+use Rattle.acc_base.specs.declared.events.Step.TheVariants.{Born, Dropped, Moved}
+use Rattle.acc_base.specs.declared.items.Section.{Section}
+use Rattle.acc_base.specs.declared.mappings.Range.{Range}
+use Rattle.acc_base.specs.declared.transfers.Transfer.{Transfer}
+use Rattle.acc_base.specs.Records.{Records}
+use Rattle.acc_stale.specs.declared.accounts.Account.{Account}
+use Rattle.acc_stale.specs.declared.accounts.Held.{Held}
+use Rattle.acc_stale.specs.declared.accounts.Waiting.{Waiting}
+use Rattle.acc_stale.specs.declared.known.Placed.{Placed}
+use Rattle.acc_stale.specs.Accounts.{ToldBlock, told_at, attached_at, HasSameBlocks, IsChanged}
+use Rattle.acc_stale.specs.Follows.{FollowsDevice}
+use Rattle.acc_stale.specs.Told.{StartsAt, TouchesNone}
+
+-- ---- a step
+
+-- where an account says that a block lies
+abbrev pub placed_at : ℕ → ℕ → Account → Option Placed
+placed_at d block a = option_map (λ t. t.held.placed) (told_at d block a)
+
+-- the block of a step that is new, with the section that it is made for
+abbrev pub held_new : ℕ → Section → ℕ → ℕ → ℕ → Held
+held_new d section line block place = record { placed = record { device = d; block = block; start = section.start; place = place }; section = section; line = line }
+
+-- where the block of a step lies
+abbrev pub placed_by : ℕ → Section → Step → Account → Option Placed
+placed_by d section (Born block place) a = Some (record { device = d; block = block; start = section.start; place = place })
+placed_by d section (Dropped block true) a = placed_at d block a
+placed_by d section (Moved block) a = placed_at d block a
+placed_by d section _ a = None
+
+-- a new block is kept
+abbrev pub IsStepKept : ℕ → Section → ℕ → Step → Account → Account → Type 0
+IsStepKept d section line (Born block place) old new = IsChanged d block (Some (record { held = held_new d section line block place; attached = [] })) old new
+IsStepKept d section line _ old new = HasSameBlocks old new × (new.waiting ≡ old.waiting)
+
+abbrev pub attached_of : Option Placed → Account → List Attachment
+attached_of None a = []
+attached_of (Some p) a = attached_at p.device p.block a
+
+-- the range of the block of a step begins where that lies
+abbrev pub StartsIn : Option Placed → Step → List Range → Type 0
+StartsIn None step ranges = TouchesNone step
+StartsIn (Some p) step ranges = StartsAt step p.start ranges
+
+-- the transfers that wait, with one more where there is a queue
+abbrev pub waiting_after : ℕ → Option ℕ → Option Transfer → List Waiting → List Waiting
+waiting_after d (Some q) (Some t) waiting = waiting ++ record { device = d; queue = q; transfer = t } ∷ []
+waiting_after d _ _ waiting = waiting
+
+-- ---- a pointer
+
+-- the pointer that was attached or detached, and the block that holds it
+abbrev pub pointer_held : Aim → Option (ℕ × ℕ)
+pointer_held aims.None = None
+pointer_held (aims.New pointer block target) = Some (pointer, block)
+pointer_held (aims.Again pointer block) = Some (pointer, block)
+pointer_held (aims.Less pointer block) = Some (pointer, block)
+pointer_held (aims.Cleared pointer block) = Some (pointer, block)
+
+-- how often it is attached then
+abbrev pub count_left : Aim → ℕ → ℕ
+count_left (aims.New pointer block target) count = 1
+count_left (aims.Again pointer block) count = min (count + 1) (2 ^ 64 - 1)
+count_left (aims.Less pointer block) count = count - 1
+count_left _ count = 0
+
+-- ---- other devices
+
+-- the one account follows each other device that the other does
+abbrev pub LeavesOthers : ℕ → Account → Account → Type 0
+LeavesOthers d old new = (e : ℕ) (w : Records) → (e == d) ≡ false → FollowsDevice e old w → FollowsDevice e new w

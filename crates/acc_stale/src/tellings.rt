@@ -1,0 +1,187 @@
+//! What an account tells of the step and the pointer of an item, and what it keeps of them (OpenACC 3.3, sections 2.7
+//! and 2.7.2).
+
+ghost use Rattle.std.specs.Prelude.{◌≡◌, List, Option, OnOk, IfOk};
+ghost use Rattle.acc_base.specs.declared.mappings.Range.{Range};
+ghost use Rattle.acc_base.specs.Limits.{Limits};
+ghost use Rattle.acc_base.specs.Records.{State};
+ghost use Rattle.acc_base.specs.Accounts.{AreRecordsSound};
+ghost use Rattle.acc_base.specs.Steps.{act_step, records_aimed};
+ghost use Rattle.acc_base.specs.Transfers.{transfer_of};
+ghost use Rattle.acc_stale.specs.Accounts.{HasSameBlocks};
+ghost use Rattle.acc_stale.specs.Follows.{FollowsDevice, IsStepFit, IsAimFit};
+ghost use Rattle.acc_stale.specs.Told.{IsStepTold, IsAimTold};
+ghost use Rattle.acc_stale.specs.Tells.{placed_by, IsStepKept, attached_of, StartsIn, waiting_after, pointer_held, count_left, placed_at, LeavesOthers};
+
+use crate::accounts::{Account, Held, Waiting};
+use crate::items::Holder;
+use crate::known::Placed;
+use crate::tasks::transfer_of;
+use acc_base::{Aim, Attachment, Section, Step, Task, Transfer};
+use std::alloc::AllocError;
+
+/// What is told of the step of an item.
+#[derive(Drop)]
+pub(crate) struct StepTold {
+    /// Where its block lies, if it touches the bytes of one.
+    pub block: Option<Placed>,
+    /// The attached pointers of that block.
+    pub attached: Vec<Attachment>,
+    /// What it copies, at once or when its queue does.
+    pub transfer: Option<Transfer>,
+}
+
+impl Account {
+    // ---- the step of an item
+
+    /// Tells of the step of an item, and keeps what it does: a new block, with the line that made it, and a transfer
+    /// that is put into a queue.
+    pub(crate) fn step(
+        &mut self,
+        device: u64,
+        task: Task,
+        step: Step,
+        line: u64,
+    ) -> Result<StepTold, AllocError>
+        ensures told { IfOk result (λ told. (l : Limits) (s : State) → FollowsDevice device self.old s.records → AreRecordsSound l s.records → IsStepFit step s.records → IsStepTold device told.block task step told.attached.items s) }
+        ensures transfer { IfOk result (λ told. (l : Limits) (s : State) → FollowsDevice device self.old s.records → AreRecordsSound l s.records → IsStepFit step s.records → told.transfer ≡ transfer_of task step s.records.ranges) }
+        ensures follows { OnOk result ((l : Limits) (s : State) → FollowsDevice device self.old s.records → AreRecordsSound l s.records → IsStepFit step s.records → FollowsDevice device self.new (act_step task step s.records)) }
+        ensures others { OnOk result (LeavesOthers device self.old self.new) }
+    {
+        let block = self.place(device, task.section(), step, line)?;
+        let attached = self.attached_in(block)?;
+        let transfer = transfer_in(block, task, step);
+        self.keep(device, task.queue(), transfer)?;
+        Ok(StepTold {
+            block,
+            attached,
+            transfer,
+        })
+    }
+
+    /// Where the block lies whose bytes a step touches. A new one is kept, which is mapped for this section.
+    fn place(
+        &mut self,
+        device: u64,
+        section: Section,
+        step: Step,
+        line: u64,
+    ) -> Result<Option<Placed>, AllocError>
+        ensures told { IfOk result (λ placed. placed ≡ placed_by device section step self.old) }
+        ensures kept { OnOk result (IsStepKept device section line step self.old self.new) }
+    {
+        match step {
+            Step::Born { block, place } => {
+                let placed = Placed {
+                    device,
+                    block,
+                    start: section.start,
+                    place,
+                };
+                self.born(Held {
+                    placed,
+                    section,
+                    line,
+                })?;
+                Ok(Some(placed))
+            }
+            Step::Dropped { block, ended: true } => Ok(self.placed(device, block)),
+            Step::Moved { block } => Ok(self.placed(device, block)),
+            _ => Ok(None),
+        }
+    }
+
+    /// Where a block of a device lies.
+    fn placed(&self, device: u64, block: u64) -> Option<Placed>
+        ensures { result ≡ placed_at device block self.now }
+    {
+        match self.block(device, block) {
+            Some(held) => Some(held.placed),
+            None => None,
+        }
+    }
+
+    /// The attached pointers of a block, if there is one.
+    fn attached_in(&self, block: Option<Placed>) -> Result<Vec<Attachment>, AllocError>
+        ensures { IfOk result (λ attached. attached.items ≡ attached_of block self.now) }
+    {
+        match block {
+            Some(placed) => self.attached(placed.device, placed.block),
+            None => Ok(Vec::new(self.alloc())),
+        }
+    }
+
+    /// Puts a transfer into a queue, if there are both.
+    fn keep(
+        &mut self,
+        device: u64,
+        queue: Option<u64>,
+        transfer: Option<Transfer>,
+    ) -> Result<(), AllocError>
+        ensures ok { OnOk result (self.new.waiting.items ≡ waiting_after device queue transfer self.old.waiting.items) }
+        ensures blocks { HasSameBlocks self.old self.new }
+    {
+        match (queue, transfer) {
+            (Some(queue), Some(transfer)) => self.put(Waiting {
+                device,
+                queue,
+                transfer,
+            }),
+            _ => Ok(()),
+        }
+    }
+
+    // ---- its pointer
+
+    /// Tells of the block that holds the pointer of an item, and keeps how often that is attached then.
+    pub(crate) fn aim(&mut self, device: u64, aim: Aim) -> Result<Option<Holder>, AllocError>
+        ensures told { IfOk result (λ holder. (l : Limits) (s : State) → FollowsDevice device self.old s.records → AreRecordsSound l s.records → IsAimFit aim s.records → IsAimTold device holder aim s) }
+        ensures follows { OnOk result ((l : Limits) (s : State) → FollowsDevice device self.old s.records → AreRecordsSound l s.records → IsAimFit aim s.records → FollowsDevice device self.new (records_aimed aim s.records)) }
+        ensures others { OnOk result (LeavesOthers device self.old self.new) }
+    {
+        let Some((pointer, block)) = pointer_held(aim) else {
+            return Ok(None);
+        };
+        let Some(placed) = self.placed(device, block) else {
+            return Ok(None);
+        };
+        let count = self.count(device, block, pointer);
+        self.attach(device, block, pointer, count_left(aim, count))?;
+        Ok(Some(Holder { placed, count }))
+    }
+}
+
+/// The transfer of a step, whose block lies there.
+fn transfer_in(block: Option<Placed>, task: Task, step: Step) -> Option<Transfer>
+    ensures { (ranges : List Range) → StartsIn block step ranges → result ≡ transfer_of task step ranges }
+{
+    match block {
+        Some(placed) => transfer_of(task, step, placed.start),
+        None => None,
+    }
+}
+
+/// A pointer and the block that holds it, if an attachment or a detachment names them.
+fn pointer_held(aim: Aim) -> Option<(u64, u64)>
+    ensures { result ≡ pointer_held aim }
+{
+    match aim {
+        Aim::None => None,
+        Aim::New { pointer, block, .. } => Some((pointer, block)),
+        Aim::Again { pointer, block } => Some((pointer, block)),
+        Aim::Less { pointer, block } => Some((pointer, block)),
+        Aim::Cleared { pointer, block } => Some((pointer, block)),
+    }
+}
+
+/// How often a pointer is attached then, that was so often before.
+fn count_left(aim: Aim, count: u64) -> u64
+    ensures { result ≡ count_left aim count }
+{
+    match aim {
+        Aim::New { .. } => 1,
+        Aim::Again { .. } => count.saturating_add(1),
+        Aim::Less { .. } => count.saturating_sub(1),
+        _ => 0,
+    }
+}

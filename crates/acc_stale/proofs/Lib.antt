@@ -12,3 +12,4 @@ pub mod Attached
 pub mod Followed
 pub mod Telling
 pub mod Aiming
+pub mod Fitting

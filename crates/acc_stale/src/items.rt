@@ -118,7 +118,7 @@ impl Known {
 }
 
 /// An item that enters attaches its pointer after its step, and others detach it before.
-fn enters(task: Task) -> bool
+pub(crate) fn enters(task: Task) -> bool
     ensures { result ≡ enters task }
 {
     match task {

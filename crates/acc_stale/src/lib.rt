@@ -8,11 +8,13 @@ mod known;
 mod marks;
 mod tasks;
 mod tellings;
+mod trackers;
 mod writes;
 
 pub use accounts::{Account, Held, Waiting};
-pub use items::{ItemDone, Holder, Watch};
+pub use items::{Holder, ItemDone, Watch};
 pub use known::{Known, Placed};
 pub use marks::{Mark, Run};
 pub use tasks::transfer_of;
+pub use trackers::Tracker;
 pub use writes::Part;

@@ -1,23 +1,24 @@
 //! What an account tells of the step and the pointer of an item, and what it keeps of them (OpenACC 3.3, sections 2.7
 //! and 2.7.2).
 
-ghost use Rattle.std.specs.Prelude.{◌≡◌, List, Option, OnOk, IfOk};
+ghost use Rattle.std.specs.Prelude.{◌≡◌, ℕ, List, Option, Ok, OnOk, IfOk};
 ghost use Rattle.acc_base.specs.declared.mappings.Range.{Range};
-ghost use Rattle.acc_base.specs.Limits.{Limits};
+ghost use Rattle.acc_base.specs.Limits.{Limits, IsWithinBounds};
 ghost use Rattle.acc_base.specs.Records.{State};
 ghost use Rattle.acc_base.specs.Accounts.{AreRecordsSound};
+ghost use Rattle.acc_base.specs.Acting.{judge_task, act_state};
 ghost use Rattle.acc_base.specs.Steps.{act_step, records_aimed};
 ghost use Rattle.acc_base.specs.Transfers.{transfer_of};
 ghost use Rattle.acc_stale.specs.Accounts.{HasSameBlocks};
 ghost use Rattle.acc_stale.specs.Follows.{FollowsDevice, IsStepFit, IsAimFit};
-ghost use Rattle.acc_stale.specs.Told.{IsStepTold, IsAimTold};
+ghost use Rattle.acc_stale.specs.Told.{IsStepTold, IsAimTold, IsItemTold};
 ghost use Rattle.acc_stale.specs.Tells.{placed_by, IsStepKept, attached_of, StartsIn, waiting_after, pointer_held, count_left, placed_at, LeavesOthers};
 
 use crate::accounts::{Account, Held, Waiting};
-use crate::items::Holder;
+use crate::items::{Holder, ItemDone, enters};
 use crate::known::Placed;
 use crate::tasks::transfer_of;
-use acc_base::{Aim, Attachment, Section, Step, Task, Transfer};
+use acc_base::{Aim, Attachment, Did, Section, Step, Task, Transfer};
 use std::alloc::AllocError;
 
 /// What is told of the step of an item.
@@ -31,7 +32,42 @@ pub(crate) struct StepTold {
     pub transfer: Option<Transfer>,
 }
 
+/// What is told of an item.
+#[derive(Drop)]
+pub(crate) struct ItemTold {
+    /// What it did, and where the blocks lie whose bytes it touched.
+    pub item: ItemDone,
+    /// The attached pointers of the block of its step, right before the step.
+    pub attached: Vec<Attachment>,
+    /// What it copies, at once or when its queue does.
+    pub transfer: Option<Transfer>,
+}
+
 impl Account {
+    /// Tells of an item, and keeps what it did. An item that enters attaches its pointer after its step, and others
+    /// detach it before.
+    pub(crate) fn item(
+        &mut self,
+        device: u64,
+        task: Task,
+        did: Did,
+        line: u64,
+    ) -> Result<ItemTold, AllocError>
+        ensures item { IfOk result (λ told. (told.item.device ≡ device) × (told.item.task ≡ task) × (told.item.did ≡ did)) }
+        ensures told { IfOk result (λ told. (l : Limits) (n : ℕ) (s : State) → IsWithinBounds l → AreRecordsSound l s.records → judge_task l n task s ≡ Ok did → FollowsDevice device self.old s.records → IsItemTold told.item told.attached.items s) }
+        ensures follows { OnOk result ((l : Limits) (n : ℕ) (s : State) → IsWithinBounds l → AreRecordsSound l s.records → judge_task l n task s ≡ Ok did → FollowsDevice device self.old s.records → FollowsDevice device self.new (act_state task did s).records) }
+        ensures others { OnOk result (LeavesOthers device self.old self.new) }
+    {
+        if enters(task) {
+            let step = self.step(device, task, did.step, line)?;
+            let holder = self.aim(device, did.aim)?;
+            return Ok(told_by(device, task, did, step, holder));
+        }
+        let holder = self.aim(device, did.aim)?;
+        let step = self.step(device, task, did.step, line)?;
+        Ok(told_by(device, task, did, step, holder))
+    }
+
     // ---- the step of an item
 
     /// Tells of the step of an item, and keeps what it does: a new block, with the line that made it, and a transfer
@@ -148,6 +184,25 @@ impl Account {
         let count = self.count(device, block, pointer);
         self.attach(device, block, pointer, count_left(aim, count))?;
         Ok(Some(Holder { placed, count }))
+    }
+}
+
+/// An item, by what is told of its step and its pointer.
+fn told_by(device: u64, task: Task, did: Did, step: StepTold, holder: Option<Holder>) -> ItemTold
+    ensures item { result.item ≡ record { device = device; task = task; did = did; block = step.block; holder = holder } }
+    ensures attached { result.attached.items ≡ step.attached.items }
+    ensures transfer { result.transfer ≡ step.transfer }
+{
+    ItemTold {
+        item: ItemDone {
+            device,
+            task,
+            did,
+            block: step.block,
+            holder,
+        },
+        attached: step.attached,
+        transfer: step.transfer,
     }
 }
 

@@ -1,12 +1,11 @@
 //! The check of a script: what its lines read is told where it is stale.
 
-use crate::accounts::{Account, Held};
 use crate::findings::{Finding, Kind, Note, Origin, put_drop, put_finding, put_leak, put_needless};
 use crate::histories::{Cause, History};
 use crate::looks::{Looks, part_of};
 use acc_base::{Config, Directive, Fault, Found, Item, Section, UpdateClause};
 use acc_read::{Names, Page, ScriptKernel, Statement};
-use acc_stale::{Known, Mark, Placed, Run};
+use acc_stale::{Held, Known, Mark, Placed, Run, Tracker};
 use acc_table::Table;
 use std::alloc::Global;
 
@@ -33,8 +32,8 @@ fn leaves_others(kernel: ScriptKernel) -> bool {
 #[derive(Drop)]
 pub struct Check {
     pub(crate) alloc: Global,
-    pub(crate) known: Known,
-    pub(crate) account: Account,
+    /// What is known of all bytes, and the account of the blocks, pointers, queues and regions.
+    pub(crate) tracker: Tracker,
     pub(crate) history: History,
     /// What is told, and how.
     telling: Telling,
@@ -92,8 +91,7 @@ impl Check {
         let (host, device) = (config.host() as u32, config.device() as u32);
         Ok(Check {
             alloc,
-            known: Known::new(alloc, host, config.devices() as usize, device)?,
-            account: Account::new(alloc),
+            tracker: Tracker::new(alloc, host, config.devices() as usize, device)?,
             history: History::new(alloc),
             telling,
             looks: Looks::new(alloc, telling.all),
@@ -110,7 +108,7 @@ impl Check {
 
     /// What is known of all bytes, behind the lines so far.
     pub fn known(&self) -> &Known {
-        &self.known
+        &self.tracker.known
     }
 
     /// How many findings there were so far.
@@ -181,7 +179,7 @@ impl Check {
             }
         }
         self.seen = trace.len();
-        self.looks.sift_drops(&self.known);
+        self.looks.sift_drops(&self.tracker.known);
         if let Some(section) = shown {
             self.find_in_host(table, section, 0)?;
         }
@@ -233,7 +231,7 @@ impl Check {
     /// The block that a section is mapped to.
     fn placed(&self, table: &Table, device: u64, section: Section) -> Option<Held> {
         match table.find(device, section) {
-            Found::Inside { block, .. } => self.account.block(device, block),
+            Found::Inside { block, .. } => self.tracker.account.block(device, block),
             _ => None,
         }
     }
@@ -260,7 +258,7 @@ impl Check {
         if let Some(source) = source {
             self.find_in_host(table, source, 1)?;
         }
-        if let Some(held) = self.account.block(device, block) {
+        if let Some(held) = self.tracker.account.block(device, block) {
             self.find_on_device(held.placed, section)?;
         }
         Ok(())
@@ -270,7 +268,7 @@ impl Check {
     fn find_in_host(&mut self, table: &Table, section: Section, nth: usize) -> Result<(), Fault> {
         let mut rest = section;
         for _ in 0..section.len {
-            let Some(run) = self.known.stale_host(rest) else {
+            let Some(run) = self.tracker.known.stale_host(rest) else {
                 break;
             };
             let section = part_of(rest, run);
@@ -302,13 +300,13 @@ impl Check {
 
     /// What to write where the host reads a section. Where a device has it and is behind too, its newer bytes are lost.
     fn note_of_host(&self, table: &Table, section: Section) -> Note {
-        if let Some(queue) = self.account.queue_with(section.start, true) {
+        if let Some(queue) = self.tracker.account.queue_with(section.start, true) {
             return Note::Wait(queue);
         }
         let mut note = Note::Copyout;
         for device in 0..table.config().devices() {
             if let Some(held) = self.placed(table, device, section) {
-                if self.known.stale_device(held.placed, section).is_none() {
+                if self.tracker.known.stale_device(held.placed, section).is_none() {
                     return Note::UpdateSelf;
                 }
                 note = Note::None;
@@ -321,7 +319,7 @@ impl Check {
     fn find_on_device(&mut self, placed: Placed, section: Section) -> Result<(), Fault> {
         let mut rest = section;
         for _ in 0..section.len {
-            let Some(run) = self.known.stale_device(placed, rest) else {
+            let Some(run) = self.tracker.known.stale_device(placed, rest) else {
                 break;
             };
             let section = part_of(rest, run);
@@ -329,7 +327,7 @@ impl Check {
                 Mark::Behind => (Kind::StaleDevice, Note::UpdateDevice),
                 _ => (Kind::Unfilled, Note::Copyin),
             };
-            let note = match self.account.queue_with(section.start, false) {
+            let note = match self.tracker.account.queue_with(section.start, false) {
                 Some(queue) => Note::Wait(queue),
                 None => note,
             };

@@ -1,10 +1,9 @@
 //! What each event does to the bytes that are told of it.
 
-use crate::accounts::{Held, Waiting};
 use crate::checks::Check;
 use crate::histories::{Deed, Done};
-use acc_base::{Aim, Attachment, Did, Event, Fault, Found, Section, Step, Task, Transfer};
-use acc_stale::{Acted, Holder, Part, Placed, transfer_of};
+use acc_base::{Did, Event, Fault, Found, Section, Step, Task, Transfer};
+use acc_stale::{Held, Part, Placed};
 use acc_table::Table;
 
 impl Check {
@@ -17,7 +16,7 @@ impl Check {
     ) -> Result<(), Fault> {
         match event {
             Event::Entered { .. } => {
-                self.account.open(at)?;
+                self.tracker.account.open(at)?;
                 self.see_items(event)
             }
             Event::Left { .. } => self.see_exit(table.trace(), event),
@@ -59,7 +58,7 @@ impl Check {
 
     /// The items of a region are undone from the last to the first.
     fn see_exit(&mut self, trace: &[Event], event: &Event) -> Result<(), Fault> {
-        let Some(entry) = self.account.close().and_then(|at| trace.get(at)) else {
+        let Some(entry) = self.tracker.account.close().and_then(|at| trace.get(at)) else {
             return Ok(());
         };
         for (place, did) in event.did().iter().enumerate().rev() {
@@ -73,95 +72,14 @@ impl Check {
     /// Tells what an item did, and what of it is to be looked at.
     fn see_item(&mut self, device: u64, task: Task, did: Did) -> Result<(), Fault> {
         let ends = self.note_kept(device, task, did.step)?;
-        let block = self.placed_by(device, task.section(), did.step)?;
-        let (attached, holder) = self.pointers_by(device, task, block, did.aim)?;
-        let copy = block.and_then(|b| Some((b, transfer_of(task, did.step, b.start)?)));
-        let queue = task.queue();
-        self.looks.expect(ends, copy.filter(|_| queue.is_none()));
-        let acted = Acted {
-            device,
-            task,
-            did,
-            block,
-            holder,
-        };
-        self.known.acted(&acted, &attached, &mut self.looks)?;
-        match copy {
-            Some((_, t)) => self.keep_transfer(device, t, queue),
+        self.looks.expect(ends);
+        let line = self.line;
+        let copied = self
+            .tracker
+            .acted(device, task, did, line, &mut self.looks)?;
+        match copied {
+            Some(t) => self.note_transfer(device, t, task.queue()),
             None => Ok(()),
-        }
-    }
-
-    /// The attached pointers of the block of an item's step, right before the step, and the block that holds the item's
-    /// pointer. An item that enters attaches its pointer after its step, and others detach it before.
-    fn pointers_by(
-        &mut self,
-        device: u64,
-        task: Task,
-        block: Option<Placed>,
-        aim: Aim,
-    ) -> Result<(Vec<Attachment>, Option<Holder>), Fault> {
-        if let Task::Enter { .. } = task {
-            let attached = self.attached(block)?;
-            return Ok((attached, self.holder_by(device, aim)?));
-        }
-        let holder = self.holder_by(device, aim)?;
-        Ok((self.attached(block)?, holder))
-    }
-
-    /// The attached pointers of a block, if there is one.
-    fn attached(&self, block: Option<Placed>) -> Result<Vec<Attachment>, Fault> {
-        match block {
-            Some(block) => Ok(self.account.attached(self.alloc, block)?),
-            None => Ok(Vec::new(self.alloc)),
-        }
-    }
-
-    /// Keeps that bytes were copied, or that their copy waits.
-    fn keep_transfer(
-        &mut self,
-        device: u64,
-        transfer: Transfer,
-        queue: Option<u64>,
-    ) -> Result<(), Fault> {
-        self.note_transfer(device, transfer, queue)?;
-        if let Some(queue) = queue {
-            self.account.put(Waiting {
-                device,
-                queue,
-                transfer,
-            })?;
-        }
-        Ok(())
-    }
-
-    /// Where the block of a step lies. A new one is mapped for a section.
-    fn placed_by(
-        &mut self,
-        device: u64,
-        section: Section,
-        step: Step,
-    ) -> Result<Option<Placed>, Fault> {
-        match step {
-            Step::Born { block, place } => {
-                let placed = Placed {
-                    device,
-                    block,
-                    start: section.start,
-                    place,
-                };
-                let line = self.line;
-                self.account.born(Held {
-                    placed,
-                    section,
-                    line,
-                })?;
-                Ok(Some(placed))
-            }
-            Step::Dropped { block, .. } | Step::Moved { block } => {
-                Ok(self.account.block(device, block).map(|held| held.placed))
-            }
-            _ => Ok(None),
         }
     }
 
@@ -184,7 +102,7 @@ impl Check {
     fn note_kept(&mut self, device: u64, task: Task, step: Step) -> Result<Option<Held>, Fault> {
         match step {
             Step::Dropped { block, ended: true } => {
-                let Some(held) = self.account.block(device, block) else {
+                let Some(held) = self.tracker.account.block(device, block) else {
                     return Ok(None);
                 };
                 let line = self.line;
@@ -216,40 +134,15 @@ impl Check {
         self.note(device, deed, t.section)
     }
 
-    // ---- pointers
-
-    /// The block that holds the pointer of an item, and how often that was attached before. Keeps how often it is now.
-    fn holder_by(&mut self, device: u64, aim: Aim) -> Result<Option<Holder>, Fault> {
-        let (pointer, block) = match aim {
-            Aim::None => return Ok(None),
-            Aim::New { pointer, block, .. } => (pointer, block),
-            Aim::Again { pointer, block } => (pointer, block),
-            Aim::Less { pointer, block } => (pointer, block),
-            Aim::Cleared { pointer, block } => (pointer, block),
-        };
-        let Some(Held { placed, .. }) = self.account.block(device, block) else {
-            return Ok(None);
-        };
-        let count = self.account.count(placed, pointer);
-        let left = match aim {
-            Aim::New { .. } => 1,
-            Aim::Again { .. } => count.saturating_add(1),
-            Aim::Less { .. } => count.saturating_sub(1),
-            _ => 0,
-        };
-        self.account.attach(placed, pointer, left)?;
-        Ok(Some(Holder { placed, count }))
-    }
-
     // ---- queued transfers, writes and kernels
 
     fn see_waited(&mut self, device: u64, queue: Option<u64>, count: u64) -> Result<(), Fault> {
         for _ in 0..count {
-            if let Some(t) = self.account.take(device, queue) {
-                if let Some(held) = self.account.block(device, t.block) {
-                    let attached = self.account.attached(self.alloc, held.placed)?;
-                    self.looks.find_overwritten(&self.known, held.placed, t)?;
-                    self.known.made(held.placed, t, &attached)?;
+            if let Some(t) = self.tracker.account.take(device, queue) {
+                if let Some(held) = self.tracker.account.block(device, t.block) {
+                    let attached = self.tracker.account.attached(device, t.block)?;
+                    self.looks.find_overwritten(&self.tracker.known, held.placed, t)?;
+                    self.tracker.known.made(held.placed, t, &attached)?;
                     self.note_transfer(device, t, None)?;
                 }
             }
@@ -274,7 +167,7 @@ impl Check {
                 rest = behind(section, part);
             }
         }
-        self.known.wrote(section, &parts)?;
+        self.tracker.known.wrote(section, &parts)?;
         self.note(0, Deed::HostWrote, section)
     }
 
@@ -301,7 +194,7 @@ impl Check {
         let Found::Inside { block, .. } = table.find(device, at) else {
             return None;
         };
-        let placed = self.account.block(device, block)?.placed;
+        let placed = self.tracker.account.block(device, block)?.placed;
         let range = table.mapped(device, placed.start)?;
         let left = range.len.checked_sub(start.checked_sub(range.start)?)?;
         let section = Section {
@@ -327,7 +220,7 @@ impl Check {
         Ok(Some(Part {
             block,
             section,
-            attached: self.account.attached(self.alloc, block)?,
+            attached: self.tracker.account.attached(block.device, block.block)?,
             written,
             own,
         }))
@@ -335,7 +228,7 @@ impl Check {
 
     /// Tells what a kernel left, whose block is back.
     fn see_kernel(&mut self, table: &Table, device: u64, block: u64) -> Result<(), Fault> {
-        let (Some(kernel), Some(held)) = (self.kernel.take(), self.account.block(device, block))
+        let (Some(kernel), Some(held)) = (self.kernel.take(), self.tracker.account.block(device, block))
         else {
             return Ok(());
         };
@@ -344,9 +237,9 @@ impl Check {
         let (Some(after), Some(own)) = (after, table.host_read(section)) else {
             return Ok(());
         };
-        let attached = self.account.attached(self.alloc, placed)?;
+        let attached = self.tracker.account.attached(device, block)?;
         let found = kernel.before.as_deref();
-        self.known
+        self.tracker.known
             .gathered(placed, section, &attached, found, after, own)?;
         let Some(before) = found else {
             return self.note(device, Deed::KernelWrote, section);

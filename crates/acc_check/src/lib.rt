@@ -2,7 +2,6 @@
 //! nothing ever filled. What is stale is kept by `acc_stale`.
 #![tactic(auto)]
 
-mod accounts;
 mod checks;
 mod events;
 mod findings;

@@ -3,11 +3,10 @@
 ghost use Rattle.std.specs.Prelude.{◌≡◌, IfErr};
 ghost use Rattle.acc_base.specs.declared.faults.Fault.TheVariants.{Memory};
 
-use crate::accounts::Held;
 use crate::findings::{Finding, Kind, Note};
 use crate::histories::{Cause, has_address};
 use acc_base::{Fault, Section, Transfer};
-use acc_stale::{Known, Mark, Placed, Run, Watch};
+use acc_stale::{Held, ItemDone, Known, Mark, Placed, Run, Watch};
 use std::alloc::Global;
 
 /// What a check looks at, and what it found.
@@ -21,8 +20,6 @@ pub(crate) struct Looks {
     pub drops: Vec<Held>,
     /// The mapping that the next step ends.
     ends: Option<Held>,
-    /// What the next step copies at once, and where its block lies.
-    copies: Option<(Placed, Transfer)>,
 }
 
 impl Looks {
@@ -33,14 +30,12 @@ impl Looks {
             findings: Vec::new(alloc),
             drops: Vec::new(alloc),
             ends: None,
-            copies: None,
         }
     }
 
-    /// Keeps which mapping the next step ends, and what it copies at once.
-    pub fn expect(&mut self, ends: Option<Held>, copies: Option<(Placed, Transfer)>) {
+    /// Keeps which mapping the next step ends.
+    pub fn expect(&mut self, ends: Option<Held>) {
         self.ends = ends;
-        self.copies = copies;
     }
 
     /// Finds what a copy is about to overwrite that is newer.
@@ -104,11 +99,11 @@ impl Looks {
 }
 
 impl Watch for Looks {
-    fn before_step(&mut self, known: &Known) -> Result<(), Fault> {
+    fn before_step(&mut self, known: &Known, item: &ItemDone) -> Result<(), Fault> {
         if let Some(held) = self.ends {
             self.note_drop(known, held)?;
         }
-        match self.copies {
+        match item.copied() {
             Some((placed, t)) => self.find_overwritten(known, placed, t),
             None => Ok(()),
         }

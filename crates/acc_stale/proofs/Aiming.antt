@@ -1,7 +1,6 @@
 -- What an account tells of a pointer is so where it follows the device, and it follows what is left.
-use Rattle.std.proofs.Common.{◌≡◌, ℕ, ◌<◌, ◌+◌, ◌-◌, min, Bool, true, false, ◌&&◌, ◌==◌, List, [], ◌∷◌, Option, Some, None, unwrap_or, option_map, refl, sym, ap, ap₂, subst, ◌∙◌, arith}
+use Rattle.std.proofs.Common.{◌≡◌, ℕ, ◌<◌, ◌+◌, ◌-◌, min, [], Option, Some, None, unwrap_or, option_map, refl, sym, ap, ap₂, subst, ◌∙◌, arith}
 use Rattle.std.specs.Prelude.{IsSome, ◌^◌}
-use Rattle.acc_base.specs.declared.attachments.Attachment.{Attachment}
 use Rattle.acc_base.specs.declared.attachments.Aim.{Aim}
 use Rattle.acc_base.specs.declared.attachments.Aim.TheVariants as aims
 use Rattle.acc_base.specs.Limits.{Limits}
@@ -13,10 +12,10 @@ use Rattle.acc_base.specs.Accounts.{EachPair, AreRecordsSound}
 use Rattle.acc_stale.specs.declared.accounts.Account.{Account}
 use Rattle.acc_stale.specs.declared.items.Holder.{Holder}
 use Rattle.acc_stale.specs.declared.known.Placed.{Placed}
-use Rattle.acc_stale.specs.Events.{placed_in, pointers_of}
-use Rattle.acc_stale.specs.Told.{IsAimTold, IsHolder}
+use Rattle.acc_stale.specs.Events.{placed_in}
+use Rattle.acc_stale.specs.Told.{IsAimTold}
 use Rattle.acc_stale.specs.Accounts.{ToldBlock, told_at, attached_at, IsRecounted, waiting_in}
-use Rattle.acc_stale.specs.Follows.{AreBlocksTold, FollowsDevice, IsAimFit}
+use Rattle.acc_stale.specs.Follows.{FollowsDevice, IsAimFit}
 use Rattle.acc_stale.specs.Tells.{placed_at, pointer_held, count_left, LeavesOthers}
 use Rattle.acc_stale.proofs.Attached.{count_in_block}
 use Rattle.acc_stale.proofs.Followed.{count_told}

@@ -1,6 +1,6 @@
 -- The attached pointers of one block, after each change of all of them.
-use Rattle.std.proofs.Common.{◌≡◌, ℕ, ◌<◌, Bool, true, false, ◌&&◌, ◌||◌, ◌==◌, not, cond, List, [], ◌∷◌, Option, Some, None, unwrap_or, option_map, refl, sym, ap, subst, ◌∙◌, arith, inl, inr}
-use Rattle.std.specs.Prelude.{◌⊎◌, nat_lt, filter, IsSome}
+use Rattle.std.proofs.Common.{◌≡◌, ℕ, ◌<◌, Bool, true, false, ◌==◌, not, cond, List, [], ◌∷◌, Option, Some, None, unwrap_or, option_map, refl, sym, ap, subst, ◌∙◌, arith, inl, inr}
+use Rattle.std.specs.Prelude.{IsSome}
 use Rattle.std.specs.List.{find, AllByRecursion}
 use Rattle.std.proofs.lemmas.Bool.Decides.{nat_tests}
 use Rattle.acc_base.specs.declared.attachments.Attachment.{Attachment}
@@ -8,7 +8,7 @@ use Rattle.acc_base.specs.declared.mappings.Block.{Block}
 use Rattle.acc_base.specs.Accounts.{EachPair}
 use Rattle.acc_base.specs.Blocks.{block_at}
 use Rattle.acc_base.specs.Attachments.{is_of, IsBefore, is_before, count_at, with_attachment, without_attachment, with_count, without_attachments}
-use Rattle.acc_base.proofs.Results.{equal, equal_self, differ, and_true}
+use Rattle.acc_base.proofs.Results.{equal, equal_self, differ}
 use Rattle.acc_base.proofs.Elements.{EachPair-filter, AllByRecursion-weaker, filter-none}
 use Rattle.acc_base.proofs.Attached.{same_block, before}
 use Rattle.acc_stale.specs.Events.{pointers_of}

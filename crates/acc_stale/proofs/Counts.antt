@@ -1,23 +1,23 @@
 -- An account after each change: what it says of a block, and of a pointer.
-use Rattle.std.proofs.Common.{◌≡◌, ◌≢◌, ℕ, suc, ◌<◌, ◌≤◌, ◌+◌, Bool, true, false, ◌&&◌, ◌==◌, not, cond, List, [], ◌∷◌, map, length, get_or, Option, Some, None, unwrap_or, option_map, refl, sym, ap, ap₂, subst, ◌∙◌, arith}
-use Rattle.std.specs.Prelude.{nat_lt, filter}
+use Rattle.std.proofs.Common.{◌≡◌, ◌≢◌, ℕ, suc, ◌<◌, ◌≤◌, ◌+◌, Bool, true, false, ◌&&◌, ◌==◌, not, cond, List, [], ◌∷◌, map, length, get_or, Some, None, unwrap_or, option_map, refl, sym, ap, ap₂, subst, ◌∙◌, arith}
+use Rattle.std.specs.Prelude.{nat_lt}
 use Rattle.std.specs.List.{find, position, position_or_len, remove, slice_get, AllByRecursion}
 use Rattle.std.specs.List.Sorted.{IsStrictlySortedBy}
 use Rattle.std.specs.Map.{lookup, keys_of, remove_entry}
-use Rattle.std.specs.BTreeMap.{BTreeMap, get, get_by, is_at, insert_entry, IsOrdered, UpdatesBy}
+use Rattle.std.specs.BTreeMap.{get, is_at, insert_entry, UpdatesBy}
 use Rattle.std.specs.declared.cmp.Ordering.{Ordering}
 use Rattle.std.specs.declared.cmp.Ordering.TheVariants.{Less, Equal, Greater}
 use Rattle.std.specs.Ordering.{nat_cmp, ordering_then, is_eq, match_ordering}
 use Rattle.std.proofs.lemmas.Bool.Decides.{nat_tests}
-use Rattle.std.proofs.lemmas.Map.Lookups.{exact_unsigned, exact_pairs}
+use Rattle.std.proofs.lemmas.Map.Lookups.{exact_unsigned}
 use Rattle.std.proofs.lemmas.Option.{slice_get_past, slice_get-get_or}
 use Rattle.std.proofs.lemmas.List.Folds.{find_at}
 use Rattle.acc_base.specs.declared.attachments.Attachment.{Attachment}
-use Rattle.acc_base.specs.Attachments.{is_of, is_before, count_at, with_attachment, without_attachment, with_count}
+use Rattle.acc_base.specs.Attachments.{is_of, is_before, count_at, with_attachment, without_attachment}
 use Rattle.acc_stale.specs.declared.accounts.Block.{Block}
 use Rattle.acc_stale.specs.declared.accounts.Waiting.{Waiting}
 use Rattle.acc_stale.specs.declared.accounts.Account.{Account}
-use Rattle.acc_stale.specs.Accounts.{ToldBlock, by_number, counted, told_of, told_at, attached_at, IsChanged, recounted, IsRecounted, is_in, without_first}
+use Rattle.acc_stale.specs.Accounts.{ToldBlock, by_number, counted, told_of, attached_at, IsChanged, recounted, IsRecounted, without_first}
 
 -- ---- a block
 

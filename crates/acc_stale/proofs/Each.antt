@@ -1,6 +1,6 @@
 -- Each mark of a section changed: place by place, as a whole, and where what is copied ends early.
-use Rattle.std.proofs.Common.{◌≡◌, ℕ, ◌+◌, ◌-◌, ◌<◌, ◌≤◌, min, suc, zero, List, [], ◌∷◌, ◌++◌, length, get_or, take, drop, map, Option, Some, None, unwrap_or, refl, sym, ap, ◌∙◌, ◌⊎◌, inl, inr, zero-add, add-zero, arith}
-use Rattle.std.specs.List.{enumerate_from, slice_get}
+use Rattle.std.proofs.Common.{◌≡◌, ℕ, ◌+◌, ◌-◌, ◌<◌, ◌≤◌, min, suc, zero, List, [], ◌∷◌, ◌++◌, length, get_or, take, drop, map, unwrap_or, refl, sym, ap, ◌∙◌, ◌⊎◌, inl, inr, zero-add, arith}
+use Rattle.std.specs.List.{enumerate_from}
 use Rattle.std.proofs.lemmas.Bool.{cases_order}
 use Rattle.std.proofs.lemmas.List.{ext_get_or, get_or-map, length-map, get_or_append_left, get_or-append_right, get_or-drop, get_or-take}
 use Rattle.std.proofs.lemmas.List.FromFn.{length-enumerate_from, get_or-enumerate_from}

@@ -1,7 +1,6 @@
 -- An item that was judged is one that an account can tell, in the order in which its step and its pointer act.
-use Rattle.std.proofs.Common.{◌≡◌, ℕ, ◌<◌, ◌≤◌, ◌+◌, Bool, true, false, ◌==◌, cond, List, Option, Some, None, unwrap_or, option_map, refl, sym, ap, subst, ◌∙◌, Ok, arith}
-use Rattle.std.specs.Prelude.{IsSome, ◌^◌}
-use Rattle.acc_base.specs.declared.attachments.Attachment.{Attachment}
+use Rattle.std.proofs.Common.{◌≡◌, ℕ, Bool, true, false, ◌==◌, cond, List, Option, Some, None, unwrap_or, option_map, refl, sym, ap, subst, ◌∙◌, Ok, arith}
+use Rattle.std.specs.Prelude.{IsSome}
 use Rattle.acc_base.specs.declared.attachments.Aim.{Aim}
 use Rattle.acc_base.specs.declared.attachments.Aim.TheVariants as aims
 use Rattle.acc_base.specs.declared.events.Did.{Did}
@@ -18,14 +17,14 @@ use Rattle.acc_base.specs.Attachments.{pointer_at, count_at, detach}
 use Rattle.acc_base.specs.Tasks.{recounted}
 use Rattle.acc_base.specs.Detaching.{block_in, block_with, detach_there, judge_detach, detach_if, release_there, judge_release}
 use Rattle.acc_base.specs.Records.{Records, State}
-use Rattle.acc_base.specs.Steps.{act_step, records_aimed, act, pointer_aimed, judge_step}
+use Rattle.acc_base.specs.Steps.{act_step, records_aimed, pointer_aimed}
 use Rattle.acc_base.specs.Bytes.{step_state}
 use Rattle.acc_base.specs.Pointers.{aimed}
 use Rattle.acc_base.specs.Acting.{judge_task, act_state}
-use Rattle.acc_base.specs.History.{IsAttachLegal, IsAimLegal}
+use Rattle.acc_base.specs.History.{IsAttachLegal}
 use Rattle.acc_base.specs.Accounts.{AreRecordsSound}
 use Rattle.acc_base.proofs.Results.{equal}
-use Rattle.acc_base.proofs.Judged.{inside_mapped, IsJudgedTo, IsJudgedStep, step_judged, task_says}
+use Rattle.acc_base.proofs.Judged.{inside_mapped, IsJudgedTo, step_judged, task_says}
 use Rattle.acc_base.proofs.Aimed.{leave_sound, exit_sound, move_sound, says_aimed}
 use Rattle.acc_base.proofs.Legality.{IsJudgedItem, item_judged}
 use Rattle.acc_base.proofs.Puts.{acted_sound}

@@ -1,25 +1,22 @@
 -- Blocks that are told, after each change of a device's records.
-use Rattle.std.proofs.Common.{◌≡◌, ℕ, ◌<◌, ◌≤◌, ◌+◌, Bool, true, false, ◌&&◌, ◌||◌, ◌==◌, not, cond, List, [], ◌∷◌, ◌++◌, Option, Some, None, unwrap_or, option_map, refl, sym, ap, ap₂, subst, ◌∙◌, arith}
-use Rattle.std.specs.Prelude.{filter, is_some, IsSome}
+use Rattle.std.proofs.Common.{◌≡◌, ℕ, ◌≤◌, ◌+◌, Bool, true, false, ◌==◌, cond, List, [], ◌∷◌, ◌++◌, Option, Some, None, unwrap_or, option_map, refl, sym, ap, subst, ◌∙◌, arith}
+use Rattle.std.specs.Prelude.{IsSome}
 use Rattle.std.specs.Option.{IsSomeAnd}
-use Rattle.std.specs.List.{find, AllByRecursion}
 use Rattle.std.proofs.lemmas.Bool.Decides.{nat_tests}
-use Rattle.acc_base.specs.declared.attachments.Attachment.{Attachment}
 use Rattle.acc_base.specs.declared.items.Section.{Section}
 use Rattle.acc_base.specs.declared.mappings.Block.{Block}
 use Rattle.acc_base.specs.declared.mappings.Range.{Range}
 use Rattle.acc_base.specs.Limits.{Limits}
-use Rattle.acc_base.specs.Ranges.{range_of, with_range, without_range, changed_at}
+use Rattle.acc_base.specs.Ranges.{range_of, with_range, without_range}
 use Rattle.acc_base.specs.Blocks.{block_at, place_of, without_block}
 use Rattle.acc_base.specs.Attachments.{IsBefore, with_count, without_attachments}
 use Rattle.acc_base.specs.Records.{Records}
 use Rattle.acc_base.specs.Steps.{is_in_use, released, records_after_birth, records_after_end, with_range_changed}
 use Rattle.acc_base.specs.Accounts.{EachPair, AreRecordsSound}
 use Rattle.acc_base.proofs.Results.{equal, equal_self}
-use Rattle.acc_base.proofs.Elements.{AllByRecursion-weaker, find-front, find-behind}
+use Rattle.acc_base.proofs.Elements.{AllByRecursion-weaker, find-front}
 use Rattle.acc_base.proofs.InPlace.{find-put_new, find-put_other}
 use Rattle.acc_base.proofs.Lookups.{at-without_same, at-without_other, at-push_new, at-changed, at-none, change_at}
-use Rattle.acc_base.proofs.Options.{from_some}
 use Rattle.acc_base.proofs.RangeChanges.{put_range, block_of, KeepsPlace, section-change}
 use Rattle.acc_base.proofs.Sound.{fresh}
 use Rattle.acc_stale.specs.Events.{pointers_of}

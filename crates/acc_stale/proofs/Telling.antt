@@ -1,6 +1,6 @@
 -- What an account tells of an item is so where it follows the device, and it follows what the item leaves.
-use Rattle.std.proofs.Common.{◌≡◌, ◌≢◌, ℕ, ◌<◌, ◌≤◌, ◌+◌, ◌-◌, Bool, true, false, ◌&&◌, ◌==◌, cond, List, [], ◌∷◌, ◌++◌, map, length, Option, Some, None, unwrap_or, option_map, refl, sym, ap, ap₂, subst, ◌∙◌, append-nil, arith}
-use Rattle.std.specs.Prelude.{filter, is_some, IsSome, slice_set, slice_index_or}
+use Rattle.std.proofs.Common.{◌≡◌, ◌≢◌, ℕ, ◌<◌, ◌+◌, Bool, true, false, ◌&&◌, ◌==◌, cond, List, [], ◌∷◌, ◌++◌, map, length, Option, Some, None, unwrap_or, option_map, refl, sym, ap, ap₂, subst, ◌∙◌, append-nil, arith}
+use Rattle.std.specs.Prelude.{filter, IsSome}
 use Rattle.std.specs.Option.{IsSomeAnd}
 use Rattle.std.proofs.lemmas.Bool.Decides.{nat_tests}
 use Rattle.std.proofs.lemmas.List.{get_or-set_same, get_or-set_other, map-append}
@@ -11,7 +11,6 @@ use Rattle.acc_base.specs.declared.events.Step.TheVariants.{Nothing, Counted, Bo
 use Rattle.acc_base.specs.declared.items.Section.{Section}
 use Rattle.acc_base.specs.declared.mappings.Range.{Range}
 use Rattle.acc_base.specs.declared.tasks.Task.{Task}
-use Rattle.acc_base.specs.declared.transfers.TheConstants.{QUEUE_COUNT}
 use Rattle.acc_base.specs.declared.transfers.Transfer.{Transfer}
 use Rattle.acc_base.specs.Limits.{Limits}
 use Rattle.acc_base.specs.Ranges.{range_of, start_of, bare_range}
@@ -26,15 +25,14 @@ use Rattle.acc_base.proofs.Results.{equal, equal_self}
 use Rattle.acc_base.proofs.Elements.{found_has}
 use Rattle.acc_base.proofs.Sound.{recounted_keeps}
 use Rattle.acc_stale.specs.declared.accounts.Account.{Account}
-use Rattle.acc_stale.specs.declared.accounts.Held.{Held}
 use Rattle.acc_stale.specs.declared.accounts.Waiting.{Waiting}
 use Rattle.acc_stale.specs.declared.known.Placed.{Placed}
 use Rattle.acc_stale.specs.Events.{placed_in, pointers_of}
-use Rattle.acc_stale.specs.Told.{IsThere, IsStepTold}
+use Rattle.acc_stale.specs.Told.{IsThere, StartsIn, IsStepTold}
 use Rattle.acc_stale.specs.Accounts.{ToldBlock, told_at, attached_at, HasSameBlocks, IsChanged, is_in, waiting_in}
 use Rattle.acc_stale.specs.Follows.{IsBlockTold, IsRangeTold, AreBlocksTold, FollowsDevice, IsStepFit}
-use Rattle.acc_stale.specs.Tells.{placed_at, held_new, placed_by, IsStepKept, attached_of, StartsIn, waiting_after, LeavesOthers}
-use Rattle.acc_stale.proofs.Followed.{AreKept, some_and, still_told, same_kept, recount_kept, ended_kept, born_told}
+use Rattle.acc_stale.specs.Tells.{placed_at, held_new, placed_by, IsStepKept, attached_of, waiting_after, LeavesOthers}
+use Rattle.acc_stale.proofs.Followed.{AreKept, still_told, same_kept, recount_kept, ended_kept, born_told}
 
 -- ---- a block that is mapped
 

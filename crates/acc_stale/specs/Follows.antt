@@ -1,6 +1,6 @@
 -- When an account says of a device what its records say: where blocks lie, how often their pointers are attached, and
 -- which transfers wait.
-use Rattle.std.specs.Prelude.{ℕ, ◌≡◌, ◌<◌, ◌+◌, ◌^◌, true, ⊤, List, Option, Some, IsSome}
+use Rattle.std.specs.Prelude.{ℕ, ◌≡◌, ◌<◌, ◌+◌, ◌^◌, true, ⊤, Option, Some, IsSome}
 use Rattle.std.specs.Option.{IsSomeAnd}
 use Rattle.acc_base.specs.declared.attachments.Aim.{Aim}
 use Rattle.acc_base.specs.declared.attachments.Aim.TheVariants as aims

@@ -1,5 +1,5 @@
 -- What the mapped ranges of all devices have of the bytes that the host wrote.
-use Rattle.std.specs.Prelude.{ℕ, suc, ◌≡◌, ◌+◌, ◌-◌, Bool, not, ◌==◌, List, [], ◌∷◌, ◌++◌, map, filter, take, drop, length}
+use Rattle.std.specs.Prelude.{ℕ, suc, ◌≡◌, ◌-◌, Bool, not, ◌==◌, List, [], ◌∷◌, ◌++◌, map, filter, take, drop, length}
 use Rattle.acc_base.specs.declared.items.Section.{Section}
 use Rattle.acc_base.specs.declared.attachments.Attachment.{Attachment}
 use Rattle.acc_base.specs.declared.mappings.Range.{Range}

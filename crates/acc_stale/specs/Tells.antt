@@ -1,21 +1,19 @@
 -- What an account tells of an item and keeps of it, step by step.
-use Rattle.std.specs.Prelude.{ℕ, ◌≡◌, ◌+◌, ◌-◌, ◌^◌, min, Bool, true, false, ◌==◌, List, [], ◌∷◌, ◌++◌, Option, Some, None, option_map}
+use Rattle.std.specs.Prelude.{ℕ, ◌≡◌, ◌+◌, ◌-◌, ◌^◌, min, true, false, ◌==◌, List, [], ◌∷◌, ◌++◌, Option, Some, None, option_map}
 use Rattle.acc_base.specs.declared.attachments.Attachment.{Attachment}
 use Rattle.acc_base.specs.declared.attachments.Aim.{Aim}
 use Rattle.acc_base.specs.declared.attachments.Aim.TheVariants as aims
 use Rattle.acc_base.specs.declared.events.Step.{Step}
 use Rattle.acc_base.specs.declared.events.Step.TheVariants.{Born, Dropped, Moved}
 use Rattle.acc_base.specs.declared.items.Section.{Section}
-use Rattle.acc_base.specs.declared.mappings.Range.{Range}
 use Rattle.acc_base.specs.declared.transfers.Transfer.{Transfer}
 use Rattle.acc_base.specs.Records.{Records}
 use Rattle.acc_stale.specs.declared.accounts.Account.{Account}
 use Rattle.acc_stale.specs.declared.accounts.Held.{Held}
 use Rattle.acc_stale.specs.declared.accounts.Waiting.{Waiting}
 use Rattle.acc_stale.specs.declared.known.Placed.{Placed}
-use Rattle.acc_stale.specs.Accounts.{ToldBlock, told_at, attached_at, HasSameBlocks, IsChanged}
+use Rattle.acc_stale.specs.Accounts.{told_at, attached_at, HasSameBlocks, IsChanged}
 use Rattle.acc_stale.specs.Follows.{FollowsDevice}
-use Rattle.acc_stale.specs.Told.{StartsAt, TouchesNone}
 
 -- ---- a step
 
@@ -42,11 +40,6 @@ IsStepKept d section line _ old new = HasSameBlocks old new × (new.waiting ≡ 
 abbrev pub attached_of : Option Placed → Account → List Attachment
 attached_of None a = []
 attached_of (Some p) a = attached_at p.device p.block a
-
--- the range of the block of a step begins where that lies
-abbrev pub StartsIn : Option Placed → Step → List Range → Type 0
-StartsIn None step ranges = TouchesNone step
-StartsIn (Some p) step ranges = StartsAt step p.start ranges
 
 -- the transfers that wait, with one more where there is a queue
 abbrev pub waiting_after : ℕ → Option ℕ → Option Transfer → List Waiting → List Waiting

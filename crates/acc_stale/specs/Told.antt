@@ -72,6 +72,11 @@ TouchesNone (Dropped block true) = ⊥
 TouchesNone (Moved block) = ⊥
 TouchesNone _ = ⊤
 
+-- the range of the block of a step begins where that lies
+abbrev pub StartsIn : Option Placed → Step → List Range → Type 0
+StartsIn None step ranges = TouchesNone step
+StartsIn (Some p) step ranges = StartsAt step p.start ranges
+
 -- what is told of the block of a step on a device, if it has one, is so
 abbrev pub IsStepTold : ℕ → Option Placed → Task → Step → List Attachment → State → Type 0
 IsStepTold d None task step attached s = TouchesNone step

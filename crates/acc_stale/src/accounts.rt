@@ -75,7 +75,7 @@ impl Account {
     /// # Errors
     ///
     /// `AllocError` alone, as with those that follow. The account is not to be asked any more then.
-    pub fn born(&mut self, held: Held) -> Result<(), AllocError>
+    pub(crate) fn born(&mut self, held: Held) -> Result<(), AllocError>
         ensures ok { OnOk result (IsChanged held.placed.device held.placed.block (Some (record { held = held; attached = [] })) self.old self.new) }
     {
         let key = (held.placed.device, held.placed.block);
@@ -97,7 +97,7 @@ impl Account {
     // ---- pointers
 
     /// How often a pointer in a block is attached.
-    pub fn count(&self, device: u64, block: u64, pointer: u64) -> u64
+    pub(crate) fn count(&self, device: u64, block: u64, pointer: u64) -> u64
         ensures { result ≡ count_at block pointer (attached_at device block self.now) }
     {
         match self.blocks.get(&(device, block)) {
@@ -107,7 +107,7 @@ impl Account {
     }
 
     /// Keeps how often a pointer in a block is attached now.
-    pub fn attach(
+    pub(crate) fn attach(
         &mut self,
         device: u64,
         block: u64,
@@ -147,7 +147,7 @@ impl Account {
     // ---- queues
 
     /// Puts a transfer at the end of a queue (OpenACC 3.3, section 2.16).
-    pub fn put(&mut self, waiting: Waiting) -> Result<(), AllocError>
+    pub(crate) fn put(&mut self, waiting: Waiting) -> Result<(), AllocError>
         ensures ok { OnOk result (self.new.waiting.items ≡ self.old.waiting.items ++ waiting ∷ []) }
         ensures blocks { HasSameBlocks self.old self.new }
     {

@@ -1,13 +1,17 @@
 //! What an item does to what is known: its step and its pointer, in their order (OpenACC 3.3, sections 2.7 and 2.7.2).
 
-ghost use Rattle.std.specs.Prelude.{◌≡◌, ℕ, List, OnOk, IfErr};
+ghost use Rattle.std.specs.Prelude.{◌≡◌, ℕ, List, Some, OnOk, IfErr, IfSome, option_map};
 ghost use Rattle.acc_base.specs.declared.faults.Fault.TheVariants.{Memory};
+ghost use Rattle.acc_base.specs.declared.mappings.Range.{Range};
+ghost use Rattle.acc_base.specs.Tasks.{queue_of};
+ghost use Rattle.acc_base.specs.Transfers.{transfer_of, at_once};
 ghost use Rattle.acc_base.specs.Records.{State};
 ghost use Rattle.acc_stale.specs.Events.{known_stepped, known_aimed, known_acted};
-ghost use Rattle.acc_stale.specs.Told.{enters, IsStepTold, IsAimTold, IsHolder, IsItemTold};
+ghost use Rattle.acc_stale.specs.Told.{enters, StartsIn, IsStepTold, IsAimTold, IsHolder, IsItemTold};
 
 use crate::known::{Known, Placed};
-use acc_base::{Aim, Attachment, Did, Fault, Task};
+use crate::tasks::{at_once, transfer_in};
+use acc_base::{Aim, Attachment, Did, Fault, Task, Transfer};
 
 /// An item that acted, and where the blocks lie whose bytes it touched.
 #[derive(Clone, Copy, Debug)]
@@ -22,6 +26,23 @@ pub struct ItemDone {
     pub block: Option<Placed>,
     /// The block that holds its pointer, if there is one.
     pub holder: Option<Holder>,
+}
+
+impl ItemDone {
+    /// What its step copies at once, and where the block of that lies.
+    pub fn copied(&self) -> Option<(Placed, Transfer)>
+        ensures block { IfSome result (λ copy. self.now.block ≡ Some copy.0) }
+        ensures transfer { (ranges : List Range) → StartsIn self.now.block self.now.did.step ranges → option_map (λ copy. copy.1) result ≡ at_once (queue_of self.now.task) (transfer_of self.now.task self.now.did.step ranges) }
+    {
+        let t = at_once(
+            self.task.queue(),
+            transfer_in(self.block, self.task, self.did.step),
+        );
+        match (self.block, t) {
+            (Some(block), Some(t)) => Some((block, t)),
+            _ => None,
+        }
+    }
 }
 
 /// A block that holds a pointer.

@@ -135,7 +135,7 @@ impl Known {
     // ---- what happens to bytes. `attached` are the counters of the attached pointers of the block
 
     /// A block was made for a section (OpenACC 3.3, section 2.7). With the modifier `zero` its bytes are filled.
-    pub fn born(&mut self, block: Placed, section: Section, zeroed: bool)
+    pub(crate) fn born(&mut self, block: Placed, section: Section, zeroed: bool)
         ensures { self.new ≡ born (mapped_at block section) zeroed self.old }
     {
         self.change_device(block.section(section), &Filled(mark_born(zeroed)));
@@ -162,14 +162,14 @@ impl Known {
 
     /// A pointer in a block was attached, where it was not aimed at its target already (OpenACC 3.3, section 2.7.2).
     /// The device has in it what it has to have.
-    pub fn pointer_aimed(&mut self, block: Placed, pointer: u64)
+    pub(crate) fn pointer_aimed(&mut self, block: Placed, pointer: u64)
         ensures { self.new ≡ pointer_aimed (mapped_at block (pointer_at pointer)) self.old }
     {
         self.change_device(block.section(pointer_at(pointer)), &Filled(Mark::New));
     }
 
     /// A pointer in a block was detached, and its counter is zero now. The device has the host's bytes in it.
-    pub fn pointer_left(&mut self, block: Placed, pointer: u64)
+    pub(crate) fn pointer_left(&mut self, block: Placed, pointer: u64)
         ensures { self.new ≡ pointer_left (mapped_at block (pointer_at pointer)) self.old }
     {
         let p = block.section(pointer_at(pointer));

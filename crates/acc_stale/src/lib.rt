@@ -15,6 +15,5 @@ pub use accounts::{Account, Held, Waiting};
 pub use items::{Holder, ItemDone, Watch};
 pub use known::{Known, Placed};
 pub use marks::{Mark, Run};
-pub use tasks::transfer_of;
 pub use trackers::Tracker;
 pub use writes::Part;

@@ -6,7 +6,7 @@ ghost use Rattle.acc_base.specs.declared.mappings.Range.{Range};
 ghost use Rattle.acc_base.specs.Transfers.{transfer_of, at_once};
 ghost use Rattle.acc_base.specs.Records.{State};
 ghost use Rattle.acc_stale.specs.Events.{zeroes, known_stepped};
-ghost use Rattle.acc_stale.specs.Told.{StartsAt, IsStepBlockTold, begun_told, made_told};
+ghost use Rattle.acc_stale.specs.Told.{StartsAt, StartsIn, IsStepBlockTold, begun_told, made_told};
 
 use crate::known::{Known, Placed};
 use acc_base::{Attachment, Fault, Step, Task, Transfer};
@@ -23,7 +23,7 @@ fn zeroes(task: Task) -> bool
 
 /// The transfer of a task whose step was this, made at once or put into a queue. `start` is the host address that is
 /// mapped to the first byte of the block.
-pub fn transfer_of(task: Task, step: Step, start: u64) -> Option<Transfer>
+pub(crate) fn transfer_of(task: Task, step: Step, start: u64) -> Option<Transfer>
     ensures { (ranges : List Range) → StartsAt step start ranges → result ≡ transfer_of task step ranges }
 {
     let section = task.section();
@@ -43,6 +43,16 @@ pub fn transfer_of(task: Task, step: Step, start: u64) -> Option<Transfer>
     })
 }
 
+/// The transfer of a step, whose block lies there.
+pub(crate) fn transfer_in(block: Option<Placed>, task: Task, step: Step) -> Option<Transfer>
+    ensures { (ranges : List Range) → StartsIn block step ranges → result ≡ transfer_of task step ranges }
+{
+    match block {
+        Some(placed) => transfer_of(task, step, placed.start),
+        None => None,
+    }
+}
+
 impl Known {
     /// A task was done, whose step was this: the block that it made is filled, and its transfer is made, if it is not
     /// put into a queue. `block` is where the block of the step lies, and `attached` are the counters of the block's
@@ -52,7 +62,7 @@ impl Known {
     ///
     /// As [`Known::made`].
     #[tactic(auto, using(crate::proofs::Steps::stepped_told))]
-    pub fn stepped(
+    pub(crate) fn stepped(
         &mut self,
         block: Placed,
         task: Task,
@@ -94,7 +104,7 @@ impl Known {
 }
 
 /// With a queue a transfer is made later.
-fn at_once(queue: Option<u64>, t: Option<Transfer>) -> Option<Transfer>
+pub(crate) fn at_once(queue: Option<u64>, t: Option<Transfer>) -> Option<Transfer>
     ensures { result ≡ at_once queue t }
 {
     match queue {

@@ -2,7 +2,6 @@
 //! and 2.7.2).
 
 ghost use Rattle.std.specs.Prelude.{◌≡◌, ℕ, List, Option, Ok, OnOk, IfOk};
-ghost use Rattle.acc_base.specs.declared.mappings.Range.{Range};
 ghost use Rattle.acc_base.specs.Limits.{Limits, IsWithinBounds};
 ghost use Rattle.acc_base.specs.Records.{State};
 ghost use Rattle.acc_base.specs.Accounts.{AreRecordsSound};
@@ -12,12 +11,12 @@ ghost use Rattle.acc_base.specs.Transfers.{transfer_of};
 ghost use Rattle.acc_stale.specs.Accounts.{HasSameBlocks};
 ghost use Rattle.acc_stale.specs.Follows.{FollowsDevice, IsStepFit, IsAimFit};
 ghost use Rattle.acc_stale.specs.Told.{IsStepTold, IsAimTold, IsItemTold};
-ghost use Rattle.acc_stale.specs.Tells.{placed_by, IsStepKept, attached_of, StartsIn, waiting_after, pointer_held, count_left, placed_at, LeavesOthers};
+ghost use Rattle.acc_stale.specs.Tells.{placed_by, IsStepKept, attached_of, waiting_after, pointer_held, count_left, placed_at, LeavesOthers};
 
 use crate::accounts::{Account, Held, Waiting};
 use crate::items::{Holder, ItemDone, enters};
 use crate::known::Placed;
-use crate::tasks::transfer_of;
+use crate::tasks::transfer_in;
 use acc_base::{Aim, Attachment, Did, Section, Step, Task, Transfer};
 use std::alloc::AllocError;
 
@@ -203,16 +202,6 @@ fn told_by(device: u64, task: Task, did: Did, step: StepTold, holder: Option<Hol
         },
         attached: step.attached,
         transfer: step.transfer,
-    }
-}
-
-/// The transfer of a step, whose block lies there.
-fn transfer_in(block: Option<Placed>, task: Task, step: Step) -> Option<Transfer>
-    ensures { (ranges : List Range) → StartsIn block step ranges → result ≡ transfer_of task step ranges }
-{
-    match block {
-        Some(placed) => transfer_of(task, step, placed.start),
-        None => None,
     }
 }
 

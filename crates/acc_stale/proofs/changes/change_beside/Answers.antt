@@ -1,4 +1,4 @@
-use Rattle.std.proofs.Common.{◌≡◌, ◌+◌, ap, subst, List, sym, ◌∙◌}
+use Rattle.std.proofs.Common.{◌≡◌, ◌+◌, subst, List, ◌∙◌}
 use Rattle.acc_base.specs.Attachments.{is_skipped}
 use Rattle.acc_stale.specs.declared.marks.Mark.{Mark}
 use Rattle.acc_stale.specs.Marks.{each, IsKept}

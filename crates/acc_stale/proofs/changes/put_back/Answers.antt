@@ -1,4 +1,4 @@
-use Rattle.std.proofs.Common.{refl, sym, ap, subst, arith, ◌≡◌, ◌+◌, ℕ, List, take, length}
+use Rattle.std.proofs.Common.{refl, sym, subst, arith, ◌≡◌, ◌+◌, ℕ, List, take}
 use Rattle.std.proofs.lemmas.Grind.{common_steps}
 use Rattle.acc_base.specs.declared.attachments.Attachment.{Attachment}
 use Rattle.acc_base.specs.Attachments.{is_skipped}

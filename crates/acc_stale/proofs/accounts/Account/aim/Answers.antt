@@ -1,5 +1,4 @@
-use Rattle.std.proofs.Common.{◌≡◌, ◌∙◌, sym, ap, Some, None, rules}
-use Rattle.acc_base.specs.Records.{State}
+use Rattle.std.proofs.Common.{◌≡◌, Some, None, rules}
 use Rattle.acc_stale.specs.declared.items.Holder.{Holder}
 use Rattle.acc_stale.specs.Tells.{placed_at, pointer_held}
 use Rattle.acc_stale.proofs.Aiming.{IsAiming, aim_lost, aiming_of, aim_told, aim_follows, recount_others}

@@ -1,9 +1,7 @@
-use Rattle.std.proofs.Common.{rules, ◌≡◌, ℕ, ◌∙◌, ap, sym, cond, ◌==◌, true, false, Some, map, refl, arith}
+use Rattle.std.proofs.Common.{rules, ◌≡◌, ◌∙◌, ap, sym, Some, map, refl}
 use Rattle.std.specs.BTreeMap.{WritesThrough, get, UpdatesBy}
-use Rattle.std.proofs.lemmas.Bool.Decides.{nat_tests}
-use Rattle.acc_base.specs.Attachments.{with_attachment, without_attachment}
 use Rattle.acc_stale.specs.declared.accounts.Block.{Block}
-use Rattle.acc_stale.specs.Accounts.{by_number, counted, told_of, recounted}
+use Rattle.acc_stale.specs.Accounts.{by_number, counted}
 use Rattle.acc_stale.proofs.Counts.{rewritten_block, taken_out, put_in, count_none, count_some}
 use Rattle.acc_stale.proofs.accounts.Account.attach.Goals as goal
 

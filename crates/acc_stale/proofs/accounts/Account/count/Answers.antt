@@ -1,8 +1,8 @@
-use Rattle.std.proofs.Common.{◌≡◌, ℕ, ap, sym, ◌∙◌, Some, map, rules, unwrap_or}
+use Rattle.std.proofs.Common.{◌≡◌, ap, sym, ◌∙◌, Some, rules, unwrap_or}
 use Rattle.std.specs.BTreeMap.{get, get_by}
 use Rattle.std.specs.Ordering.{nat_cmp}
 use Rattle.acc_base.specs.Attachments.{count_at}
-use Rattle.acc_stale.specs.Accounts.{by_number, counted, attached_at}
+use Rattle.acc_stale.specs.Accounts.{by_number}
 use Rattle.acc_stale.proofs.Counts.{count_there, attached_there}
 use Rattle.acc_stale.proofs.accounts.Account.count.Goals as goal
 

@@ -1,10 +1,7 @@
-use Rattle.std.proofs.Common.{◌≡◌, ◌∙◌, sym, subst, ap, List}
+use Rattle.std.proofs.Common.{◌∙◌, sym, subst, List}
 use Rattle.acc_base.specs.declared.attachments.Attachment.{Attachment}
-use Rattle.acc_base.specs.Records.{Records, State}
 use Rattle.acc_base.specs.Bytes.{step_state}
 use Rattle.acc_base.specs.Pointers.{aimed}
-use Rattle.acc_base.specs.Steps.{act_step, records_aimed}
-use Rattle.acc_stale.specs.declared.items.ItemDone.{ItemDone}
 use Rattle.acc_stale.specs.Told.{IsStepTold, IsAimTold, IsItemTold}
 use Rattle.acc_stale.specs.Follows.{FollowsDevice}
 use Rattle.acc_stale.proofs.Fitting.{IsEntryFit, entry_fit, IsExitFit, exit_fit}

@@ -128,7 +128,8 @@ fn pair_value(pair: [u8; 2]) -> u8
     ensures low { hex_digit_value (slice_index pair 1) ≡ Some (result % 16) }
 {
     let digits = u16::from(pair[0]) + u16::from(pair[1]) * 256;
-    let high = digits % 16 + digits / 64 % 4 * 9;
-    let low = digits / 256 % 16 + digits / 16384 * 9;
-    (high * 16 + low) as u8
+    let bits = digits % 16 + digits / 256 % 16 * 256;
+    let letters = digits / 64 % 2 + digits / 16384 % 2 * 256;
+    let values = bits + letters * 9;
+    (values % 16 * 16 + values / 256) as u8
 }

@@ -78,8 +78,11 @@ pub fn is_at_end(text: &[u8]) -> bool
 pub fn is_text(word: &[u8], text: &str) -> bool
     ensures { result ≡ bytes_eq word.now text.now }
 {
-    // A prefix of a constant length is compared without a call.
-    word.len() == text.len() && matches!(word.strip_prefix(text.as_bytes()), Some(_))
+    // Most other words of this length begin with another byte. A short prefix of a constant length is compared without
+    // a call.
+    word.len() == text.len()
+        && word.first() == text.as_bytes().first()
+        && matches!(word.strip_prefix(text.as_bytes()), Some(_))
 }
 
 /// The next word, which has letters, digits and `_`, and the text after it.

@@ -42,7 +42,7 @@ pub enum Status {
 ///   What the lines before print was written.
 /// - [`Fault::Write`] where the writer fails. It took a front of what the script prints.
 /// - [`Fault::Memory`]. Nothing was written where there was none for the input or for the table. Else what the lines
-///   before one print was written. There was no memory for that line, which is not at fault. It lists items or bytes,
+///   before one print was written. There was no memory for that line, which is not at fault. It lists items,
 ///   declares an array, or makes a call that makes an event.
 pub fn run<R: Threads + Wait + Sync + AllocGlobal, S: Source, W: Sink, X: Watcher<W>>(
     rt: &R,
@@ -120,7 +120,7 @@ fn play_lines<R: Threads + Wait + Sync + AllocGlobal, W: Sink, X: Watcher<W>>(
 ///
 /// - [`Fault::Script`] where the line is at fault. Nothing was written.
 /// - [`Fault::Write`] where the writer fails. It took a front of what the line prints.
-/// - [`Fault::Memory`] as [`Session::perform`], or where a line lists items or bytes. Nothing was written.
+/// - [`Fault::Memory`] as [`Session::perform`], or where a line lists items. Nothing was written.
 #[tactic(auto, unfolding(crate::specs::Scripts::line_turned))]
 pub fn run_line<R: Threads + Wait + Sync + AllocGlobal, W: Sink, X: Watcher<W>>(
     rt: &R,

@@ -1,7 +1,7 @@
 //! The check of a script: what its lines read is told where it is stale.
 
 use crate::findings::{Finding, Kind, Note, Origin, put_drop, put_finding, put_leak, put_needless};
-use crate::histories::{Cause, History};
+use crate::histories::Cause;
 use crate::looks::{Looks, part_of};
 use acc_base::{Config, Directive, Fault, Found, Item, Section, UpdateClause};
 use acc_read::{Names, Page, ScriptKernel, Statement};
@@ -34,15 +34,12 @@ pub struct Check {
     pub(crate) alloc: Global,
     /// What is known of all bytes, and the account of the blocks, pointers, queues and regions.
     pub(crate) tracker: Tracker,
-    pub(crate) history: History,
     /// What is told, and how.
     telling: Telling,
     /// What was found in the line, and what was dropped.
     pub(crate) looks: Looks,
     /// What updates copied that was equal already.
     needless: Needless,
-    /// The number of the line that ran.
-    pub(crate) line: u64,
     /// The kernel of that line.
     pub(crate) kernel: Option<Kernel>,
     /// How many events of the trace were seen.
@@ -92,14 +89,12 @@ impl Check {
         Ok(Check {
             alloc,
             tracker: Tracker::new(alloc, host, config.devices() as usize, device)?,
-            history: History::new(alloc),
             telling,
             looks: Looks::new(alloc, telling.all),
             needless: Needless {
                 copies: 0,
                 bytes: 0,
             },
-            line: 0,
             kernel: None,
             seen: 0,
             count: 0,
@@ -171,7 +166,7 @@ impl Check {
         table: &Table,
         shown: Option<Section>,
     ) -> Result<(), Fault> {
-        self.line = line.number;
+        self.looks.line = line.number;
         let trace = table.trace();
         for at in self.seen..trace.len() {
             if let Some(event) = trace.get(at) {
@@ -223,7 +218,11 @@ impl Check {
             self.count = self.count.saturating_add(1);
         }
         if self.needless.copies > 0 {
-            put_needless(page, Origin::line(file, self.line, json), self.needless);
+            put_needless(
+                page,
+                Origin::line(file, self.looks.line, json),
+                self.needless,
+            );
             self.count = self.count.saturating_add(1);
         }
     }
@@ -293,8 +292,8 @@ impl Check {
     /// Why a byte of host memory, or of a device, has a mark.
     fn cause(&self, mark: Mark, device: Option<u64>, address: u64) -> Cause {
         match mark {
-            Mark::Unfilled => self.history.cause_unfilled(device, address),
-            _ => self.history.cause(device, address),
+            Mark::Unfilled => self.looks.history.cause_unfilled(device, address),
+            _ => self.looks.history.cause(device, address),
         }
     }
 
@@ -306,7 +305,12 @@ impl Check {
         let mut note = Note::Copyout;
         for device in 0..table.config().devices() {
             if let Some(held) = self.placed(table, device, section) {
-                if self.tracker.known.stale_device(held.placed, section).is_none() {
+                if self
+                    .tracker
+                    .known
+                    .stale_device(held.placed, section)
+                    .is_none()
+                {
                     return Note::UpdateSelf;
                 }
                 note = Note::None;

@@ -2,8 +2,8 @@
 
 use crate::checks::Check;
 use crate::histories::{Deed, Done};
-use acc_base::{Did, Event, Fault, Found, Section, Step, Task, Transfer};
-use acc_stale::{Held, Part, Placed};
+use acc_base::{Did, Event, Fault, Found, Section, Task};
+use acc_stale::{Part, Placed};
 use acc_table::Table;
 
 impl Check {
@@ -30,8 +30,8 @@ impl Check {
     /// Tells what an event did that names no item.
     fn see_short(&mut self, table: &Table, device: u64, event: &Event) -> Result<(), Fault> {
         match event {
-            Event::Waited { queue, count, .. } => self.see_waited(device, *queue, *count),
-            Event::Stepped { queue, .. } => self.see_waited(device, Some(*queue), 1),
+            Event::Waited { queue, .. } => { self.tracker.waited(device, *queue, &mut self.looks) }
+            Event::Stepped { queue, .. } => self.tracker.made(device, *queue, &mut self.looks),
             Event::HostWritten { addr, len, .. } => {
                 let section = Section {
                     start: *addr,
@@ -71,83 +71,8 @@ impl Check {
 
     /// Tells what an item did, and what of it is to be looked at.
     fn see_item(&mut self, device: u64, task: Task, did: Did) -> Result<(), Fault> {
-        let ends = self.note_kept(device, task, did.step)?;
-        self.looks.expect(ends);
-        let line = self.line;
-        let copied = self
-            .tracker
-            .acted(device, task, did, line, &mut self.looks)?;
-        match copied {
-            Some(t) => self.note_transfer(device, t, task.queue()),
-            None => Ok(()),
-        }
-    }
-
-    // ---- the history
-
-    /// Keeps what this line did to bytes.
-    fn note(&mut self, device: u64, deed: Deed, section: Section) -> Result<(), Fault> {
-        let line = self.line;
-        self.history.add(Done {
-            line,
-            deed,
-            device,
-            section,
-        })?;
-        Ok(())
-    }
-
-    /// Keeps that a step copied nothing where its clause could have: that a mapping ended, or goes on. Returns the
-    /// mapping that ended.
-    fn note_kept(&mut self, device: u64, task: Task, step: Step) -> Result<Option<Held>, Fault> {
-        match step {
-            Step::Dropped { block, ended: true } => {
-                let Some(held) = self.tracker.account.block(device, block) else {
-                    return Ok(None);
-                };
-                let line = self.line;
-                self.note(device, Deed::Ended, held.section)?;
-                return Ok(Some(Held { line, ..held }));
-            }
-            Step::Born { .. } if !task.gets_bytes() => {
-                self.note(device, Deed::Created, task.section())?;
-            }
-            Step::Dropped { .. } if task.gives_bytes() => {
-                self.note(device, Deed::KeptOut, task.section())?;
-            }
-            Step::Counted { .. } if task.gets_bytes() => {
-                self.note(device, Deed::KeptIn, task.section())?;
-            }
-            _ => {}
-        }
-        Ok(None)
-    }
-
-    /// Keeps what became of a transfer.
-    fn note_transfer(&mut self, device: u64, t: Transfer, queue: Option<u64>) -> Result<(), Fault> {
-        let deed = match (queue, t.out) {
-            (None, true) => Deed::CopiedOut,
-            (None, false) => Deed::CopiedIn,
-            (Some(_), true) => Deed::QueuedOut,
-            (Some(_), false) => Deed::QueuedIn,
-        };
-        self.note(device, deed, t.section)
-    }
-
-    // ---- queued transfers, writes and kernels
-
-    fn see_waited(&mut self, device: u64, queue: Option<u64>, count: u64) -> Result<(), Fault> {
-        for _ in 0..count {
-            if let Some(t) = self.tracker.account.take(device, queue) {
-                if let Some(held) = self.tracker.account.block(device, t.block) {
-                    let attached = self.tracker.account.attached(device, t.block)?;
-                    self.looks.find_overwritten(&self.tracker.known, held.placed, t)?;
-                    self.tracker.known.made(held.placed, t, &attached)?;
-                    self.note_transfer(device, t, None)?;
-                }
-            }
-        }
-        Ok(())
+        let line = self.looks.line;
+        self.tracker.acted(device, task, did, line, &mut self.looks)
     }
 }
 
@@ -168,7 +93,7 @@ impl Check {
             }
         }
         self.tracker.known.wrote(section, &parts)?;
-        self.note(0, Deed::HostWrote, section)
+        self.looks.note(0, Deed::HostWrote, section)
     }
 
     /// The first part of a section that is in a mapped range of a device.
@@ -228,8 +153,10 @@ impl Check {
 
     /// Tells what a kernel left, whose block is back.
     fn see_kernel(&mut self, table: &Table, device: u64, block: u64) -> Result<(), Fault> {
-        let (Some(kernel), Some(held)) = (self.kernel.take(), self.tracker.account.block(device, block))
-        else {
+        let (Some(kernel), Some(held)) = (
+            self.kernel.take(),
+            self.tracker.account.block(device, block),
+        ) else {
             return Ok(());
         };
         let (placed, section) = (held.placed, kernel.section);
@@ -239,19 +166,20 @@ impl Check {
         };
         let attached = self.tracker.account.attached(device, block)?;
         let found = kernel.before.as_deref();
-        self.tracker.known
+        self.tracker
+            .known
             .gathered(placed, section, &attached, found, after, own)?;
         let Some(before) = found else {
-            return self.note(device, Deed::KernelWrote, section);
+            return self.looks.note(device, Deed::KernelWrote, section);
         };
         if before != after {
             let done = Done {
-                line: self.line,
+                line: self.looks.line,
                 deed: Deed::KernelWrote,
                 device,
                 section,
             };
-            self.history.add_kernel(done, before, after)?;
+            self.looks.history.add_kernel(done, before, after)?;
         }
         Ok(())
     }

@@ -4,8 +4,8 @@ ghost use Rattle.std.specs.Prelude.{◌≡◌, IfErr};
 ghost use Rattle.acc_base.specs.declared.faults.Fault.TheVariants.{Memory};
 
 use crate::findings::{Finding, Kind, Note};
-use crate::histories::{Cause, has_address};
-use acc_base::{Fault, Section, Transfer};
+use crate::histories::{Cause, Deed, Done, History, has_address};
+use acc_base::{Fault, Section, Step, Task, Transfer};
 use acc_stale::{Held, ItemDone, Known, Mark, Placed, Run, Watch};
 use std::alloc::Global;
 
@@ -14,6 +14,10 @@ use std::alloc::Global;
 pub(crate) struct Looks {
     /// Whether that is told too which may be meant.
     all: bool,
+    /// The number of the line that ran.
+    pub line: u64,
+    /// What the lines did to bytes.
+    pub history: History,
     /// What was found in the line.
     pub findings: Vec<Finding>,
     /// Mappings that ended while the device had newer bytes, which nobody read so far.
@@ -27,16 +31,49 @@ impl Looks {
     pub fn new(alloc: Global, all: bool) -> Looks {
         Looks {
             all,
+            line: 0,
+            history: History::new(alloc),
             findings: Vec::new(alloc),
             drops: Vec::new(alloc),
             ends: None,
         }
     }
 
-    /// Keeps which mapping the next step ends.
-    pub fn expect(&mut self, ends: Option<Held>) {
-        self.ends = ends;
+    // ---- the history
+
+    /// Keeps what this line did to bytes.
+    pub fn note(&mut self, device: u64, deed: Deed, section: Section) -> Result<(), Fault>
+        ensures only { IfErr result (λ fault. fault ≡ Memory) }
+    {
+        let line = self.line;
+        self.history.add(Done {
+            line,
+            deed,
+            device,
+            section,
+        })?;
+        Ok(())
     }
+
+    /// Keeps that a step copied nothing where its clause could have: that a mapping goes on, or has no bytes yet.
+    fn note_kept(&mut self, device: u64, task: Task, step: Step) -> Result<(), Fault>
+        ensures only { IfErr result (λ fault. fault ≡ Memory) }
+    {
+        match step {
+            Step::Born { .. } if !task.gets_bytes() => {
+                self.note(device, Deed::Created, task.section())
+            }
+            Step::Dropped { ended: false, .. } if task.gives_bytes() => {
+                self.note(device, Deed::KeptOut, task.section())
+            }
+            Step::Counted { .. } if task.gets_bytes() => {
+                self.note(device, Deed::KeptIn, task.section())
+            }
+            _ => Ok(()),
+        }
+    }
+
+    // ---- what may be meant
 
     /// Finds what a copy is about to overwrite that is newer.
     pub fn find_overwritten(
@@ -99,6 +136,21 @@ impl Looks {
 }
 
 impl Watch for Looks {
+    fn before_item(
+        &mut self,
+        device: u64,
+        task: Task,
+        step: Step,
+        ends: Option<Held>,
+    ) -> Result<(), Fault> {
+        let line = self.line;
+        self.ends = ends.map(|held| Held { line, ..held });
+        match ends {
+            Some(held) => self.note(device, Deed::Ended, held.section),
+            None => self.note_kept(device, task, step),
+        }
+    }
+
     fn before_step(&mut self, known: &Known, item: &ItemDone) -> Result<(), Fault> {
         if let Some(held) = self.ends {
             self.note_drop(known, held)?;
@@ -107,6 +159,21 @@ impl Watch for Looks {
             Some((placed, t)) => self.find_overwritten(known, placed, t),
             None => Ok(()),
         }
+    }
+
+    fn after_item(&mut self, device: u64, t: Transfer, queue: Option<u64>) -> Result<(), Fault> {
+        let deed = match (queue, t.out) {
+            (None, true) => Deed::CopiedOut,
+            (None, false) => Deed::CopiedIn,
+            (Some(_), true) => Deed::QueuedOut,
+            (Some(_), false) => Deed::QueuedIn,
+        };
+        self.note(device, deed, t.section)
+    }
+
+    fn before_copy(&mut self, known: &Known, block: Placed, t: Transfer) -> Result<(), Fault> {
+        self.find_overwritten(known, block, t)?;
+        self.after_item(block.device, t, None)
     }
 }
 

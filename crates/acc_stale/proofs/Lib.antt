@@ -13,3 +13,5 @@ pub mod Followed
 pub mod Telling
 pub mod Aiming
 pub mod Fitting
+pub mod Draining
+pub mod Beginning

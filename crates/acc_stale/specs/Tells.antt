@@ -7,12 +7,18 @@ use Rattle.acc_base.specs.declared.events.Step.{Step}
 use Rattle.acc_base.specs.declared.events.Step.TheVariants.{Born, Dropped, Moved}
 use Rattle.acc_base.specs.declared.items.Section.{Section}
 use Rattle.acc_base.specs.declared.transfers.Transfer.{Transfer}
-use Rattle.acc_base.specs.Records.{Records}
+use Rattle.acc_base.specs.Queues.{head_of}
+use Rattle.acc_base.specs.Records.{Records, State}
+use Rattle.acc_base.specs.Waits.{drained}
 use Rattle.acc_stale.specs.declared.accounts.Account.{Account}
 use Rattle.acc_stale.specs.declared.accounts.Held.{Held}
 use Rattle.acc_stale.specs.declared.accounts.Waiting.{Waiting}
 use Rattle.acc_stale.specs.declared.known.Placed.{Placed}
 use Rattle.acc_stale.specs.Accounts.{told_at, attached_at, HasSameBlocks, IsChanged}
+use Rattle.acc_stale.specs.declared.tellings.NextTold.{NextTold}
+use Rattle.acc_stale.specs.declared.trackers.Tracker.{Tracker}
+use Rattle.acc_stale.specs.Events.{known_drained}
+use Rattle.acc_stale.specs.Told.{IsNextTold}
 use Rattle.acc_stale.specs.Follows.{FollowsDevice}
 
 -- ---- a step
@@ -31,6 +37,11 @@ placed_by d section (Born block place) a = Some (record { device = d; block = bl
 placed_by d section (Dropped block true) a = placed_at d block a
 placed_by d section (Moved block) a = placed_at d block a
 placed_by d section _ a = None
+
+-- the block whose mapping a step ends
+abbrev pub ended_at : ℕ → Step → Account → Option Held
+ended_at d (Dropped block true) a = option_map (λ t. t.held) (told_at d block a)
+ended_at d _ a = None
 
 -- a new block is kept
 abbrev pub IsStepKept : ℕ → Section → ℕ → Step → Account → Account → Type 0
@@ -63,8 +74,22 @@ count_left (aims.Again pointer block) count = min (count + 1) (2 ^ 64 - 1)
 count_left (aims.Less pointer block) count = count - 1
 count_left _ count = 0
 
+-- ---- a queue
+
+-- a queue makes this transfer next, if there is one, and its block lies on the device where it is told
+abbrev pub IsMadeTold : ℕ → ℕ → Option NextTold → State → Type 0
+IsMadeTold d q None s = head_of q s.records.queues ≡ None
+IsMadeTold d q (Some n) s = (n.block.device ≡ d) × IsNextTold q n.block n.transfer n.attached.items s
+
 -- ---- other devices
 
 -- the one account follows each other device that the other does
 abbrev pub LeavesOthers : ℕ → Account → Account → Type 0
 LeavesOthers d old new = (e : ℕ) (w : Records) → (e == d) ≡ false → FollowsDevice e old w → FollowsDevice e new w
+
+-- ---- whole queues
+
+-- after these queues made their first transfers, one after the other, what is known and the account are the model's
+pub record IsDrained (d : ℕ) (qs : List ℕ) (s : State) (old new : Tracker) : Type 0 where
+  pub known : new.known ≡ known_drained d qs s old.known
+  pub follows : FollowsDevice d new.account (drained qs s).records

@@ -1,8 +1,10 @@
 //! What the events of a table say of its blocks, pointers, queues and regions, as far as the marks have to be told it.
 
-ghost use Rattle.std.specs.Prelude.{◌≡◌, ℕ, ◌&&◌, ◌==◌, ◌++◌, ◌∷◌, [], Option, Some, OnOk, IfOk, option_map, slice_get};
+ghost use Rattle.std.specs.Prelude.{◌≡◌, ℕ, ◌&&◌, ◌==◌, ◌++◌, ◌∷◌, [], Option, Some, OnOk, IfOk, option_map, length, filter};
 ghost use Rattle.std.specs.List.{find, position};
 ghost use Rattle.acc_base.specs.Attachments.{count_at};
+ghost use Rattle.acc_base.specs.Records.{new_records};
+ghost use Rattle.acc_stale.specs.Follows.{FollowsDevice};
 ghost use Rattle.acc_stale.specs.Accounts.{is_in, without_first, told_at, attached_at, IsChanged, IsRecounted, HasSameBlocks};
 
 use crate::known::Placed;
@@ -54,7 +56,9 @@ pub struct Account {
 
 impl Account {
     /// The account of no event.
-    pub fn new(alloc: Global) -> Account {
+    pub fn new(alloc: Global) -> Account
+        ensures { (d : ℕ) → FollowsDevice d result new_records }
+    {
         Account {
             alloc,
             blocks: BTreeMap::new(alloc),
@@ -155,18 +159,8 @@ impl Account {
         Ok(())
     }
 
-    /// Takes the first transfer out of a queue, or out of the first queue that has one.
-    pub fn take(&mut self, device: u64, queue: Option<u64>) -> Option<Transfer>
-        ensures blocks { HasSameBlocks self.old self.new }
-    {
-        match queue {
-            Some(queue) => self.take_from(device, queue),
-            None => self.take_from(device, self.first_queue(device)?),
-        }
-    }
-
     /// Takes the first transfer out of a queue.
-    fn take_from(&mut self, device: u64, queue: u64) -> Option<Transfer>
+    pub(crate) fn take(&mut self, device: u64, queue: u64) -> Option<Transfer>
         ensures taken { result ≡ option_map (λ w. w.transfer) (find (is_in device queue) self.old.waiting.items) }
         ensures left { self.new.waiting.items ≡ without_first (is_in device queue) self.old.waiting.items }
         ensures blocks { HasSameBlocks self.old self.new }
@@ -187,10 +181,14 @@ impl Account {
             .position(|w| w.device == device && w.queue == queue)
     }
 
-    /// The least number of a queue of a device in which transfers wait.
-    fn first_queue(&self, device: u64) -> Option<u64> {
-        let here = self.waiting.iter().filter(|w| w.device == device);
-        here.map(|w| w.queue).min()
+    /// How many transfers wait in a queue.
+    pub(crate) fn count_in(&self, device: u64, queue: u64) -> usize
+        ensures { result ≡ length (filter (is_in device queue) self.now.waiting.items) }
+    {
+        self.waiting
+            .iter()
+            .filter(|w| w.device == device && w.queue == queue)
+            .count()
     }
 
     /// The queue in which a transfer waits that copies an address, to host memory or to a device.

@@ -9,9 +9,10 @@ ghost use Rattle.acc_base.specs.Records.{State};
 ghost use Rattle.acc_stale.specs.Events.{known_stepped, known_aimed, known_acted};
 ghost use Rattle.acc_stale.specs.Told.{enters, StartsIn, IsStepTold, IsAimTold, IsHolder, IsItemTold};
 
+use crate::accounts::Held;
 use crate::known::{Known, Placed};
 use crate::tasks::{at_once, transfer_in};
-use acc_base::{Aim, Attachment, Did, Fault, Task, Transfer};
+use acc_base::{Aim, Attachment, Did, Fault, Step, Task, Transfer};
 
 /// An item that acted, and where the blocks lie whose bytes it touched.
 #[derive(Clone, Copy, Debug)]
@@ -54,14 +55,32 @@ pub struct Holder {
     pub count: u64,
 }
 
-/// Who looks at what is known right before the step of an item.
+/// Who looks at what is known while events are told, and notes what they do.
 pub trait Watch {
-    /// Looks at it. `item` is what it does next.
+    /// An item of a device is told next. `ends` is the block whose mapping its step ends, if it ends one.
     ///
     /// # Errors
     ///
-    /// [`Fault::Memory`] alone.
+    /// [`Fault::Memory`] alone, as with those that follow.
+    fn before_item(
+        &mut self,
+        device: u64,
+        task: Task,
+        step: Step,
+        ends: Option<Held>,
+    ) -> Result<(), Fault>
+        ensures only { IfErr result (λ fault. fault ≡ Memory) };
+
+    /// The step of the item is done next, so this is known right before it.
     fn before_step(&mut self, known: &Known, item: &ItemDone) -> Result<(), Fault>
+        ensures only { IfErr result (λ fault. fault ≡ Memory) };
+
+    /// The item was told. It copied this, or put it into a queue.
+    fn after_item(&mut self, device: u64, t: Transfer, queue: Option<u64>) -> Result<(), Fault>
+        ensures only { IfErr result (λ fault. fault ≡ Memory) };
+
+    /// A queued transfer is made next, to or from a block that lies there.
+    fn before_copy(&mut self, known: &Known, block: Placed, t: Transfer) -> Result<(), Fault>
         ensures only { IfErr result (λ fault. fault ≡ Memory) };
 }
 

@@ -11,7 +11,7 @@ mod tellings;
 mod trackers;
 mod writes;
 
-pub use accounts::{Account, Held, Waiting};
+pub use accounts::{Account, Held};
 pub use items::{Holder, ItemDone, Watch};
 pub use known::{Known, Placed};
 pub use marks::{Mark, Run};

@@ -1,7 +1,9 @@
 //! What an account tells of the step and the pointer of an item, and what it keeps of them (OpenACC 3.3, sections 2.7
 //! and 2.7.2).
 
-ghost use Rattle.std.specs.Prelude.{◌≡◌, ℕ, List, Option, Ok, OnOk, IfOk};
+ghost use Rattle.std.specs.Prelude.{◌≡◌, ◌<◌, ℕ, List, Option, Ok, OnOk, IfOk};
+ghost use Rattle.acc_base.specs.declared.transfers.TheConstants.{QUEUE_COUNT};
+ghost use Rattle.acc_base.specs.Waits.{stepped};
 ghost use Rattle.acc_base.specs.Limits.{Limits, IsWithinBounds};
 ghost use Rattle.acc_base.specs.Records.{State};
 ghost use Rattle.acc_base.specs.Accounts.{AreRecordsSound};
@@ -10,8 +12,8 @@ ghost use Rattle.acc_base.specs.Steps.{act_step, records_aimed};
 ghost use Rattle.acc_base.specs.Transfers.{transfer_of};
 ghost use Rattle.acc_stale.specs.Accounts.{HasSameBlocks};
 ghost use Rattle.acc_stale.specs.Follows.{FollowsDevice, IsStepFit, IsAimFit};
-ghost use Rattle.acc_stale.specs.Told.{IsStepTold, IsAimTold, IsItemTold};
-ghost use Rattle.acc_stale.specs.Tells.{placed_by, IsStepKept, attached_of, waiting_after, pointer_held, count_left, placed_at, LeavesOthers};
+ghost use Rattle.acc_stale.specs.Told.{before_step, IsStepTold, IsAimTold, IsItemTold};
+ghost use Rattle.acc_stale.specs.Tells.{placed_by, IsStepKept, attached_of, waiting_after, pointer_held, count_left, placed_at, ended_at, IsMadeTold, LeavesOthers};
 
 use crate::accounts::{Account, Held, Waiting};
 use crate::items::{Holder, ItemDone, enters};
@@ -42,6 +44,17 @@ pub(crate) struct ItemTold {
     pub transfer: Option<Transfer>,
 }
 
+/// What is told of a queued transfer.
+#[derive(Drop)]
+pub(crate) struct NextTold {
+    /// Where its block lies.
+    pub block: Placed,
+    /// The attached pointers of that block.
+    pub attached: Vec<Attachment>,
+    /// What it copies.
+    pub transfer: Transfer,
+}
+
 impl Account {
     /// Tells of an item, and keeps what it did. An item that enters attaches its pointer after its step, and others
     /// detach it before.
@@ -54,6 +67,7 @@ impl Account {
     ) -> Result<ItemTold, AllocError>
         ensures item { IfOk result (λ told. (told.item.device ≡ device) × (told.item.task ≡ task) × (told.item.did ≡ did)) }
         ensures told { IfOk result (λ told. (l : Limits) (n : ℕ) (s : State) → IsWithinBounds l → AreRecordsSound l s.records → judge_task l n task s ≡ Ok did → FollowsDevice device self.old s.records → IsItemTold told.item told.attached.items s) }
+        ensures transfer { IfOk result (λ told. (l : Limits) (n : ℕ) (s : State) → IsWithinBounds l → AreRecordsSound l s.records → judge_task l n task s ≡ Ok did → FollowsDevice device self.old s.records → told.transfer ≡ transfer_of task did.step (before_step task did s).records.ranges) }
         ensures follows { OnOk result ((l : Limits) (n : ℕ) (s : State) → IsWithinBounds l → AreRecordsSound l s.records → judge_task l n task s ≡ Ok did → FollowsDevice device self.old s.records → FollowsDevice device self.new (act_state task did s).records) }
         ensures others { OnOk result (LeavesOthers device self.old self.new) }
     {
@@ -92,6 +106,16 @@ impl Account {
             attached,
             transfer,
         })
+    }
+
+    /// The block whose mapping a step ends, if it ends one.
+    pub(crate) fn ended(&self, device: u64, step: Step) -> Option<Held>
+        ensures { result ≡ ended_at device step self.now }
+    {
+        match step {
+            Step::Dropped { block, ended: true } => self.block(device, block),
+            _ => None,
+        }
     }
 
     /// Where the block lies whose bytes a step touches. A new one is kept, which is mapped for this section.
@@ -183,6 +207,30 @@ impl Account {
         let count = self.count(device, block, pointer);
         self.attach(device, block, pointer, count_left(aim, count))?;
         Ok(Some(Holder { placed, count }))
+    }
+}
+
+impl Account {
+    // ---- a queue
+
+    /// Takes the first transfer out of a queue, and tells of it (OpenACC 3.3, section 2.16).
+    pub(crate) fn next(&mut self, device: u64, queue: u64) -> Result<Option<NextTold>, AllocError>
+        ensures told { IfOk result (λ next. (l : Limits) (s : State) → FollowsDevice device self.old s.records → AreRecordsSound l s.records → queue < QUEUE_COUNT → IsMadeTold device queue next s) }
+        ensures follows { OnOk result ((l : Limits) (s : State) → FollowsDevice device self.old s.records → AreRecordsSound l s.records → queue < QUEUE_COUNT → FollowsDevice device self.new (stepped queue s).records) }
+        ensures others { OnOk result (LeavesOthers device self.old self.new) }
+    {
+        let Some(transfer) = self.take(device, queue) else {
+            return Ok(None);
+        };
+        let Some(block) = self.placed(device, transfer.block) else {
+            return Ok(None);
+        };
+        let attached = self.attached(device, transfer.block)?;
+        Ok(Some(NextTold {
+            block,
+            attached,
+            transfer,
+        }))
     }
 }
 

@@ -1,5 +1,7 @@
-use Rattle.std.proofs.Common.{◌∙◌, sym, subst, List}
+use Rattle.std.proofs.Common.{◌≡◌, ◌∙◌, sym, subst, List}
 use Rattle.acc_base.specs.declared.attachments.Attachment.{Attachment}
+use Rattle.acc_base.specs.Records.{State}
+use Rattle.acc_base.specs.Transfers.{transfer_of}
 use Rattle.acc_base.specs.Bytes.{step_state}
 use Rattle.acc_base.specs.Pointers.{aimed}
 use Rattle.acc_stale.specs.Told.{IsStepTold, IsAimTold, IsItemTold}
@@ -38,3 +40,14 @@ returns-clause-follows c l n s bounds sound judged follows =
     let fit : IsExitFit l c.args.task c.args.did s = exit_fit l n c.args.task c.args.did s (sym c.enters.ensures ∙ c.if-enters.false) bounds sound judged in
     let middle : FollowsDevice c.args.device c.aim-2.new.self (aimed c.args.did.aim s).records = subst (FollowsDevice c.args.device c.aim-2.new.self) (sym fit.records) (c.in_ok-holder-2.ensures.follows l s follows sound fit.aim) in
     subst (FollowsDevice c.args.device c.step-2.new.self) (sym fit.left) (c.in_ok-step-2.ensures.follows l (aimed c.args.did.aim s) middle fit.sound fit.step)
+
+pub returns-then-enters-clause-transfer : goal.returns-then-enters-clause-transfer
+returns-then-enters-clause-transfer c l n s bounds sound judged follows =
+    let fit : IsEntryFit l c.args.task c.args.did s = entry_fit l n c.args.task c.args.did s (sym c.enters.ensures ∙ c.if-enters.true) bounds sound judged in
+    c.told_by.ensures.transfer ∙ subst (λ (x : State). c.in_ok-step.step.transfer ≡ transfer_of c.args.task c.args.did.step x.records.ranges) (sym fit.before_step_is) (c.in_ok-step.ensures.transfer l s follows sound fit.step)
+
+pub returns-clause-transfer : goal.returns-clause-transfer
+returns-clause-transfer c l n s bounds sound judged follows =
+    let fit : IsExitFit l c.args.task c.args.did s = exit_fit l n c.args.task c.args.did s (sym c.enters.ensures ∙ c.if-enters.false) bounds sound judged in
+    let middle : FollowsDevice c.args.device c.aim-2.new.self (aimed c.args.did.aim s).records = subst (FollowsDevice c.args.device c.aim-2.new.self) (sym fit.records) (c.in_ok-holder-2.ensures.follows l s follows sound fit.aim) in
+    c.told_by-2.ensures.transfer ∙ subst (λ (x : State). c.in_ok-step-2.step.transfer ≡ transfer_of c.args.task c.args.did.step x.records.ranges) (sym fit.before_step_is) (c.in_ok-step-2.ensures.transfer l (aimed c.args.did.aim s) middle fit.sound fit.step)

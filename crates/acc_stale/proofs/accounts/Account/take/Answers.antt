@@ -4,7 +4,7 @@ use Rattle.acc_base.specs.declared.transfers.Transfer.{Transfer}
 use Rattle.acc_stale.specs.declared.accounts.Waiting.{Waiting}
 use Rattle.acc_stale.specs.Accounts.{is_in}
 use Rattle.acc_stale.proofs.Counts.{first_taken, first_found, none_taken}
-use Rattle.acc_stale.proofs.accounts.Account.take_from.Goals as goal
+use Rattle.acc_stale.proofs.accounts.Account.take.Goals as goal
 
 pub returns-in_err-nth-clause-left : goal.returns-in_err-nth-clause-left
 returns-in_err-nth-clause-left c = let none : position (is_in c.args.device c.args.queue) c.args.self.now.waiting.items ≡ None = search rules in (none_taken (is_in c.args.device c.args.queue) c.args.self.now.waiting.items none).0

@@ -210,6 +210,11 @@ uint32_t lw_step(lw_table *table, uint64_t device, uint64_t queue, uint64_t *mad
     return lamwiest_step(table, device, queue, made, PLACE(fault));
 }
 
+uint32_t lw_judge(lw_table *table, const lw_stored_event *asked, const lw_item *items, size_t count, lw_fault *fault)
+{
+    return lamwiest_judge(table, asked, items, count, PLACE(fault));
+}
+
 /* ---- Bytes ---- */
 
 uint32_t lw_host_write(lw_table *table, uint64_t start, const void *bytes, size_t len, lw_fault *fault)

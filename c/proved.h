@@ -38,6 +38,9 @@ uint32_t lamwiest_update(lw_table *table, uint64_t device, const lw_item *items,
 uint32_t lamwiest_wait(lw_table *table, uint64_t device, uint64_t queue, uint64_t *made, lw_fault *fault);
 uint32_t lamwiest_step(lw_table *table, uint64_t device, uint64_t queue, uint64_t *made, lw_fault *fault);
 
+uint32_t lamwiest_judge(lw_table *table, const lw_stored_event *asked, const lw_item *items, size_t count,
+                        lw_fault *fault);
+
 uint32_t lamwiest_host_write(lw_table *table, uint64_t start, const uint8_t *bytes, size_t len, lw_fault *fault);
 uint32_t lamwiest_host_read(lw_table *table, uint64_t start, uint8_t *bytes, size_t len, lw_fault *fault);
 uint32_t lamwiest_device_read(lw_table *table, uint64_t device, uint64_t start, uint8_t *bytes, size_t len,

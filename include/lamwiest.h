@@ -34,10 +34,10 @@ extern "C" {
 
 /* ---- Versions ---- */
 
-/* The version of this header, 0.2.1: a million times the first number, a thousand times the second, and the third. A
+/* The version of this header, 0.2.2: a million times the first number, a thousand times the second, and the third. A
    library with the same first two numbers, and this third one or a greater one, takes programs that were compiled with
    this header. One with a lesser third takes those that make no call which came since. */
-#define LW_VERSION 2001
+#define LW_VERSION 2002
 
 /* The version of the library that the program is linked with. */
 uint32_t lw_version(void);
@@ -336,6 +336,18 @@ uint32_t lw_range_at(lw_table *table, uint64_t device, uint64_t address, lw_mapp
 /* len: how many copies wait in a queue; 0 where there is no such queue. */
 uint32_t lw_queue_len(lw_table *table, uint64_t device, uint64_t queue, uint64_t *len);
 
+/* A copy that waits in a queue (section 2.16). */
+typedef struct lw_waiting_copy {
+    uint64_t block;  /* the number of the block */
+    uint64_t offset; /* how far behind the block's first byte its bytes begin */
+    uint64_t start;  /* the first host address of its section */
+    uint64_t len;    /* how many bytes it copies */
+    uint64_t way;    /* LW_IN to the device, or LW_OUT to the host */
+} lw_waiting_copy;
+
+/* A copy of a queue, counted from 0 for the one that is made next. LW_ABSENT where not as many wait in it. */
+uint32_t lw_transfer(lw_table *table, uint64_t device, uint64_t queue, uint64_t place, lw_waiting_copy *copy);
+
 /* A block whose mapping has ended, and which copies that wait keep (section 2.16). */
 typedef struct lw_ended_mapping {
     uint64_t place; /* the device address of its first byte */
@@ -376,6 +388,18 @@ uint32_t lw_regions(lw_table *table, uint64_t *regions);
 /* region: the number of the open data region that was entered last, on whichever device. LW_ABSENT where none is
    open. */
 uint32_t lw_innermost(lw_table *table, uint64_t *region);
+
+/* What an item of an open data region holds: lw_exit undoes that and nothing else (sections 2.6.5, 2.6.7). */
+typedef struct lw_held_item {
+    lw_item item;     /* the item, as lw_enter named it */
+    uint64_t block;   /* the number of the block whose structured counter it raised; 0 for none */
+    uint64_t pointer; /* the host address of the pointer that it attached; 0 for none */
+    uint64_t holder;  /* the number of the block that has the copy of that pointer; 0 for none */
+} lw_held_item;
+
+/* What an item of an open region holds, counted from 0 in the order in which lw_enter had the items. LW_ABSENT where no
+   region of that number is open, or it has no such item. */
+uint32_t lw_held(lw_table *table, uint64_t region, uint64_t item, lw_held_item *held);
 
 /* The limits of a table: one that was 0 when the table began is told as it is by default. Limits begin as LW_LIMITS
    here too, and those are written which the program's header has. LW_BAD_VERSION, as of lw_table_new, is told before
@@ -490,6 +514,17 @@ uint32_t lw_event_item(lw_table *table, uint64_t place, uint64_t item, lw_item *
    that lw_host_write wrote, or with which the section of a lease came back; else there are none. LW_ABSENT where there
    is no such event; then LW_BAD_LENGTH where len is not how many they are. */
 uint32_t lw_event_bytes(lw_table *table, uint64_t place, void *bytes, size_t len, lw_fault *fault);
+
+/* ---- Dry runs ---- */
+
+/* Judges a directive, and does not carry it out: the status and the fault are those of its call, were that made now.
+   Only the list of more than one item takes memory here, so LW_MEMORY of a table is not foretold. It is no event.
+
+   asked: the directive, as lw_event tells one that was carried out. Of it are read the kind, which is LW_ENTERED to
+   LW_STEPPED, and what this kind has: of LW_EXITED the region; else the device, the queue (LW_NO_QUEUE_GIVEN for
+   LW_ASYNC_SYNC, and 0 for LW_ASYNC_NOVAL) and the option. items: those of its call; without items they are not read.
+   LW_ABSENT where no directive is of the kind. */
+uint32_t lw_judge(lw_table *table, const lw_stored_event *asked, const lw_item *items, size_t count, lw_fault *fault);
 
 /* ---- The report ---- */
 

@@ -166,6 +166,15 @@ public:
         return made;
     }
 
+    // What a directive would be refused for, which is named as lw_event names one; of LW_DONE where it can be done. It
+    // is not carried out.
+    lw_fault judge(const lw_stored_event &asked, const Items &items = Items())
+    {
+        lw_fault fault;
+        lw_judge(&table, &asked, items.data(), items.size(), &fault);
+        return fault;
+    }
+
     template <class T> bool is_present(Span<T> section, uint64_t device = 0)
     {
         uint64_t present = 0;

@@ -373,6 +373,51 @@ static uint32_t ended_block(lw_table *table, const row *row, uint64_t *number, l
     return asked(status, fault);
 }
 
+/* A copy that waits, whose place the row has as its length: its block, where in that it begins, its section and its way,
+   as one number. */
+#define COPY(block, offset, start, len, way) \
+    ((uint64_t)(start) << 32 | (uint64_t)(block) << 24 | (uint64_t)(offset) << 16 | (uint64_t)(len) << 8 | (way))
+
+static uint32_t transfer(lw_table *table, const row *row, uint64_t *number, lw_fault *fault)
+{
+    lw_waiting_copy told;
+    uint32_t status = lw_transfer(table, row->device, row->at, row->len, &told);
+
+    if (status == LW_DONE) {
+        *number = COPY(told.block, told.offset, told.start, told.len, told.way);
+    }
+    return asked(status, fault);
+}
+
+/* An item as one number. */
+#define ITEM(clause, start, len, pointer) \
+    ((uint64_t)(pointer) << 48 | (uint64_t)(start) << 24 | (uint64_t)(len) << 8 | (clause))
+
+/* What an item of a region holds, whose place the row has as its length: its blocks and its pointer as one number. */
+#define HELD(block, holder, pointer) ((uint64_t)(pointer) << 16 | (holder) << 8 | (block))
+
+static uint32_t holding(lw_table *table, const row *row, uint64_t *number, lw_fault *fault)
+{
+    lw_held_item told;
+    uint32_t status = lw_held(table, row->at, row->len, &told);
+
+    if (status == LW_DONE) {
+        *number = HELD(told.block, told.holder, told.pointer);
+    }
+    return asked(status, fault);
+}
+
+static uint32_t holding_item(lw_table *table, const row *row, uint64_t *number, lw_fault *fault)
+{
+    lw_held_item told;
+    uint32_t status = lw_held(table, row->at, row->len, &told);
+
+    if (status == LW_DONE) {
+        *number = ITEM(told.item.clause, told.item.start, told.item.len, told.item.pointer);
+    }
+    return asked(status, fault);
+}
+
 /* The place of a hole and its size, as one number. */
 #define HOLE(place, size) ((uint64_t)(place) << 16 | (size))
 
@@ -434,9 +479,6 @@ static uint32_t event_section(lw_table *table, const row *row, uint64_t *number,
 }
 
 /* The item of an event whose place the row has as its length. */
-#define ITEM(clause, start, len, pointer) \
-    ((uint64_t)(pointer) << 48 | (uint64_t)(start) << 24 | (uint64_t)(len) << 8 | (clause))
-
 static uint32_t event_item(lw_table *table, const row *row, uint64_t *number, lw_fault *fault)
 {
     lw_item named;
@@ -557,6 +599,11 @@ static const row USUAL[] = {
     {"with no pointer", did_to, .at = 0, ANSWERS(0)},
     {"what it copied", did_copy, .at = 0, ANSWERS(COPIED(LW_IN, 16, 1, 0))},
     {"it has one item", did, .at = 1, REFUSED(LW_ABSENT, 0, 0)},
+    {"what its region holds", holding, .at = 1, ANSWERS(HELD(1, 0, 0))},
+    {"by its item", holding_item, .at = 1, ANSWERS(ITEM(LW_COPY, A, 16, 0))},
+    {"no second one", holding, .at = 1, .len = 1, REFUSED(LW_ABSENT, 0, 0)},
+    {"nor one far behind", holding, .at = 1, .len = UINT64_MAX, REFUSED(LW_ABSENT, 0, 0)},
+    {"no other region holds something", holding, .at = 2, REFUSED(LW_ABSENT, 0, 0)},
     {"all that it did", all_did, .count = 3, ANSWERS(1)},
     {"nothing of it", all_did, .count = 0, ANSWERS(0)},
     {"data without items", enter, .count = 0, ANSWERS(2)},
@@ -607,6 +654,11 @@ static const row USUAL[] = {
     {"enter data async", enter_data, {{LW_COPYIN, B, 16, 0}}, 1, .async = 3, DONE},
     {"what it put there", did_copy, .at = 0, ANSWERS(COPIED(LW_IN, 16, 0, 0))},
     {"queue length", queue_len, .at = 3, ANSWERS(1)},
+    {"the copy in it", transfer, .at = 3, ANSWERS(COPY(2, 0, B, 16, LW_IN))},
+    {"no copy behind it", transfer, .at = 3, .len = 1, REFUSED(LW_ABSENT, 0, 0)},
+    {"nor far behind", transfer, .at = 3, .len = UINT64_MAX, REFUSED(LW_ABSENT, 0, 0)},
+    {"nor in the next queue", transfer, .at = 4, REFUSED(LW_ABSENT, 0, 0)},
+    {"nor in no queue", transfer, .at = UINT64_MAX, REFUSED(LW_ABSENT, 0, 0)},
     {"length of no queue", queue_len, .at = 16, ANSWERS(0)},
     {"enter data async in no queue", enter_data, {{LW_CREATE, C, 16, 0}}, 1, .async = 16, REFUSED(LW_NO_QUEUE, 0, 16)},
     {"enter data async below all", enter_data, {{LW_CREATE, C, 16, 0}}, 1, .async = -3,
@@ -624,8 +676,9 @@ static const row USUAL[] = {
     {"it copied once", did, .at = 1, REFUSED(LW_ABSENT, 0, 0)},
     {"step of an empty queue", step, .at = 3, ANSWERS(0)},
     {"step of no queue", step, .at = 16, REFUSED(LW_NO_QUEUE, 0, 16)},
-    {"update async", update, {{LW_DEVICE, B, 16, 0}}, 1, .async = 15, DONE},
-    {"what it put there", did_copy, .at = 0, ANSWERS(COPIED(LW_IN, 16, 0, 0))},
+    {"update async", update, {{LW_DEVICE, B + 4, 8, 0}}, 1, .async = 15, DONE},
+    {"what it put there", did_copy, .at = 0, ANSWERS(COPIED(LW_IN, 8, 0, 0))},
+    {"the copy that waits", transfer, .at = 15, ANSWERS(COPY(2, 4, B + 4, 8, LW_IN))},
     {"update async without a number", update, {{LW_DEVICE, B, 16, 0}}, 1, .async = NOVAL, DONE},
     {"it waits in the first queue", queue_len, .at = 0, ANSWERS(1)},
     {"wait for all queues", wait_for, .at = NO_QUEUE, ANSWERS(2)},
@@ -661,7 +714,10 @@ static const row USUAL[] = {
     {"what it did", did, .at = 0, ANSWERS(DID(LW_COUNTED, LW_AIMED, 1, 3, LW_DEVICE_BASE))},
     {"with no copy", did_copy, .at = 0, ANSWERS(COPIED(0, 0, 0, 1))},
     {"the pointer is attached", attachment, .at = C, ANSWERS(1)},
+    {"both are held", holding, .at = 3, ANSWERS(HELD(1, 3, C))},
+    {"by the item", holding_item, .at = 3, ANSWERS(ITEM(LW_PRESENT, A, 16, C))},
     {"the end of that data", leave, .at = 3, DONE},
+    {"which holds nothing then", holding, .at = 3, REFUSED(LW_ABSENT, 0, 0)},
     {"what it did", did, .at = 0, ANSWERS(DID(LW_DROPPED, LW_DETACHED, 1, 3, UINT64_C(0)))},
     {"the pointer is detached", attachment, .at = C, ANSWERS(0)},
 
@@ -701,6 +757,7 @@ static const row USUAL[] = {
     {"update of a lent block", update, {{LW_SELF, A, 8, 0}}, 1, .async = SYNC, REFUSED(LW_LENT, 0, 1)},
     {"end data while its block is lent", leave, .at = 1, REFUSED(LW_LENT, 0, 1)},
     {"update async of a lent block", update, {{LW_SELF, A, 8, 0}}, 1, .async = 5, DONE},
+    {"its copy waits", transfer, .at = 5, ANSWERS(COPY(1, 0, A, 8, LW_OUT))},
     {"step of a copy of a lent block", step, .at = 5, REFUSED(LW_LENT, 0, 1)},
     {"wait for it", wait_for, .at = 5, REFUSED(LW_LENT, 0, 1)},
     {"wait for all queues, with it", wait_for, .at = NO_QUEUE, REFUSED(LW_LENT, 0, 1)},
@@ -742,6 +799,7 @@ static const row DEVICES[] = {
     {"host write", host_write, .at = A, .len = 8, .bytes = 0x0102030405060708, DONE},
     {"data on the last one", enter, {{LW_COPY, A, 16, 0}}, 1, .device = 3, ANSWERS(1)},
     {"data on none", enter, {{LW_COPY, A, 16, 0}}, 1, .device = 4, REFUSED(LW_NO_DEVICE, 0, 4)},
+    {"what its region holds", holding, .at = 1, ANSWERS(HELD(1, 0, 0))},
     {"enter data on the second", enter_data, {{LW_COPYIN, A, 16, 0}}, 1, .device = 1, .async = SYNC, DONE},
     {"enter data on none", enter_data, {{LW_COPYIN, A, 16, 0}}, 1, .device = UINT64_MAX, .async = SYNC,
      REFUSED(LW_NO_DEVICE, 0, UINT64_MAX)},
@@ -1011,6 +1069,56 @@ static bool is_told(const answer *answer, const row *row)
            answer->fault.value == row->value && answer->number == row->number;
 }
 
+/* The directive of a row as an event names it. The kind is none of a directive's where the row makes another call. */
+static lw_stored_event directive_of(const row *row)
+{
+    static const struct {
+        uint32_t (*make)(lw_table *table, const struct row *row, uint64_t *number, lw_fault *fault);
+        uint32_t kind;
+    } KINDS[] = {
+        {enter, LW_ENTERED}, {leave, LW_EXITED},     {enter_data, LW_ENTERED_DATA}, {exit_data, LW_EXITED_DATA},
+        {step, LW_STEPPED},  {wait_for, LW_WAITED}, {update, LW_UPDATED},
+    };
+    const bool is_numbered = row->make == wait_for || row->make == step;
+    lw_stored_event asked = {.kind = LW_WRITTEN, .option = row->option, .device = row->device, .region = row->at};
+
+    asked.queue = is_numbered ? row->at : row->async == SYNC ? NO_QUEUE : row->async == NOVAL ? 0 : (uint64_t)row->async;
+    for (size_t i = 0; i < sizeof KINDS / sizeof *KINDS; i++) {
+        if (KINDS[i].make == row->make) {
+            asked.kind = KINDS[i].kind;
+        }
+    }
+    return asked;
+}
+
+/* Judges the directive of a row with each growth refused in turn. It is told what the row tells, and nothing changes;
+   of another call it is told that there is no such directive. */
+static void judge(lw_table *table, const row *row, const char *before, const char *where)
+{
+    const lw_stored_event asked = directive_of(row);
+    const bool is_asked = asked.kind != LW_WRITTEN;
+    char after[TEXT];
+    size_t growth = 0;
+    answer answer;
+
+    do {
+        answer.fault = (lw_fault){99, 99, 99};
+        answer.number = is_asked ? row->number : UNTOUCHED;
+        refuse_growth(++growth);
+        answer.status = lw_judge(table, &asked, items_of(row), row->count, &answer.fault);
+        answer.is_short = was_growth_refused();
+        refuse_growth(0);
+        report_of(table, after);
+        check(strcmp(before, after) == 0, where, "a directive that is judged changes the report");
+        if (answer.status == LW_MEMORY && answer.is_short) {
+            continue;
+        }
+        check(is_asked ? is_told(&answer, row) : answer.status == LW_ABSENT && answer.fault.status == LW_ABSENT,
+              "judged", row->says);
+    } while (answer.is_short);
+    refused_growths += growth - 1;
+}
+
 /* Makes the call of a row with each of its growths refused in turn, until it is done or none is left to refuse. Short
    of memory it is LW_MEMORY, or what it is refused for in any case. */
 static void make(lw_table *table, const row *row, const char *where)
@@ -1021,6 +1129,7 @@ static void make(lw_table *table, const row *row, const char *where)
     answer answer;
 
     report_of(table, before);
+    judge(table, row, before, where);
     do {
         answer = answer_of(table, row, ++growth);
         report_of(table, after);
@@ -1033,12 +1142,15 @@ static void make(lw_table *table, const row *row, const char *where)
 /* Each call is LW_ENDED on a handle that has no table. */
 static void make_ended(lw_table *table, const row *row)
 {
+    const lw_stored_event asked = directive_of(row);
     uint64_t number = UNTOUCHED;
     lw_fault fault = {99, 99, 99};
     uint32_t status = row->make(table, row, &number, &fault);
 
     check(status == LW_ENDED && fault.status == LW_ENDED && fault.item == 0 && fault.value == 0 && number == UNTOUCHED,
           "without a table", row->says);
+    check(lw_judge(table, &asked, items_of(row), row->count, &fault) == LW_ENDED && fault.status == LW_ENDED,
+          "judged without a table", row->says);
 }
 
 static void play(const scene *scene)
@@ -1208,7 +1320,7 @@ static void check_versions(void)
 
         check(lw_table_new(&table, &limits, &fault) == LW_BAD_VERSION && fault.value == LW_VERSION, "versions",
               "wrong limits are taken");
-        check(strcmp(lw_fault_text(&fault, text, sizeof text, NULL), "36 BadVersion library 2001") == 0, "versions",
+        check(strcmp(lw_fault_text(&fault, text, sizeof text, NULL), "36 BadVersion library 2002") == 0, "versions",
               "the text");
         check(lw_table_new(&table, &limits, NULL) == LW_BAD_VERSION && table.at == NULL, "versions", "without a fault");
         check(lw_limits_of(&table, &limits) == LW_BAD_VERSION, "versions", "limits are told in wrong ones");
@@ -1350,6 +1462,7 @@ static void check_no_fault(void)
               lw_enter_data(&table, 0, &item, 1, LW_ASYNC_SYNC, NULL) == LW_BAD_CLAUSE &&
               lw_exit_data(&table, 0, NULL, 0, 0, LW_ASYNC_NOVAL, NULL) == LW_DONE &&
               lw_update(&table, 0, NULL, 0, 0, lw_queue(16), NULL) == LW_NO_QUEUE &&
+              lw_judge(&table, &(lw_stored_event){.kind = LW_WAITED, .queue = 16}, NULL, 0, NULL) == LW_NO_QUEUE &&
               lw_wait(&table, 0, 16, &number, NULL) == LW_NO_QUEUE && lw_step(&table, 0, 0, &number, NULL) == LW_DONE &&
               lw_lend(&table, 1, A, 16, &number, NULL) == LW_DONE &&
               lw_lease_read(&table, 1, bytes, 15, NULL) == LW_BAD_LENGTH &&

@@ -143,6 +143,18 @@ static uint32_t move(lw_table *table, uint64_t what, lw_fault *fault)
     }
 }
 
+/* Judges a directive, or what is none. */
+static uint32_t judge(lw_table *table, uint64_t device, lw_fault *fault)
+{
+    lw_item list[ITEMS];
+    const size_t count = items(list);
+    lw_stored_event asked = {.kind = (uint32_t)(take(1) % 12), .option = (uint32_t)take(1) % 2, .device = device};
+
+    asked.queue = take(1) % 2 == 0 ? LW_NO_QUEUE_GIVEN : number();
+    asked.region = number();
+    return lw_judge(table, &asked, list, count, fault);
+}
+
 /* What changes nothing in any case. */
 static uint32_t look(lw_table *table, uint64_t what, lw_fault *fault)
 {
@@ -159,9 +171,11 @@ static uint32_t look(lw_table *table, uint64_t what, lw_fault *fault)
     lw_lent_lease lent;
     lw_stored_event event;
     lw_item named;
+    lw_waiting_copy copy;
+    lw_held_item held;
     uint64_t told;
 
-    switch (what % 21) {
+    switch (what % 24) {
     case 0:
         return lw_host_read(table, at, bytes, len % BYTES, fault);
     case 1:
@@ -218,6 +232,14 @@ static uint32_t look(lw_table *table, uint64_t what, lw_fault *fault)
         break;
     case 19:
         return lw_event_bytes(table, number(), bytes, len % BYTES, fault);
+    case 20:
+        fault->status = lw_transfer(table, device, number(), number(), &copy);
+        break;
+    case 21:
+        fault->status = lw_held(table, number(), number(), &held);
+        break;
+    case 22:
+        return judge(table, device, fault);
     default:
         fault->status = lw_dids(table, did, take(1) % 5);
     }

@@ -85,6 +85,12 @@ void run()
     } catch (const lamwiest::Refused &refused) {
         std::cout << "refused " << refused.what() << '\n';
     }
+    lw_stored_event update = {};
+    update.kind = LW_UPDATED;
+    update.queue = LW_NO_QUEUE_GIVEN;
+    for (Doubles doubles : {a, b}) {
+        std::cout << "judged " << lw_status_name(table.judge(update, {lamwiest::self(doubles)}).status) << '\n';
+    }
     table.exit_data({lamwiest::copyout(b)});
     show("b", table.read(b));
     std::cout << table.report();

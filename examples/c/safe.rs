@@ -12,7 +12,7 @@
 //! }
 //! ```
 
-use lamwiest::{Async, Clause, Limits, Refused, Table};
+use lamwiest::{Async, Clause, Directive, Limits, Refused, Table};
 use std::process::ExitCode;
 
 fn run() -> Result<(), Refused> {
@@ -39,6 +39,13 @@ fn run() -> Result<(), Refused> {
 
     if let Err(refused) = table.region(0, &[a.item(Clause::Present)]) {
         println!("refused {refused}, {}", refused.name());
+    }
+    let update = Directive::Update { if_present: false, asynchronous: Async::Sync };
+    for (name, directive, clause) in [("data", Directive::Data, Clause::Copy), ("update", update, Clause::ToSelf)] {
+        match table.judge(0, directive, &[a.item(clause)]) {
+            Ok(()) => println!("judged {name}: done"),
+            Err(refused) => println!("judged {name}: refused {refused}"),
+        }
     }
     println!("{:?} {:?}", table.read(a)?, table.read(b)?);
     print!("{}", table.report()?);

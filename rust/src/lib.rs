@@ -215,6 +215,55 @@ impl Async {
         };
         raw::Async { number }
     }
+
+    /// The queue in which copies wait, if they do.
+    fn queue(self) -> Option<u32> {
+        match self {
+            Async::Sync => None,
+            Async::NoValue => Some(0),
+            Async::Queue(number) => Some(number),
+        }
+    }
+}
+
+/// A directive that has no region's number, to be judged.
+#[derive(Clone, Copy, Debug, PartialEq, Eq)]
+pub enum Directive {
+    /// The start of a data construct (section 2.6.5).
+    Data,
+    /// `enter data` (section 2.6.6).
+    EnterData(Async),
+    /// `exit data` (section 2.6.6).
+    ExitData {
+        /// With the `finalize` clause.
+        finalize: bool,
+        /// Its `async` clause.
+        asynchronous: Async,
+    },
+    /// `update`.
+    Update {
+        /// With the `if_present` clause.
+        if_present: bool,
+        /// Its `async` clause.
+        asynchronous: Async,
+    },
+    /// `wait` for a queue, or for all of them.
+    Wait(Option<u32>),
+}
+
+impl Directive {
+    /// The directive on a device, as an event of the trace names it.
+    fn raw(self, device: u64) -> raw::Event {
+        let (kind, option, queue) = match self {
+            Directive::Data => (raw::ENTERED, false, None),
+            Directive::EnterData(asynchronous) => (raw::ENTERED_DATA, false, asynchronous.queue()),
+            Directive::ExitData { finalize, asynchronous } => (raw::EXITED_DATA, finalize, asynchronous.queue()),
+            Directive::Update { if_present, asynchronous } => (raw::UPDATED, if_present, asynchronous.queue()),
+            Directive::Wait(queue) => (raw::WAITED, false, queue),
+        };
+        let queue = queue.map_or(raw::NO_QUEUE_GIVEN, u64::from);
+        raw::Event { kind, option: u32::from(option), device, queue, ..raw::Event::default() }
+    }
 }
 
 fn raw_items(items: &[Item]) -> *const raw::Item {
@@ -330,6 +379,14 @@ impl Table {
         let queue = queue.map_or(raw::NO_QUEUE_GIVEN, u64::from);
         // SAFETY: as `Table` tells.
         made(|count, fault| unsafe { raw::lw_wait(&mut self.0, device, queue, count, fault) })
+    }
+
+    /// Judges a directive, and does not carry it out: it is refused for what its call would be. A wait has no items.
+    pub fn judge(&mut self, device: u64, directive: Directive, items: &[Item]) -> Result<(), Refused> {
+        let (asked, first, count) = (directive.raw(device), raw_items(items), items.len());
+        // SAFETY: as `Table` tells.
+        made(|_, fault| unsafe { raw::lw_judge(&mut self.0, &asked, first, count, fault) })?;
+        Ok(())
     }
 
     /// Makes room in the trace again, and returns how many events it had.

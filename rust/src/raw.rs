@@ -59,7 +59,29 @@ pub struct Async {
     pub number: i64,
 }
 
-pub const VERSION: u32 = 2001;
+#[repr(C)]
+#[derive(Clone, Copy, Debug, Default)]
+pub struct Event {
+    pub kind: u32,
+    pub option: u32,
+    pub device: u64,
+    pub queue: u64,
+    pub region: u64,
+    pub lease: u64,
+    pub block: u64,
+    pub start: u64,
+    pub len: u64,
+    pub count: u64,
+    pub stored: u64,
+}
+
+pub const ENTERED: u32 = 1;
+pub const ENTERED_DATA: u32 = 3;
+pub const EXITED_DATA: u32 = 4;
+pub const UPDATED: u32 = 5;
+pub const WAITED: u32 = 6;
+
+pub const VERSION: u32 = 2002;
 pub const DONE: u32 = 0;
 pub const FAULT_TEXT_SIZE: usize = 66;
 pub const NO_QUEUE_GIVEN: u64 = u64::MAX;
@@ -109,6 +131,13 @@ extern "C" {
         fault: &mut Fault,
     ) -> u32;
     pub fn lw_wait(table: &mut Table, device: u64, queue: u64, made: &mut u64, fault: &mut Fault) -> u32;
+    pub fn lw_judge(
+        table: &mut Table,
+        asked: &Event,
+        items: *const Item,
+        count: usize,
+        fault: &mut Fault,
+    ) -> u32;
     pub fn lw_host_write(table: &mut Table, start: u64, bytes: *const c_void, len: usize, fault: &mut Fault) -> u32;
     pub fn lw_host_read(table: &mut Table, start: u64, bytes: *mut c_void, len: usize, fault: &mut Fault) -> u32;
     pub fn lw_device_read(

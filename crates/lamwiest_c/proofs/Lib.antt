@@ -6,3 +6,4 @@ pub mod Copying
 pub mod Telling
 pub mod Looking
 pub mod Lasting
+pub mod Judged

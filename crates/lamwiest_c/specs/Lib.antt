@@ -8,5 +8,7 @@ pub mod Leases
 pub mod Finds
 pub mod Dids
 pub mod Events
+pub mod Holdings
+pub mod DryRuns
 pub mod Begins
 pub mod Shows

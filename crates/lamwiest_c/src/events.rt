@@ -224,7 +224,7 @@ fn update_number(clause: UpdateClause) -> u32
 }
 
 /// The item that asked a task, as C writes it. The clauses of `enter data` have the numbers of those of a region.
-fn item_asked(task: Task) -> RawItem
+pub fn item_asked(task: Task) -> RawItem
     ensures { result ≡ item_asked task }
 {
     let (clause, section, pointer) = match task {

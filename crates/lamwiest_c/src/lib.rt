@@ -10,9 +10,11 @@
 
 mod dids;
 mod directives;
+mod dry_runs;
 mod environments;
 mod events;
 mod handles;
+mod holdings;
 mod items;
 mod loans;
 mod lookups;

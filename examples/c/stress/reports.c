@@ -111,6 +111,23 @@ static uint64_t add_ended(run *run, text *text, const char *first)
     return taken;
 }
 
+/* Each copy that waits in a queue is of some bytes, on one way or the other, and there is none behind the last. */
+static void check_queue(run *run, uint64_t queue, uint64_t len)
+{
+    lw_waiting_copy copy;
+
+    for (uint64_t place = 0; place < len; place++) {
+        if (lw_transfer(&run->table, run->device, queue, place, &copy) != LW_DONE || copy.block == 0 ||
+            copy.len == 0 || copy.start < LW_HOST_BASE ||
+            copy.start + copy.len > LW_HOST_BASE + run->profile->host || (copy.way != LW_IN && copy.way != LW_OUT)) {
+            fail(run, "a copy that waits is none", 0);
+        }
+    }
+    if (lw_transfer(&run->table, run->device, queue, len, &copy) != LW_ABSENT) {
+        fail(run, "a copy waits behind the last one", 0);
+    }
+}
+
 static void add_queues(run *run, text *text)
 {
     for (uint64_t queue = 0; queue < QUEUES; queue++) {
@@ -119,6 +136,7 @@ static void add_queues(run *run, text *text)
         if (answer(run, lw_queue_len(&run->table, run->device, queue, &len), &len) != 0) {
             add(text, "queue %" PRIu64 " length %" PRIu64 "\n", queue, len);
         }
+        check_queue(run, queue, len);
     }
 }
 

@@ -42,6 +42,7 @@ static bool is_done(run *run, uint32_t status, const lw_fault *fault)
     if (fault->status != status || status >= STATUSES) {
         fail(run, "the fault has another status", status);
     }
+    want_judged(run, fault);
     run->said[status]++;
     if (status == LW_DONE) {
         if (fault->item != 0 || fault->value != 0) {
@@ -225,22 +226,26 @@ static size_t say_directive(run *run, const char *name, lw_item *items, const cl
     return count;
 }
 
-/* A directive that may have a queue, and an option, left this event. */
-static void want_directive(run *run, uint32_t kind, const lw_item *items, size_t count, const options *options)
+/* The event of a directive that may have a queue, and an option. */
+static lw_stored_event event_of(const run *run, uint32_t kind, size_t count, const options *options)
 {
-    want_event(run, (lw_stored_event){.kind = kind, .option = options->has_word, .device = run->device,
-                                      .queue = options->queue, .count = count}, items, NULL);
+    return (lw_stored_event){.kind = kind, .option = options->has_word, .device = run->device,
+                             .queue = options->queue, .count = count};
 }
 
 static void enter(run *run, const lw_item *items, size_t count)
 {
+    lw_stored_event entered = {.kind = LW_ENTERED, .device = run->device, .queue = LW_NO_QUEUE_GIVEN, .count = count};
     uint64_t region = UNTOUCHED;
     lw_fault fault;
-    uint32_t status = lw_enter(&run->table, run->device, items, count, &region, &fault);
+    uint32_t status;
 
+    judge(run, entered, items, count);
+    status = lw_enter(&run->table, run->device, items, count, &region, &fault);
     if (is_answered(run, status, &fault, region)) {
-        want_event(run, (lw_stored_event){.kind = LW_ENTERED, .device = run->device, .queue = LW_NO_QUEUE_GIVEN,
-                                          .region = region, .count = count}, items, NULL);
+        entered.region = region;
+        want_event(run, entered, items, NULL);
+        want_held(run, region, items, count);
         run->entered[run->depth] = count;
         run->on[run->depth] = run->device;
         run->regions[run->depth++] = region;
@@ -257,14 +262,19 @@ static void say_data(run *run)
 
 void say_end_data(run *run)
 {
+    const size_t last = run->depth - 1;
+    const lw_stored_event left = {.kind = LW_EXITED, .device = run->on[last], .queue = LW_NO_QUEUE_GIVEN,
+                                  .region = run->regions[last], .count = run->entered[last]};
     lw_fault fault;
 
     say(run, "end data");
     end_line(run);
-    if (is_done(run, lw_exit(&run->table, run->regions[run->depth - 1], &fault), &fault)) {
-        run->left = run->regions[--run->depth];
-        want_event(run, (lw_stored_event){.kind = LW_EXITED, .device = run->on[run->depth], .queue = LW_NO_QUEUE_GIVEN,
-                                          .region = run->left, .count = run->entered[run->depth]}, NULL, NULL);
+    judge(run, left, NULL, 0);
+    if (is_done(run, lw_exit(&run->table, left.region, &fault), &fault)) {
+        run->left = left.region;
+        run->depth--;
+        want_event(run, left, NULL, NULL);
+        want_held(run, left.region, NULL, 0);
     }
 }
 
@@ -273,10 +283,12 @@ static void say_enter_data(run *run)
     lw_item items[ITEMS_DRAWN];
     options options = draw_options(run, NULL);
     size_t count = say_directive(run, "enter data", items, OF_ENTER_DATA, LENGTH_OF(OF_ENTER_DATA), &options);
+    lw_stored_event entered = event_of(run, LW_ENTERED_DATA, count, &options);
     lw_fault fault;
 
+    judge(run, entered, items, count);
     if (is_done(run, lw_enter_data(&run->table, run->device, items, count, async_of(options.queue), &fault), &fault)) {
-        want_directive(run, LW_ENTERED_DATA, items, count, &options);
+        want_event(run, entered, items, NULL);
     }
 }
 
@@ -285,12 +297,14 @@ static void say_exit_data(run *run)
     lw_item items[ITEMS_DRAWN];
     options options = draw_options(run, "finalize");
     size_t count = say_directive(run, "exit data", items, OF_EXIT_DATA, LENGTH_OF(OF_EXIT_DATA), &options);
+    lw_stored_event exited = event_of(run, LW_EXITED_DATA, count, &options);
     lw_fault fault;
-    uint32_t status =
-        lw_exit_data(&run->table, run->device, items, count, options.has_word, async_of(options.queue), &fault);
+    uint32_t status;
 
+    judge(run, exited, items, count);
+    status = lw_exit_data(&run->table, run->device, items, count, options.has_word, async_of(options.queue), &fault);
     if (is_done(run, status, &fault)) {
-        want_directive(run, LW_EXITED_DATA, items, count, &options);
+        want_event(run, exited, items, NULL);
     }
 }
 
@@ -299,12 +313,14 @@ static void say_update(run *run)
     lw_item items[ITEMS_DRAWN];
     options options = draw_options(run, "if_present");
     size_t count = say_directive(run, "update", items, OF_UPDATE, LENGTH_OF(OF_UPDATE), &options);
+    lw_stored_event updated = event_of(run, LW_UPDATED, count, &options);
     lw_fault fault;
-    uint32_t status =
-        lw_update(&run->table, run->device, items, count, options.has_word, async_of(options.queue), &fault);
+    uint32_t status;
 
+    judge(run, updated, items, count);
+    status = lw_update(&run->table, run->device, items, count, options.has_word, async_of(options.queue), &fault);
     if (is_done(run, status, &fault)) {
-        want_directive(run, LW_UPDATED, items, count, &options);
+        want_event(run, updated, items, NULL);
     }
 }
 
@@ -312,6 +328,7 @@ static void say_update(run *run)
    it is one event. */
 static void say_nothing(run *run)
 {
+    static const options NONE = {.queue = LW_NO_QUEUE_GIVEN};
     lw_fault fault;
 
     switch (draw(run, 4)) {
@@ -323,11 +340,13 @@ static void say_nothing(run *run)
     case 1:
         say(run, "enter data create(a[0:0])");
         end_line(run);
+        judge(run, event_of(run, LW_ENTERED_DATA, 0, &NONE), NULL, 0);
         is_done(run, lw_enter_data(&run->table, run->device, NULL, 0, LW_ASYNC_SYNC, &fault), &fault);
         break;
     case 2:
         say(run, "update self(a[0:0])");
         end_line(run);
+        judge(run, event_of(run, LW_UPDATED, 0, &NONE), NULL, 0);
         is_done(run, lw_update(&run->table, run->device, NULL, 0, false, LW_ASYNC_SYNC, &fault), &fault);
         break;
     default: /* a write of no bytes */
@@ -340,6 +359,7 @@ static void say_nothing(run *run)
 static void say_wait(run *run)
 {
     uint64_t queue = is_drawn(run, 4) ? LW_NO_QUEUE_GIVEN : draw_queue(run);
+    lw_stored_event waited = {.kind = LW_WAITED, .device = run->device, .queue = queue};
     uint64_t made = UNTOUCHED;
     lw_fault fault;
     uint32_t status;
@@ -349,30 +369,43 @@ static void say_wait(run *run)
         say(run, "(%" PRIu64 ")", queue);
     }
     end_line(run);
+    judge(run, waited, NULL, 0);
     status = lw_wait(&run->table, run->device, queue, &made, &fault);
     if (is_answered(run, status, &fault, made)) {
-        want_event(run, (lw_stored_event){.kind = LW_WAITED, .device = run->device, .queue = queue, .count = made},
-                   NULL, NULL);
+        waited.count = made;
+        want_event(run, waited, NULL, NULL);
     }
 }
 
 static void say_step(run *run)
 {
     uint64_t queue = draw_queue(run);
+    const lw_stored_event stepped = {.kind = LW_STEPPED, .device = run->device, .queue = queue};
     uint64_t made = UNTOUCHED;
+    lw_waiting_copy copy;
+    lw_item_did did;
+    bool waits;
     lw_fault fault;
     uint32_t status;
 
     say(run, "step(%" PRIu64 ")", queue);
     end_line(run);
+    judge(run, stepped, NULL, 0);
+    waits = lw_transfer(&run->table, run->device, queue, 0, &copy) == LW_DONE;
     status = lw_step(&run->table, run->device, queue, &made, &fault);
     if (!is_answered(run, status, &fault, made)) {
         return;
     }
+    if (made != waits) {
+        fail(run, "a step makes a copy that does not wait, or none that does", 0);
+    }
     if (made == 0) {
         fprintf(run->wanted, "idle\n");
-    } else {
-        want_event(run, (lw_stored_event){.kind = LW_STEPPED, .device = run->device, .queue = queue}, NULL, NULL);
+        return;
+    }
+    want_event(run, stepped, NULL, NULL);
+    if (lw_did(&run->table, 0, &did) != LW_DONE || did.block != copy.block) {
+        fail(run, "a step makes another copy than the first one that waits", 0);
     }
 }
 

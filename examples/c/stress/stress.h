@@ -77,6 +77,8 @@ typedef struct run {
     uint64_t entered[REGIONS_MAX]; /* how many items each was entered with */
     size_t depth;
     uint64_t left;  /* the region that was exited last, or 0 */
+    lw_fault judged;  /* what the next directive has to answer, where it is judged */
+    bool is_judged;
     uint64_t spent; /* the lease that was brought back last, or 0 */
     FILE *script; /* what accrun reads */
     FILE *wanted; /* what it has to print */
@@ -162,6 +164,17 @@ void check_report(run *run, const char *report, size_t len);
 
 /* Ends the program where the last stored event is not this one, but for its block, with these items and bytes. */
 void want_event(run *run, lw_stored_event wanted, const lw_item *items, const void *bytes);
+
+/* ---- foretold.c ---- */
+
+/* Judges a directive that is made next. */
+void judge(run *run, lw_stored_event asked, const lw_item *items, size_t count);
+
+/* Ends the program where the directive that was judged last answers otherwise. */
+void want_judged(run *run, const lw_fault *fault);
+
+/* Ends the program where a region that was entered last does not hold what its items did. */
+void want_held(run *run, uint64_t region, const lw_item *items, size_t count);
 
 /* ---- unsaid.c: what no script can say ---- */
 

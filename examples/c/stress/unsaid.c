@@ -91,25 +91,33 @@ static void fill(run *run, directive directive, lw_item *items, size_t count)
     }
 }
 
-/* Makes the directive. What it must not answer stays untouched. */
+/* Makes the directive, which was judged to answer the same. What it must not answer stays untouched. */
 static uint32_t make(run *run, directive directive, const lw_item *items, size_t count, uint64_t queue,
                      lw_fault *fault)
 {
+    static const uint32_t KINDS[DIRECTIVES] = {LW_ENTERED, LW_ENTERED_DATA, LW_EXITED_DATA, LW_UPDATED};
+    const uint32_t option = is_drawn(run, 2);
     uint64_t region = UNTOUCHED;
     uint32_t status;
 
+    judge(run, (lw_stored_event){.kind = KINDS[directive], .option = option, .device = run->device, .queue = queue},
+          items, count);
     switch (directive) {
     case DATA:
         status = lw_enter(&run->table, run->device, items, count, &region, fault);
         want_untouched(run, "a region that was not entered has a number", region);
-        return status;
+        break;
     case ENTERING:
-        return lw_enter_data(&run->table, run->device, items, count, async_of(queue), fault);
+        status = lw_enter_data(&run->table, run->device, items, count, async_of(queue), fault);
+        break;
     case EXITING:
-        return lw_exit_data(&run->table, run->device, items, count, is_drawn(run, 2), async_of(queue), fault);
+        status = lw_exit_data(&run->table, run->device, items, count, option, async_of(queue), fault);
+        break;
     default:
-        return lw_update(&run->table, run->device, items, count, is_drawn(run, 2), async_of(queue), fault);
+        status = lw_update(&run->table, run->device, items, count, option, async_of(queue), fault);
     }
+    want_judged(run, fault);
+    return status;
 }
 
 /* The first clause number that is none of the directive's is told before all else. */

@@ -10,7 +10,7 @@ ghost use Rattle.lamwiest_c.specs.Answers.{number_in, IsMadeIn, IsAsked, IsRebas
 
 use crate::items::{RawItem, items_of, queue_asked};
 use crate::statuses::Refusal;
-use acc_base::{Config, Directive, List};
+use acc_base::{Config, Directive};
 use acc_index::Index;
 use acc_lend::Lease;
 use acc_table::{Call, Reply, Table, abandon};
@@ -187,14 +187,13 @@ impl TableWithLeases {
         })
     }
 
-    /// Writes bytes into host memory from a host address on. Errors are those of the table, or `Memory`.
-    pub fn host_write(&mut self, alloc: Global, addr: u64, bytes: &[u8]) -> Result<u64, Refusal>
-        ensures { IsAsked self.old (Ok (HostWrite addr bytes.now)) (λ r. result ≡ r) self.new }
+    /// Writes bytes into host memory from a host address on. They are copied once; with full traces the event has a
+    /// second copy. Errors are those of the table.
+    pub fn host_write(&mut self, addr: u64, bytes: &[u8]) -> Result<u64, Refusal>
+        ensures { IsMadeIn self.old (HostWrite addr bytes.now) (λ r. result ≡ r) self.new }
     {
-        let mut copy = Vec::new(alloc);
-        copy.extend_from_slice(bytes)?;
-        let bytes = List::from_vec(copy);
-        self.make(Call::HostWrite { addr, bytes })
+        self.table.host_write(addr, bytes)?;
+        Ok(number_in(Reply::Done))
     }
 
     /// Makes what the table has its base, and returns how many events that folded; `Memory` is the only error.

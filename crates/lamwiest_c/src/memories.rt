@@ -7,7 +7,7 @@ ghost use Rattle.acc_base.specs.Devices.{view};
 ghost use Rattle.acc_table.specs.Queries.{host_read_of, device_read_of};
 ghost use Rattle.lamwiest_c.specs.declared.statuses.Refusal.TheVariants.{Absent, OfTable};
 ghost use Rattle.lamwiest_c.specs.Statuses.{IsAnswered, IsNumberAnswered};
-ghost use Rattle.lamwiest_c.specs.Answers.{section_at, IsAsked, IsOf};
+ghost use Rattle.lamwiest_c.specs.Answers.{section_at, IsMadeIn, IsOf};
 ghost use Rattle.lamwiest_c.specs.Finds.{IsCopied, array_at};
 
 use crate::environments::TableWithLeases;
@@ -95,12 +95,12 @@ pub extern "C" fn lamwiest_host_write(
     fault: &mut FaultFields,
 ) -> u32
     ensures { IsOf table.old.value table.new.value (IsAnswered result fault.new)
-        (λ e v. IsAsked e (Ok (HostWrite start bytes.now)) (IsAnswered result fault.new) v) }
+        (λ e v. IsMadeIn e (HostWrite start bytes.now) (IsAnswered result fault.new) v) }
 {
     let Some(mut environment) = take_out(alloc, table) else {
         return tell(Err(Refusal::Ended), fault);
     };
-    let made = environment.host_write(alloc, start, bytes);
+    let made = environment.host_write(start, bytes);
     put_back(table, environment);
     tell(made, fault)
 }

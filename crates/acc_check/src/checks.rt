@@ -170,7 +170,7 @@ impl Check {
         let trace = table.trace();
         for at in self.seen..trace.len() {
             if let Some(event) = trace.get(at) {
-                self.see_event(table, at, event)?;
+                self.see_event(table, event)?;
             }
         }
         self.seen = trace.len();

@@ -2,36 +2,16 @@
 
 use crate::checks::Check;
 use crate::histories::{Deed, Done};
-use acc_base::{Did, Event, Fault, Found, Section, Task};
+use acc_base::{Event, Fault, Found, Section};
 use acc_stale::{Part, Placed};
 use acc_table::Table;
 
 impl Check {
-    /// Tells what an event did, which stands at a place of the trace.
-    pub(crate) fn see_event(
-        &mut self,
-        table: &Table,
-        at: usize,
-        event: &Event,
-    ) -> Result<(), Fault> {
+    /// Tells what an event did.
+    pub(crate) fn see_event(&mut self, table: &Table, event: &Event) -> Result<(), Fault> {
+        let line = self.looks.line;
+        self.tracker.seen(event, line, &mut self.looks)?;
         match event {
-            Event::Entered { .. } => {
-                self.tracker.account.open(at)?;
-                self.see_items(event)
-            }
-            Event::Left { .. } => self.see_exit(table.trace(), event),
-            Event::EnteredData { .. } | Event::ExitedData { .. } | Event::Updated { .. } => {
-                self.see_items(event)
-            }
-            _ => self.see_short(table, event.device(), event),
-        }
-    }
-
-    /// Tells what an event did that names no item.
-    fn see_short(&mut self, table: &Table, device: u64, event: &Event) -> Result<(), Fault> {
-        match event {
-            Event::Waited { queue, .. } => { self.tracker.waited(device, *queue, &mut self.looks) }
-            Event::Stepped { queue, .. } => self.tracker.made(device, *queue, &mut self.looks),
             Event::HostWritten { addr, len, .. } => {
                 let section = Section {
                     start: *addr,
@@ -39,44 +19,12 @@ impl Check {
                 };
                 self.see_write(table, section)
             }
-            Event::Lent { block, .. } => self.find_in_kernel(table, device, *block),
-            Event::Gathered { block, .. } => self.see_kernel(table, device, *block),
+            Event::Lent { device, block, .. } => self.find_in_kernel(table, *device, *block),
+            Event::Gathered { device, block, .. } => self.see_kernel(table, *device, *block),
             _ => Ok(()),
         }
     }
 
-    // ---- items
-
-    fn see_items(&mut self, event: &Event) -> Result<(), Fault> {
-        for (place, did) in event.did().iter().enumerate() {
-            if let Some(task) = event.task(place) {
-                self.see_item(event.device(), task, *did)?;
-            }
-        }
-        Ok(())
-    }
-
-    /// The items of a region are undone from the last to the first.
-    fn see_exit(&mut self, trace: &[Event], event: &Event) -> Result<(), Fault> {
-        let Some(entry) = self.tracker.account.close().and_then(|at| trace.get(at)) else {
-            return Ok(());
-        };
-        for (place, did) in event.did().iter().enumerate().rev() {
-            if let Some(task) = entry.exit_task(place) {
-                self.see_item(event.device(), task, *did)?;
-            }
-        }
-        Ok(())
-    }
-
-    /// Tells what an item did, and what of it is to be looked at.
-    fn see_item(&mut self, device: u64, task: Task, did: Did) -> Result<(), Fault> {
-        let line = self.looks.line;
-        self.tracker.acted(device, task, did, line, &mut self.looks)
-    }
-}
-
-impl Check {
     /// Tells what the host wrote, and which devices have part of it.
     fn see_write(&mut self, table: &Table, section: Section) -> Result<(), Fault> {
         let mut parts = Vec::new(self.alloc);

@@ -1,5 +1,5 @@
 -- An account after each change: what it says of a block, and of a pointer.
-use Rattle.std.proofs.Common.{◌≡◌, ◌≢◌, ℕ, suc, ◌<◌, ◌≤◌, ◌+◌, Bool, true, false, ◌&&◌, ◌==◌, not, cond, List, [], ◌∷◌, map, length, get_or, Some, None, unwrap_or, option_map, refl, sym, ap, ap₂, subst, ◌∙◌, arith}
+use Rattle.std.proofs.Common.{Vec, Global, Option, ◌≡◌, ◌≢◌, ℕ, suc, ◌<◌, ◌≤◌, ◌+◌, Bool, true, false, ◌&&◌, ◌==◌, not, cond, List, [], ◌∷◌, map, length, get_or, Some, None, unwrap_or, option_map, refl, sym, ap, ap₂, subst, ◌∙◌, arith}
 use Rattle.std.specs.Prelude.{nat_lt}
 use Rattle.std.specs.List.{find, position, position_or_len, remove, slice_get, AllByRecursion}
 use Rattle.std.specs.List.Sorted.{IsStrictlySortedBy}
@@ -14,10 +14,11 @@ use Rattle.std.proofs.lemmas.Option.{slice_get_past, slice_get-get_or}
 use Rattle.std.proofs.lemmas.List.Folds.{find_at}
 use Rattle.acc_base.specs.declared.attachments.Attachment.{Attachment}
 use Rattle.acc_base.specs.Attachments.{is_of, is_before, count_at, with_attachment, without_attachment}
+use Rattle.acc_base.specs.declared.tasks.Task.{Task}
 use Rattle.acc_stale.specs.declared.accounts.Block.{Block}
 use Rattle.acc_stale.specs.declared.accounts.Waiting.{Waiting}
 use Rattle.acc_stale.specs.declared.accounts.Account.{Account}
-use Rattle.acc_stale.specs.Accounts.{ToldBlock, by_number, counted, told_of, attached_at, IsChanged, recounted, IsRecounted, without_first}
+use Rattle.acc_stale.specs.Accounts.{ToldBlock, by_number, counted, told_of, attached_at, IsChanged, recounted, IsRecounted, without_first, IsRegionChanged}
 
 -- ---- a block
 
@@ -215,3 +216,14 @@ pub none_taken : (test : Waiting → Bool) (ws : List Waiting) → position test
 none_taken test ws e =
     let past : length ws ≤ position_or_len test ws = place_none _ _ e in
     (stays test ws past, find_at test ws ∙ slice_get_past ws (position_or_len test ws) past)
+
+-- ---- a region
+
+pub region_written : (d number : ℕ) (old new : Account) (now : Option (Vec Task Global)) → UpdatesBy by_number (by_number (d, number)) old.regions new.regions now → new.blocks ≡ old.blocks → new.waiting ≡ old.waiting
+    → IsRegionChanged d number (option_map (λ (tasks : Vec Task Global). tasks.items) now) old new
+region_written d number old new now updates blocks waiting = record {
+  here = ap (option_map (λ (tasks : Vec Task Global). tasks.items)) updates.1;
+  others = λ e n other. ap (option_map (λ (tasks : Vec Task Global). tasks.items)) (updates.2 (e, n) (apart d number e n other));
+  blocks = λ e b. ap (λ m. option_map (told_of b) (get by_number m (e, b))) blocks;
+  waiting = waiting;
+}

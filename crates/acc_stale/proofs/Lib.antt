@@ -15,3 +15,5 @@ pub mod Aiming
 pub mod Fitting
 pub mod Draining
 pub mod Beginning
+pub mod Turning
+pub mod Leaving

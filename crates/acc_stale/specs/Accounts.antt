@@ -4,6 +4,7 @@ use Rattle.std.specs.BTreeMap.{get}
 use Rattle.std.specs.declared.cmp.Ordering.{Ordering}
 use Rattle.std.specs.Ordering.{nat_cmp, ordering_then}
 use Rattle.acc_base.specs.declared.attachments.Attachment.{Attachment}
+use Rattle.acc_base.specs.declared.tasks.Task.{Task}
 use Rattle.acc_base.specs.declared.transfers.Transfer.{Transfer}
 use Rattle.acc_base.specs.Attachments.{with_count}
 use Rattle.acc_stale.specs.declared.accounts.Held.{Held}
@@ -69,3 +70,21 @@ without_first test (w ∷ ws) = if test w then ws else w ∷ without_first test 
 -- the transfers of a queue, the oldest first
 abbrev pub waiting_in : ℕ → ℕ → List Waiting → List Transfer
 waiting_in d q waiting = map (λ w. w.transfer) (filter (is_in d q) waiting)
+
+-- ---- open regions
+
+-- what the exit from an open region asks, of the first item first
+abbrev pub undone_at : ℕ → ℕ → Account → Option (List Task)
+undone_at d number a = option_map (λ tasks. tasks.items) (get by_number a.regions (d, number))
+
+-- an account says this of one region now, and of all else what it did
+pub record IsRegionChanged (d number : ℕ) (now : Option (List Task)) (old new : Account) : Type 0 where
+  pub here : undone_at d number new ≡ now
+  pub others : (e n : ℕ) → (e == d && n == number) ≡ false → undone_at e n new ≡ undone_at e n old
+  pub blocks : HasSameBlocks old new
+  pub waiting : new.waiting ≡ old.waiting
+
+-- the same, whatever blocks and queues
+pub record IsRegionOpened (d number : ℕ) (now : Option (List Task)) (old new : Account) : Type 0 where
+  pub here : undone_at d number new ≡ now
+  pub others : (e n : ℕ) → (e == d && n == number) ≡ false → undone_at e n new ≡ undone_at e n old

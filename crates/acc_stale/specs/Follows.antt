@@ -1,6 +1,6 @@
 -- When an account says of a device what its records say: where blocks lie, how often their pointers are attached, and
 -- which transfers wait.
-use Rattle.std.specs.Prelude.{ℕ, ◌≡◌, ◌<◌, ◌+◌, ◌^◌, true, ⊤, Option, Some, IsSome}
+use Rattle.std.specs.Prelude.{ℕ, ◌≡◌, ◌<◌, ◌+◌, ◌^◌, true, ⊤, Option, Some, IsSome, List, map, length}
 use Rattle.std.specs.Option.{IsSomeAnd}
 use Rattle.acc_base.specs.declared.attachments.Aim.{Aim}
 use Rattle.acc_base.specs.declared.attachments.Aim.TheVariants as aims
@@ -12,10 +12,18 @@ use Rattle.acc_base.specs.Ranges.{range_of}
 use Rattle.acc_base.specs.Blocks.{block_at, place_of}
 use Rattle.acc_base.specs.Attachments.{count_at}
 use Rattle.acc_base.specs.Queues.{queue_at}
-use Rattle.acc_base.specs.Records.{Records}
+use Rattle.acc_base.specs.declared.events.Event.{Event}
+use Rattle.acc_base.specs.declared.regions.Holding.{Holding}
+use Rattle.acc_base.specs.declared.tasks.Task.TheVariants.{ExitRegion}
+use Rattle.acc_base.specs.Limits.{Limits, IsWithinBounds}
+use Rattle.acc_base.specs.Register.{Register, holdings_at}
+use Rattle.acc_base.specs.Records.{Records, State, layout_of}
+use Rattle.acc_base.specs.Devices.{Whole, device_in, view}
+use Rattle.acc_base.specs.History.{NamesRight}
+use Rattle.acc_base.specs.Accounts.{AreRecordsSound, IsRegisterSound, IsMadeIn}
 use Rattle.acc_stale.specs.declared.accounts.Account.{Account}
 use Rattle.acc_stale.specs.Events.{pointers_of}
-use Rattle.acc_stale.specs.Accounts.{ToldBlock, told_at, waiting_in}
+use Rattle.acc_stale.specs.Accounts.{ToldBlock, told_at, waiting_in, undone_at}
 
 -- a block lies where it is told, and these are its attached pointers
 pub record IsBlockTold (d block : ℕ) (w : Records) (t : ToldBlock) : Type 0 where
@@ -38,6 +46,34 @@ pub record AreBlocksTold (d : ℕ) (told : ℕ → Option ToldBlock) (w : Record
 pub record FollowsDevice (d : ℕ) (a : Account) (w : Records) : Type 0 where
   pub told : AreBlocksTold d (λ block. told_at d block a) w
   pub queues : (q : ℕ) → q < QUEUE_COUNT → waiting_in d q a.waiting.items ≡ queue_at q w.queues
+
+-- what the exits from the open regions of a device ask is told
+abbrev pub AreRegionsTold : ℕ → Account → Register → Type 0
+AreRegionsTold d a g = (number : ℕ) (holdings : List Holding) → holdings_at number g.regions ≡ Some holdings → undone_at d number a ≡ Some (map ExitRegion holdings)
+
+-- an account follows what a device has
+pub record FollowsState (d : ℕ) (a : Account) (s : State) : Type 0 where
+  pub device : FollowsDevice d a s.records
+  pub regions : AreRegionsTold d a s.register
+
+-- an account follows all devices
+abbrev pub FollowsWhole : Account → Whole → Type 0
+FollowsWhole a w = (d : ℕ) → FollowsState d a (view d w)
+
+-- ---- an event that was accepted
+
+-- it names what is there, and did what its items are judged to do, in a state that is sound
+pub record IsEventIn (l : Limits) (e : Event) (s : State) : Type 0 where
+  pub bounds : IsWithinBounds l
+  pub sound : AreRecordsSound l s.records
+  pub register : IsRegisterSound s.register
+  pub names : NamesRight l e (layout_of s)
+  pub made : IsMadeIn l e s
+
+-- the same on its device, which is there
+pub record IsEventOf (l : Limits) (e : Event) (w : Whole) : Type 0 where
+  pub there : device_in e < length w.devices
+  pub event : IsEventIn l e (view (device_in e) w)
 
 -- ---- what an item has to be, so that an account tells it
 

@@ -3,13 +3,18 @@ use Rattle.std.specs.Prelude.{ℕ, ◌≡◌, ◌+◌, ◌-◌, ◌^◌, min, tr
 use Rattle.acc_base.specs.declared.attachments.Attachment.{Attachment}
 use Rattle.acc_base.specs.declared.attachments.Aim.{Aim}
 use Rattle.acc_base.specs.declared.attachments.Aim.TheVariants as aims
+use Rattle.acc_base.specs.declared.events.Did.{Did}
+use Rattle.acc_base.specs.declared.events.Event.{Event}
 use Rattle.acc_base.specs.declared.events.Step.{Step}
 use Rattle.acc_base.specs.declared.events.Step.TheVariants.{Born, Dropped, Moved}
 use Rattle.acc_base.specs.declared.items.Section.{Section}
+use Rattle.acc_base.specs.declared.tasks.Task.{Task}
 use Rattle.acc_base.specs.declared.transfers.Transfer.{Transfer}
 use Rattle.acc_base.specs.Queues.{head_of}
 use Rattle.acc_base.specs.Records.{Records, State}
 use Rattle.acc_base.specs.Waits.{drained}
+use Rattle.acc_base.specs.Acting.{act_all_state}
+use Rattle.acc_base.specs.Devices.{Whole, device_in, view, after_told}
 use Rattle.acc_stale.specs.declared.accounts.Account.{Account}
 use Rattle.acc_stale.specs.declared.accounts.Held.{Held}
 use Rattle.acc_stale.specs.declared.accounts.Waiting.{Waiting}
@@ -17,9 +22,9 @@ use Rattle.acc_stale.specs.declared.known.Placed.{Placed}
 use Rattle.acc_stale.specs.Accounts.{told_at, attached_at, HasSameBlocks, IsChanged}
 use Rattle.acc_stale.specs.declared.tellings.NextTold.{NextTold}
 use Rattle.acc_stale.specs.declared.trackers.Tracker.{Tracker}
-use Rattle.acc_stale.specs.Events.{known_drained}
+use Rattle.acc_stale.specs.Events.{known_all, known_drained, known_written, known_after}
 use Rattle.acc_stale.specs.Told.{IsNextTold}
-use Rattle.acc_stale.specs.Follows.{FollowsDevice}
+use Rattle.acc_stale.specs.Follows.{FollowsDevice, FollowsWhole}
 
 -- ---- a step
 
@@ -93,3 +98,18 @@ LeavesOthers d old new = (e : ℕ) (w : Records) → (e == d) ≡ false → Foll
 pub record IsDrained (d : ℕ) (qs : List ℕ) (s : State) (old new : Tracker) : Type 0 where
   pub known : new.known ≡ known_drained d qs s old.known
   pub follows : FollowsDevice d new.account (drained qs s).records
+
+-- ---- items
+
+-- after these items, one after the other, what is known and the account are the model's
+pub record AreActed (d : ℕ) (tasks : List Task) (dids : List Did) (s : State) (old new : Tracker) : Type 0 where
+  pub known : new.known ≡ known_all d tasks dids s old.known
+  pub follows : FollowsDevice d new.account (act_all_state tasks dids s).records
+
+-- ---- an event
+
+-- what is known after it is what a write of the host or a lease that is back makes of what is known now, and the account
+-- follows all devices
+pub record IsEventTold (e : Event) (w : Whole) (old new : Tracker) : Type 0 where
+  pub known : known_after e w old.known ≡ known_written e w (view (device_in e) w) new.known
+  pub follows : FollowsWhole new.account (after_told e w)

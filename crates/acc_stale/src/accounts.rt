@@ -1,14 +1,14 @@
 //! What the events of a table say of its blocks, pointers, queues and regions, as far as the marks have to be told it.
 
-ghost use Rattle.std.specs.Prelude.{◌≡◌, ℕ, ◌&&◌, ◌==◌, ◌++◌, ◌∷◌, [], Option, Some, OnOk, IfOk, option_map, length, filter};
+ghost use Rattle.std.specs.Prelude.{◌≡◌, ℕ, ◌&&◌, ◌==◌, ◌++◌, ◌∷◌, [], Option, Some, None, OnOk, IfOk, option_map, length, filter};
 ghost use Rattle.std.specs.List.{find, position};
 ghost use Rattle.acc_base.specs.Attachments.{count_at};
 ghost use Rattle.acc_base.specs.Records.{new_records};
 ghost use Rattle.acc_stale.specs.Follows.{FollowsDevice};
-ghost use Rattle.acc_stale.specs.Accounts.{is_in, without_first, told_at, attached_at, IsChanged, IsRecounted, HasSameBlocks};
+ghost use Rattle.acc_stale.specs.Accounts.{is_in, without_first, told_at, attached_at, IsChanged, IsRecounted, HasSameBlocks, undone_at, IsRegionChanged};
 
 use crate::known::Placed;
-use acc_base::{Attachment, Section, Transfer};
+use acc_base::{Attachment, Section, Task, Transfer};
 use std::alloc::{AllocError, Global};
 use std::collections::{BTreeMap, VecDeque};
 
@@ -50,8 +50,8 @@ pub struct Account {
     blocks: BTreeMap<(u64, u64), Block>,
     /// The transfers that wait, in the order in which they were put.
     waiting: VecDeque<Waiting>,
-    /// The places in the trace of the entries to the open regions, the innermost last.
-    regions: Vec<usize>,
+    /// What the exits from the open regions ask, of the first item first, by their devices and numbers.
+    regions: BTreeMap<(u64, u64), Vec<Task>>,
 }
 
 impl Account {
@@ -63,7 +63,7 @@ impl Account {
             alloc,
             blocks: BTreeMap::new(alloc),
             waiting: VecDeque::new(alloc),
-            regions: Vec::new(alloc),
+            regions: BTreeMap::new(alloc),
         }
     }
 
@@ -81,6 +81,7 @@ impl Account {
     /// `AllocError` alone, as with those that follow. The account is not to be asked any more then.
     pub(crate) fn born(&mut self, held: Held) -> Result<(), AllocError>
         ensures ok { OnOk result (IsChanged held.placed.device held.placed.block (Some (record { held = held; attached = [] })) self.old self.new) }
+        ensures regions { self.new.regions ≡ self.old.regions }
     {
         let key = (held.placed.device, held.placed.block);
         let pointers = BTreeMap::new(self.alloc);
@@ -119,6 +120,7 @@ impl Account {
         count: u64,
     ) -> Result<(), AllocError>
         ensures ok { OnOk result (IsRecounted device block pointer count self.old self.new) }
+        ensures regions { self.new.regions ≡ self.old.regions }
     {
         let Some(found) = self.blocks.get_mut(&(device, block)) else {
             return Ok(());
@@ -154,6 +156,7 @@ impl Account {
     pub(crate) fn put(&mut self, waiting: Waiting) -> Result<(), AllocError>
         ensures ok { OnOk result (self.new.waiting.items ≡ self.old.waiting.items ++ waiting ∷ []) }
         ensures blocks { HasSameBlocks self.old self.new }
+        ensures regions { self.new.regions ≡ self.old.regions }
     {
         self.waiting.push_back(waiting)?;
         Ok(())
@@ -164,6 +167,7 @@ impl Account {
         ensures taken { result ≡ option_map (λ w. w.transfer) (find (is_in device queue) self.old.waiting.items) }
         ensures left { self.new.waiting.items ≡ without_first (is_in device queue) self.old.waiting.items }
         ensures blocks { HasSameBlocks self.old self.new }
+        ensures regions { self.new.regions ≡ self.old.regions }
     {
         let nth = self.first_in(device, queue)?;
         match self.waiting.remove(nth) {
@@ -200,22 +204,25 @@ impl Account {
 
     // ---- regions
 
-    /// Keeps that a region is open, by the place of its entry in the trace.
-    pub fn open(&mut self, at: usize) -> Result<(), AllocError>
-        ensures blocks { HasSameBlocks self.old self.new }
-        ensures waiting { self.new.waiting ≡ self.old.waiting }
-        ensures ok { OnOk result (self.new.regions.items ≡ self.old.regions.items ++ at ∷ []) }
+    /// Keeps what the exit from a region asks (OpenACC 3.3, section 2.6.5).
+    pub(crate) fn open(
+        &mut self,
+        device: u64,
+        number: u64,
+        tasks: Vec<Task>,
+    ) -> Result<(), AllocError>
+        ensures ok { OnOk result (IsRegionChanged device number (Some tasks.items) self.old self.new) }
     {
-        self.regions.push(at)?;
+        self.regions.insert((device, number), tasks)?;
         Ok(())
     }
 
-    /// Drops the innermost region, and returns the place of its entry in the trace.
-    pub fn close(&mut self) -> Option<usize>
-        ensures blocks { HasSameBlocks self.old self.new }
-        ensures waiting { self.new.waiting ≡ self.old.waiting }
+    /// Drops a region, and returns what the exit from it asks.
+    pub(crate) fn close(&mut self, device: u64, number: u64) -> Option<Vec<Task>>
+        ensures undone { option_map (λ tasks. tasks.items) result ≡ undone_at device number self.old }
+        ensures closed { IsRegionChanged device number None self.old self.new }
     {
-        self.regions.pop()
+        self.regions.remove(&(device, number))
     }
 }
 

@@ -3,6 +3,7 @@
 
 mod accounts;
 mod changes;
+mod events;
 mod items;
 mod known;
 mod marks;

@@ -70,6 +70,7 @@ impl Account {
         ensures transfer { IfOk result (λ told. (l : Limits) (n : ℕ) (s : State) → IsWithinBounds l → AreRecordsSound l s.records → judge_task l n task s ≡ Ok did → FollowsDevice device self.old s.records → told.transfer ≡ transfer_of task did.step (before_step task did s).records.ranges) }
         ensures follows { OnOk result ((l : Limits) (n : ℕ) (s : State) → IsWithinBounds l → AreRecordsSound l s.records → judge_task l n task s ≡ Ok did → FollowsDevice device self.old s.records → FollowsDevice device self.new (act_state task did s).records) }
         ensures others { OnOk result (LeavesOthers device self.old self.new) }
+        ensures regions { self.new.regions ≡ self.old.regions }
     {
         if enters(task) {
             let step = self.step(device, task, did.step, line)?;
@@ -96,6 +97,7 @@ impl Account {
         ensures transfer { IfOk result (λ told. (l : Limits) (s : State) → FollowsDevice device self.old s.records → AreRecordsSound l s.records → IsStepFit step s.records → told.transfer ≡ transfer_of task step s.records.ranges) }
         ensures follows { OnOk result ((l : Limits) (s : State) → FollowsDevice device self.old s.records → AreRecordsSound l s.records → IsStepFit step s.records → FollowsDevice device self.new (act_step task step s.records)) }
         ensures others { OnOk result (LeavesOthers device self.old self.new) }
+        ensures regions { self.new.regions ≡ self.old.regions }
     {
         let block = self.place(device, task.section(), step, line)?;
         let attached = self.attached_in(block)?;
@@ -128,6 +130,7 @@ impl Account {
     ) -> Result<Option<Placed>, AllocError>
         ensures told { IfOk result (λ placed. placed ≡ placed_by device section step self.old) }
         ensures kept { OnOk result (IsStepKept device section line step self.old self.new) }
+        ensures regions { self.new.regions ≡ self.old.regions }
     {
         match step {
             Step::Born { block, place } => {
@@ -179,6 +182,7 @@ impl Account {
     ) -> Result<(), AllocError>
         ensures ok { OnOk result (self.new.waiting.items ≡ waiting_after device queue transfer self.old.waiting.items) }
         ensures blocks { HasSameBlocks self.old self.new }
+        ensures regions { self.new.regions ≡ self.old.regions }
     {
         match (queue, transfer) {
             (Some(queue), Some(transfer)) => self.put(Waiting {
@@ -197,6 +201,7 @@ impl Account {
         ensures told { IfOk result (λ holder. (l : Limits) (s : State) → FollowsDevice device self.old s.records → AreRecordsSound l s.records → IsAimFit aim s.records → IsAimTold device holder aim s) }
         ensures follows { OnOk result ((l : Limits) (s : State) → FollowsDevice device self.old s.records → AreRecordsSound l s.records → IsAimFit aim s.records → FollowsDevice device self.new (records_aimed aim s.records)) }
         ensures others { OnOk result (LeavesOthers device self.old self.new) }
+        ensures regions { self.new.regions ≡ self.old.regions }
     {
         let Some((pointer, block)) = pointer_held(aim) else {
             return Ok(None);
@@ -218,6 +223,7 @@ impl Account {
         ensures told { IfOk result (λ next. (l : Limits) (s : State) → FollowsDevice device self.old s.records → AreRecordsSound l s.records → queue < QUEUE_COUNT → IsMadeTold device queue next s) }
         ensures follows { OnOk result ((l : Limits) (s : State) → FollowsDevice device self.old s.records → AreRecordsSound l s.records → queue < QUEUE_COUNT → FollowsDevice device self.new (stepped queue s).records) }
         ensures others { OnOk result (LeavesOthers device self.old self.new) }
+        ensures regions { self.new.regions ≡ self.old.regions }
     {
         let Some(transfer) = self.take(device, queue) else {
             return Ok(None);

@@ -63,6 +63,7 @@ impl Tracker {
         ensures known { OnOk result ((l : Limits) (n : ℕ) (s : State) → IsWithinBounds l → AreRecordsSound l s.records → judge_task l n task s ≡ Ok did → FollowsDevice device self.old.account s.records → self.new.known ≡ known_acted device task did s self.old.known) }
         ensures follows { OnOk result ((l : Limits) (n : ℕ) (s : State) → IsWithinBounds l → AreRecordsSound l s.records → judge_task l n task s ≡ Ok did → FollowsDevice device self.old.account s.records → FollowsDevice device self.new.account (act_state task did s).records) }
         ensures others { OnOk result (LeavesOthers device self.old.account self.new.account) }
+        ensures regions { self.new.account.regions ≡ self.old.account.regions }
         ensures only { IfErr result (λ fault. fault ≡ Memory) }
     {
         let ends = self.account.ended(device, did.step);
@@ -85,6 +86,7 @@ impl Tracker {
     pub fn made<W: Watch>(&mut self, device: u64, queue: u64, watch: &mut W) -> Result<(), Fault>
         ensures drained { OnOk result ((l : Limits) (s : State) → FollowsDevice device self.old.account s.records → AreRecordsSound l s.records → queue < QUEUE_COUNT → IsDrained device (queue ∷ []) s self.old self.new) }
         ensures others { OnOk result (LeavesOthers device self.old.account self.new.account) }
+        ensures regions { self.new.account.regions ≡ self.old.account.regions }
         ensures only { IfErr result (λ fault. fault ≡ Memory) }
     {
         if let Some(next) = self.account.next(device, queue)? {
@@ -107,6 +109,7 @@ impl Tracker {
     ) -> Result<(), Fault>
         ensures drained { OnOk result ((l : Limits) (s : State) → FollowsDevice device self.old.account s.records → AreRecordsSound l s.records → queue < QUEUE_COUNT → IsDrained device (replicate (length (queue_at queue s.records.queues)) queue) s self.old self.new) }
         ensures others { OnOk result (LeavesOthers device self.old.account self.new.account) }
+        ensures regions { self.new.account.regions ≡ self.old.account.regions }
         ensures only { IfErr result (λ fault. fault ≡ Memory) }
     {
         for _ in 0..self.account.count_in(device, queue) {
@@ -128,6 +131,7 @@ impl Tracker {
     ) -> Result<(), Fault>
         ensures drained { OnOk result ((l : Limits) (s : State) → FollowsDevice device self.old.account s.records → AreRecordsSound l s.records → queue_named queue ≡ Ok tt → IsDrained device (steps_of queue s.records.queues) s self.old self.new) }
         ensures others { OnOk result (LeavesOthers device self.old.account self.new.account) }
+        ensures regions { self.new.account.regions ≡ self.old.account.regions }
         ensures only { IfErr result (λ fault. fault ≡ Memory) }
     {
         match queue {
@@ -140,6 +144,7 @@ impl Tracker {
     fn made_each<W: Watch>(&mut self, device: u64, watch: &mut W) -> Result<(), Fault>
         ensures drained { OnOk result ((l : Limits) (s : State) → FollowsDevice device self.old.account s.records → AreRecordsSound l s.records → IsDrained device (steps_from 0 s.records.queues) s self.old self.new) }
         ensures others { OnOk result (LeavesOthers device self.old.account self.new.account) }
+        ensures regions { self.new.account.regions ≡ self.old.account.regions }
         ensures only { IfErr result (λ fault. fault ≡ Memory) }
     {
         for queue in 0..QUEUE_COUNT {

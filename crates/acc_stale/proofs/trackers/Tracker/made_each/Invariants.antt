@@ -1,4 +1,4 @@
-use Rattle.std.proofs.Common.{take}
+use Rattle.std.proofs.Common.{◌≡◌, take}
 use Rattle.acc_base.specs.Limits.{Limits}
 use Rattle.acc_base.specs.Records.{State}
 use Rattle.acc_base.specs.Waits.{steps_from}
@@ -11,4 +11,5 @@ abbrev pub invariant-loop-queue : goal.invariant-loop-queue
 invariant-loop-queue g l = record {
   drained : (k : Limits) (s : State) → FollowsDevice l.device l.initial.self.account s.records → AreRecordsSound k s.records → IsDrained l.device (steps_from 0 (take l.queue s.records.queues)) s l.initial.self l.self;
   others : LeavesOthers l.device l.initial.self.account l.self.account;
+  regions : l.self.account.regions ≡ l.initial.self.account.regions;
 }

@@ -1,0 +1,6 @@
+use Rattle.std.proofs.Common.{refl, None}
+use Rattle.acc_stale.proofs.Counts.{region_written}
+use Rattle.acc_stale.proofs.accounts.Account.close.Goals as goal
+
+pub returns-clause-closed : goal.returns-clause-closed
+returns-clause-closed c = region_written c.args.device c.args.number c.args.self.now _ None c.remove.ensures.updates refl refl

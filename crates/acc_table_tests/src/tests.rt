@@ -3,6 +3,7 @@
 use acc_base::{Config, Fault};
 use language::Row;
 use playing::play_row;
+use std::fmt::Debug;
 use std::process::Abort;
 use std::test::Fail;
 
@@ -16,6 +17,16 @@ mod million;
 mod playing;
 mod rows;
 mod turns;
+
+/// Ends the test where what was found at a place is not what is expected there.
+fn same<T: PartialEq + Debug + Copy, P: Debug + Copy>(
+    rt: &impl Abort,
+    found: T,
+    wanted: T,
+    place: P,
+) {
+    assert_eq!(rt; found, wanted, "at {place:?}");
+}
 
 fn play_each(rt: &(impl Abort + AllocGlobal), rows: &'static [Row]) -> Result<(), Fault> {
     for row in rows {
@@ -32,20 +43,32 @@ fn each_row_holds_after_a_refused_growth(rt: HostRuntime) -> Result<(), Fail> {
     Ok(())
 }
 
+/// How many devices are asked for, and what that is refused for.
+const DEVICES: [(u64, Option<Fault>); 4] = [
+    (0, Some(Fault::BadConfig)),
+    (1, None),
+    (4, None),
+    (5, Some(Fault::BadConfig)),
+];
+
+fn check_devices(rt: &impl Abort, config: Config) {
+    for (devices, fault) in DEVICES {
+        let found = config.with_devices(devices).err();
+        same(rt, found, fault, devices);
+    }
+}
+
 #[test]
 fn a_table_has_one_to_four_devices(rt: HostRuntime) -> Result<(), Fail> {
-    let config = Config::new(64, 64, 1, 1, 1, 1, 1)?;
-    assert_eq!(rt; config.devices(), 1);
-    for (devices, fault) in [
-        (0, Some(Fault::BadConfig)),
-        (1, None),
-        (4, None),
-        (5, Some(Fault::BadConfig)),
-    ] {
-        let found = config.with_devices(devices).err();
-        assert_eq!(rt; found, fault, "{devices} devices");
-    }
     let found = Config::new(24, 64, 1, 1, 1, 1, 1).err();
-    assert_eq!(rt; found, Some(Fault::BadConfig));
+    same(
+        &rt,
+        found,
+        Some(Fault::BadConfig),
+        "24 bytes of host memory",
+    );
+    let config = Config::new(64, 64, 1, 1, 1, 1, 1)?;
+    same(&rt, config.devices(), 1, "a new configuration");
+    check_devices(&rt, config);
     Ok(())
 }

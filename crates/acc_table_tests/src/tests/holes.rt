@@ -2,6 +2,7 @@
 
 ghost use Rattle.acc_base.specs.Limits.{IsFromOne, IsSize};
 
+use crate::tests::same;
 use acc_base::{Fault, MEMORY_MAX};
 use acc_placement::{Holes, rounded};
 use std::alloc::Global;
@@ -66,23 +67,32 @@ fn full(need: u64) -> Fault {
     Fault::DeviceFull { item: 0, need }
 }
 
-/// Takes and gives back ranges of 64 bytes.
-fn check_places(rt: &impl Abort, space: &mut Space) -> Result<(), Fault> {
-    let places = [space.take(16)?, space.take(1)?, space.take(32)?];
-    assert_eq!(rt; places, [0, 16, 32]);
-    assert_eq!(rt; space.take(1), Err(full(16)));
+/// Takes all of 64 bytes, in ranges of 16, and more.
+fn check_taken(rt: &impl Abort, space: &mut Space) {
+    let found = [space.take(16), space.take(1), space.take(32), space.take(1)];
+    let wanted = [Ok(0), Ok(16), Ok(32), Err(full(16))];
+    same(rt, found, wanted, "four needs");
+}
+
+/// Gives the first two ranges back, and takes both as one.
+fn check_given_back(rt: &impl Abort, space: &mut Space) {
     space.give_back(0);
     space.give_back(0);
+    same(rt, first_holes(space), [Some((0, 32)), None], "holes");
+    same(rt, space.take(17), Ok(0), 17);
+}
+
+/// The first two holes.
+fn first_holes(space: &Space) -> [Option<(u64, u64)>; 2] {
     let mut holes = space.holes.holes();
-    assert_eq!(rt; [holes.next(), holes.next()], [Some((0, 32)), None]);
-    assert_eq!(rt; space.take(17), Ok(0));
-    Ok(())
+    [holes.next(), holes.next()]
 }
 
 #[test]
 fn a_range_takes_the_first_hole_that_is_large_enough(rt: HostRuntime) -> Result<(), Fail> {
     let mut space = Space::new(rt.alloc(), 64)?;
-    check_places(&rt, &mut space)?;
+    check_taken(&rt, &mut space);
+    check_given_back(&rt, &mut space);
     Ok(())
 }
 
@@ -112,7 +122,7 @@ fn check_steps(rt: &impl Abort, space: &mut Space) {
     let mut number: u64 = 1;
     for count in 0..10_000 {
         number = number.wrapping_mul(48_271) % 2_147_483_647;
-        assert!(rt; step(space, number), "step {count}");
+        same(rt, step(space, number), true, count);
     }
 }
 

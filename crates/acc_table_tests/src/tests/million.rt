@@ -3,6 +3,7 @@
 use crate::tests::language::{Limits, WIDE};
 use crate::tests::playing::refusal;
 use crate::tests::rows::A;
+use crate::tests::same;
 use crate::tests::turns::{section, table_of};
 use acc_base::{Directive, EnterClause, Fault, Item, List};
 use acc_table::{Call, Table};
@@ -52,20 +53,32 @@ fn ranges_in(table: &Table) -> Option<usize> {
     Some(table.base().devices().first()?.ranges().len())
 }
 
-fn check_ranges(rt: &(impl Abort + AllocGlobal), table: &mut Table) -> Result<(), Fault> {
-    let mut from = A;
-    for _ in 0..DIRECTIVES {
-        assert_eq!(rt; map_some(table, rt.alloc(), from)?, None);
-        from = from.saturating_add(1_024);
-    }
-    assert_eq!(rt; table.rebase()?, DIRECTIVES);
-    assert_eq!(rt; ranges_in(table), Some(1_000_000));
+fn check_mapped(
+    rt: &(impl Abort + AllocGlobal),
+    table: &mut Table,
+    from: u64,
+) -> Result<(), AllocError> {
+    let fault = map_some(table, rt.alloc(), from)?;
+    same(rt, fault, None, from);
     Ok(())
+}
+
+fn map_all(rt: &(impl Abort + AllocGlobal), table: &mut Table) -> Result<(), AllocError> {
+    for number in 0..DIRECTIVES {
+        check_mapped(rt, table, A.saturating_add(1_024 * number))?;
+    }
+    Ok(())
+}
+
+fn check_ranges(rt: &impl Abort, table: &mut Table) {
+    same(rt, table.rebase(), Ok(DIRECTIVES), "events");
+    same(rt, ranges_in(table), Some(1_000_000), "ranges");
 }
 
 #[test]
 fn a_table_of_a_million_ranges_is_dropped(rt: HostRuntime) -> Result<(), Fail> {
     let mut table = table_of(rt.alloc(), LARGE)?;
-    check_ranges(&rt, &mut table)?;
+    map_all(&rt, &mut table)?;
+    check_ranges(&rt, &mut table);
     Ok(())
 }

@@ -17,3 +17,4 @@ pub mod Draining
 pub mod Beginning
 pub mod Turning
 pub mod Leaving
+pub mod Calling

@@ -40,7 +40,7 @@ pub struct Check {
     pub(crate) looks: Looks,
     /// What updates copied that was equal already.
     needless: Needless,
-    /// The kernel of that line.
+    /// The kernel of the line that ran.
     pub(crate) kernel: Option<Kernel>,
     /// How many events of the trace were seen.
     seen: usize,

@@ -3,6 +3,7 @@
 ghost use Rattle.std.specs.Prelude.{◌≤◌, length};
 
 use acc_base::Section;
+use acc_stale::has_address;
 use std::alloc::{AllocError, Global};
 
 /// How many runs of bytes that one kernel wrote are kept apart.
@@ -290,9 +291,4 @@ fn has_equal_at_once(before: &[u8], after: &[u8]) -> bool
         found |= u8::from(*b == after[place]);
     }
     found != 0
-}
-
-/// Whether an address is one of a section.
-pub(crate) fn has_address(section: Section, address: u64) -> bool {
-    section.start <= address && address - section.start < section.len
 }

@@ -1,12 +1,13 @@
-//! What is looked at right before the step of an item: newer bytes that it copies over or drops. And what was found.
+//! What is looked at right before the step of an item: newer bytes that it copies over or drops. What was found, and the
+//! history of the lines.
 
 ghost use Rattle.std.specs.Prelude.{◌≡◌, IfErr};
 ghost use Rattle.acc_base.specs.declared.faults.Fault.TheVariants.{Memory};
 
 use crate::findings::{Finding, Kind, Note};
-use crate::histories::{Cause, Deed, Done, History, has_address};
+use crate::histories::{Cause, Deed, Done, History};
 use acc_base::{Fault, Section, Step, Task, Transfer};
-use acc_stale::{Held, ItemDone, Known, Mark, Placed, Run, Watch};
+use acc_stale::{Held, ItemDone, Known, Mark, Placed, Run, Watch, has_address};
 use std::alloc::Global;
 
 /// What a check looks at, and what it found.

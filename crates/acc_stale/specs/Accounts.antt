@@ -1,4 +1,4 @@
--- What an account says of blocks, their attached pointers, and the transfers that wait.
+-- What an account says of blocks, their attached pointers, the transfers that wait, and the open regions.
 use Rattle.std.specs.Prelude.{ℕ, ◌≡◌, Bool, false, ◌&&◌, ◌==◌, if◌then◌else◌, List, [], ◌∷◌, map, filter, Option, unwrap_or, option_map}
 use Rattle.std.specs.BTreeMap.{get}
 use Rattle.std.specs.declared.cmp.Ordering.{Ordering}

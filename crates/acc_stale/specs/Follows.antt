@@ -1,5 +1,5 @@
--- When an account says of a device what its records say: where blocks lie, how often their pointers are attached, and
--- which transfers wait.
+-- When an account says of a device what the model has: where blocks lie, how often their pointers are attached, which
+-- transfers wait, and what the exits from open regions ask.
 use Rattle.std.specs.Prelude.{ℕ, ◌≡◌, ◌<◌, ◌+◌, ◌^◌, true, ⊤, Option, Some, IsSome, List, map, length}
 use Rattle.std.specs.Option.{IsSomeAnd}
 use Rattle.acc_base.specs.declared.attachments.Aim.{Aim}

@@ -3,8 +3,8 @@
 ghost use Rattle.std.specs.Prelude.{◌≡◌, ℕ, ◌&&◌, ◌==◌, ◌++◌, ◌∷◌, [], Option, Some, None, OnOk, IfOk, option_map, length, filter};
 ghost use Rattle.std.specs.List.{find, position};
 ghost use Rattle.acc_base.specs.Attachments.{count_at};
-ghost use Rattle.acc_base.specs.Records.{new_records};
-ghost use Rattle.acc_stale.specs.Follows.{FollowsDevice};
+ghost use Rattle.acc_base.specs.Devices.{new_whole};
+ghost use Rattle.acc_stale.specs.Follows.{FollowsWhole};
 ghost use Rattle.acc_stale.specs.Accounts.{is_in, without_first, told_at, attached_at, IsChanged, IsRecounted, HasSameBlocks, undone_at, IsRegionChanged};
 
 use crate::known::Placed;
@@ -57,7 +57,7 @@ pub struct Account {
 impl Account {
     /// The account of no event.
     pub fn new(alloc: Global) -> Account
-        ensures { (d : ℕ) → FollowsDevice d result new_records }
+        ensures { (count host : ℕ) → FollowsWhole result (new_whole count host) }
     {
         Account {
             alloc,
@@ -227,6 +227,6 @@ impl Account {
 }
 
 /// Whether an address is one of a section.
-fn has_address(section: Section, address: u64) -> bool {
+pub fn has_address(section: Section, address: u64) -> bool {
     section.start <= address && address - section.start < section.len
 }

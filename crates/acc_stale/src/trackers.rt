@@ -6,12 +6,13 @@ ghost use Rattle.acc_base.specs.declared.transfers.TheConstants.{QUEUE_COUNT};
 ghost use Rattle.acc_base.specs.Queues.{queue_at, queue_named};
 ghost use Rattle.acc_base.specs.Waits.{steps_from, steps_of};
 ghost use Rattle.acc_base.specs.Limits.{Limits, IsWithinBounds};
-ghost use Rattle.acc_base.specs.Records.{State, new_records};
+ghost use Rattle.acc_base.specs.Records.{State};
+ghost use Rattle.acc_base.specs.Devices.{new_whole};
 ghost use Rattle.acc_base.specs.Accounts.{AreRecordsSound};
 ghost use Rattle.acc_base.specs.Acting.{judge_task, act_state};
 ghost use Rattle.acc_stale.specs.Known.{all_new};
 ghost use Rattle.acc_stale.specs.Events.{known_acted};
-ghost use Rattle.acc_stale.specs.Follows.{FollowsDevice};
+ghost use Rattle.acc_stale.specs.Follows.{FollowsDevice, FollowsWhole};
 ghost use Rattle.acc_stale.specs.Tells.{LeavesOthers, IsDrained};
 
 use crate::accounts::Account;
@@ -38,7 +39,7 @@ impl Tracker {
     /// [`Fault::Memory`] alone.
     pub fn new(alloc: Global, host: u32, count: usize, device: u32) -> Result<Tracker, Fault>
         ensures known { IfOk result (λ tracker. tracker.known ≡ all_new host count device) }
-        ensures follows { IfOk result (λ tracker. (d : ℕ) → FollowsDevice d tracker.account new_records) }
+        ensures follows { IfOk result (λ tracker. (devices bytes : ℕ) → FollowsWhole tracker.account (new_whole devices bytes)) }
         ensures only { IfErr result (λ fault. fault ≡ Memory) }
     {
         Ok(Tracker {

@@ -47,8 +47,8 @@ uint32_t lw_version(void);
 /* What a call answers: LW_DONE, or why it was refused. A refused call fills in its fault, and changes nothing else. */
 enum {
     LW_DONE = 0,           /* it is done */
-    LW_MEMORY = 1,         /* no memory could be had. For the list of a directive's items, the bytes of a write or one
-                              more lease it is told before all that a table refuses; else it is told last of all */
+    LW_MEMORY = 1,         /* no memory could be had. For the list of a directive's items or one more lease it is told
+                              before all that a table refuses; else it is told last of all */
     LW_BAD_CONFIG = 2,     /* a limit is out of its bounds */
     LW_NO_TICKETS = 3,     /* there are as many events as there may be, and lw_rebase brings none back; value: how many
                               are left, 0 */
@@ -518,12 +518,12 @@ uint32_t lw_event_bytes(lw_table *table, uint64_t place, void *bytes, size_t len
 /* ---- Dry runs ---- */
 
 /* Judges a directive, and does not carry it out: the status and the fault are those of its call, were that made now.
-   Only the list of more than one item takes memory here, so LW_MEMORY of a table is not foretold. It is no event.
+   Only the list of the items takes memory here, so LW_MEMORY of a table is not foretold. It is no event.
 
-   asked: the directive, as lw_event tells one that was carried out. Of it are read the kind, which is LW_ENTERED to
-   LW_STEPPED, and what this kind has: of LW_EXITED the region; else the device, the queue (LW_NO_QUEUE_GIVEN for
-   LW_ASYNC_SYNC, and 0 for LW_ASYNC_NOVAL) and the option. items: those of its call; without items they are not read.
-   LW_ABSENT where no directive is of the kind. */
+   asked: the directive, as lw_event tells one that was carried out. Its kind is LW_ENTERED to LW_STEPPED; LW_ABSENT
+   where no directive is of the kind. Of LW_EXITED the region is read. Of the others it is the device, the queue and the
+   option. The queue is LW_NO_QUEUE_GIVEN for LW_ASYNC_SYNC, and 0 for LW_ASYNC_NOVAL. items: those of its call; of
+   LW_EXITED, LW_WAITED and LW_STEPPED they are not read. */
 uint32_t lw_judge(lw_table *table, const lw_stored_event *asked, const lw_item *items, size_t count, lw_fault *fault);
 
 /* ---- The report ---- */

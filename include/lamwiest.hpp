@@ -166,8 +166,7 @@ public:
         return made;
     }
 
-    // What a directive would be refused for, which is named as lw_event names one; of LW_DONE where it can be done. It
-    // is not carried out.
+    // The fault that a directive would get, LW_DONE where none. asked names it as lw_event does. It is not carried out.
     lw_fault judge(const lw_stored_event &asked, const Items &items = Items())
     {
         lw_fault fault;

@@ -264,7 +264,7 @@ int LLVMFuzzerTestOneInput(const uint8_t *data, size_t size)
     limits.devices = take(1) % 6;
     while (left != 0) {
         const uint64_t what = take(1);
-        const int compares = table.at != NULL && what % 4 == 0;
+        const int compares = table.at != NULL && take(1) % 4 == 0;
         const char *before = compares ? report(&table) : "";
         lw_fault fault = {.status = LW_DONE};
         uint32_t status;

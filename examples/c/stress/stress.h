@@ -76,10 +76,10 @@ typedef struct run {
     uint64_t on[REGIONS_MAX];      /* the device of each */
     uint64_t entered[REGIONS_MAX]; /* how many items each was entered with */
     size_t depth;
-    uint64_t left;  /* the region that was exited last, or 0 */
-    lw_fault judged;  /* what the next directive has to answer, where it is judged */
-    bool is_judged;
-    uint64_t spent; /* the lease that was brought back last, or 0 */
+    uint64_t left;   /* the region that was exited last, or 0 */
+    lw_fault judged; /* what the next directive has to answer */
+    bool is_judged;  /* whether it was judged */
+    uint64_t spent;  /* the lease that was brought back last, or 0 */
     FILE *script; /* what accrun reads */
     FILE *wanted; /* what it has to print */
     uint64_t line; /* the number of the last line of the script */

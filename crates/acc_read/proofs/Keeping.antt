@@ -5,7 +5,7 @@ use Rattle.acc_base.specs.declared.faults.ScriptFault.{ScriptFault}
 use Rattle.acc_base.specs.declared.items.Item.{Item}
 use Rattle.acc_read.specs.declared.kept.KeptItems.{KeptItems}
 use Rattle.acc_read.specs.declared.clauses.Unfinished.{Unfinished}
-use Rattle.acc_read.specs.Reading.{◌>>=◌}
+use Rattle.acc_read.specs.Reading.{◌>>=◌, Reads}
 use Rattle.acc_read.specs.Layout.{ArrayLayout}
 use Rattle.acc_read.specs.Grammar.{Grammar}
 use Rattle.acc_read.specs.Clauses.{ClausesRead, group_at, listed}
@@ -13,7 +13,7 @@ use Rattle.acc_read.specs.Meanings.{IsKept, IsRead}
 
 -- what was kept stays where only the text after it is read
 pub closes : {X Y Z : Type 0} (kept : Y → Type 0) (view : X → Z) (y : Y) (result : Result X ScriptFault)
-    (read : Result Z ScriptFault) → kept y → MatchResult result (λ x. read ≡ Ok (view x)) (λ fault. read ≡ Err fault)
+    (read : Result Z ScriptFault) → kept y → Reads view result read
     → let whole : Result (Y × Z) ScriptFault = read >>= (λ rest. Ok (y, rest)) in
     MatchResult result (λ x. (after : Y) × (whole ≡ Ok (after, view x)) × kept after) (λ fault. whole ≡ Err fault)
 closes kept view y (Ok x) read h e = (y, rw e refl, h)

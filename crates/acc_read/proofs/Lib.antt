@@ -1,4 +1,5 @@
 pub mod Numbers
+pub mod NameWords
 pub mod Pieces
 pub mod Repeated
 pub mod Keeping

@@ -1,15 +1,18 @@
 -- What statements and clauses of the code say, without where they lie in memory.
-use Rattle.std.specs.Prelude.{◌≡◌, true, false, List, [], ◌∷◌, Option, Some, None, length, ◌==◌, vec_len, vec_capacity}
+use Rattle.std.specs.Prelude.{◌≡◌, true, false, List, [], ◌∷◌, Option, Some, None, Result, Ok, Err, IsOkAnd, IsTrue, length, ◌==◌, vec_len, vec_capacity}
 use Rattle.std.specs.Int.{to_le_bytes, w64}
 use Rattle.acc_read.specs.declared.kept.KeptItems.{KeptItems}
 use Rattle.acc_read.specs.declared.kept.Finished.{Finished}
 use Rattle.acc_read.specs.declared.kept.Finished.TheVariants.{Fitted, Single, Refused}
 use Rattle.acc_read.specs.declared.clauses.Clauses.{Clauses}
 use Rattle.acc_read.specs.declared.clauses.Unfinished.{Unfinished}
+use Rattle.acc_base.specs.declared.faults.ScriptFault.{ScriptFault}
+use Rattle.acc_read.specs.declared.troubles.Trouble.{Trouble}
+use Rattle.acc_read.specs.declared.troubles.Trouble.TheVariants as trouble
 use Rattle.acc_read.specs.declared.statements.Statement.{Statement}
 use Rattle.acc_read.specs.declared.statements.Statement.TheVariants as code
 use Rattle.acc_read.specs.Clauses.{ClausesRead}
-use Rattle.acc_read.specs.Statements.{Meaning, Blank, Declare, Direct, Select, Kernel, Write, Show, Peek, Present, Address, Report}
+use Rattle.acc_read.specs.Statements.{Meaning, takes_memory, Blank, Declare, Direct, Select, Kernel, Write, Show, Peek, Present, Address, Report}
 
 -- what a statement says
 abbrev pub meaning_of : Statement → Meaning
@@ -25,6 +28,12 @@ meaning_of (code.Peek section) = Peek section
 meaning_of (code.Present section) = Present section
 meaning_of (code.Address addr) = Address addr
 meaning_of code.Report = Report
+
+-- a statement says what a definition reads; or both meet one fault; or memory was wanting for a right line that takes it
+abbrev pub Says : Result Statement Trouble → Result Meaning ScriptFault → Type 0
+Says (Ok statement) read = read ≡ Ok (meaning_of statement)
+Says (Err trouble.Memory) read = IsOkAnd read (λ meaning. IsTrue (takes_memory meaning))
+Says (Err (trouble.Line fault)) read = read ≡ Err fault
 
 -- what clauses in memory say
 abbrev pub clauses_read : {C : Type 0} → Clauses C → ClausesRead C

@@ -1,6 +1,6 @@
 //! Words that say bytes.
 
-ghost use Rattle.std.specs.Prelude.{◌≡◌, ◌≤◌, ◌*◌, ◌/◌, ◌%◌, ◌==◌, true, Ok, Some, length, slice_index, IsOk, MatchResult};
+ghost use Rattle.std.specs.Prelude.{◌≡◌, ◌≤◌, ◌*◌, ◌/◌, ◌%◌, true, Ok, Some, length, slice_index, IsOk, MatchResult};
 ghost use Rattle.std.specs.List.{list_all};
 ghost use Rattle.std.specs.Char.{is_ascii_hexdigit};
 ghost use Rattle.acc_read.specs.Tokens.{word_at};
@@ -50,13 +50,6 @@ impl<'a> ByteWord<'a> {
         self.digits.len() / 2
     }
 
-    /// There is no byte.
-    pub fn is_empty(&self) -> bool
-        ensures { result ≡ (length self.now == 0) }
-    {
-        self.len() == 0
-    }
-
     /// Copies the bytes to where there is room for just as many.
     #[inline(always)]
     #[tactic(auto, using(crate::proofs::ByteWords::said_laws))]
@@ -98,10 +91,7 @@ pub fn byte_word_at(text: &[u8]) -> Result<(&[u8], &[u8]), ScriptFault>
     if begins_word(rest) || len == 0 {
         return Err(ScriptFault::Syntax);
     }
-    if len > DIGIT_LIMIT {
-        return Err(ScriptFault::Number);
-    }
-    if len % 2 == 1 {
+    if len > DIGIT_LIMIT || len % 2 == 1 {
         return Err(ScriptFault::Number);
     }
     Ok((word, rest))
@@ -120,7 +110,7 @@ fn put_bytes(word: &[u8], bytes: &mut [u8])
 }
 
 /// The byte that two hexadecimal digits say. They are taken together and no branch depends on them, so that the
-/// compiler can read many at once. Of a letter the four low bits are its place from 1 on, and 9 stand before it.
+/// compiler can read many at once. The four low bits of a letter are its place from 1 on, and 9 stand before it.
 fn pair_value(pair: [u8; 2]) -> u8
     requires high { is_ascii_hexdigit (slice_index pair 0) ≡ true }
     requires low { is_ascii_hexdigit (slice_index pair 1) ≡ true }
@@ -128,8 +118,7 @@ fn pair_value(pair: [u8; 2]) -> u8
     ensures low { hex_digit_value (slice_index pair 1) ≡ Some (result % 16) }
 {
     let digits = u16::from(pair[0]) + u16::from(pair[1]) * 256;
-    let bits = digits % 16 + digits / 256 % 16 * 256;
     let letters = digits / 64 % 2 + digits / 16384 % 2 * 256;
-    let values = bits + letters * 9;
-    (values % 16 * 16 + values / 256) as u8
+    let values = (digits + letters * 9) % 4096 * 16;
+    ((values + values / 4096) % 256) as u8
 }

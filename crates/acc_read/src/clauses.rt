@@ -1,9 +1,8 @@
 //! The clauses and options of a directive.
 
-ghost use Rattle.std.specs.Prelude.{List, MatchResult, IsOk, ◌≡◌};
-ghost use Rattle.acc_base.specs.declared.items.Item.{Item};
-ghost use Rattle.acc_read.specs.Reading.{MatchTrouble};
-ghost use Rattle.acc_read.specs.Clauses.{item_at, items_at, modifier_at, modified_at, group_at, ClausesRead, queued, clause_at, all_clauses_at, with_clause, clauses_at};
+ghost use Rattle.std.specs.Prelude.{MatchResult, IsOk, ◌≡◌};
+ghost use Rattle.acc_read.specs.Reading.{MatchTrouble, Reads, ReadsBehind};
+ghost use Rattle.acc_read.specs.Clauses.{item_at, items_at, modified_at, group_at, ClausesRead, queued, clause_at, all_clauses_at, with_clause, clauses_at};
 ghost use Rattle.acc_read.specs.Meanings.{IsKept, IsRead, clauses_read};
 
 use crate::arrays::Arrays;
@@ -44,9 +43,7 @@ fn item_at<'a, C: Copy>(
     items: &mut KeptItems<Item<C>>,
     text: &'a [u8],
 ) -> Result<&'a [u8], ScriptFault>
-    ensures { (before : List (Item C)) → IsKept items.old before
-        → let read = item_at kind clause arrays.now before text.now in MatchResult result
-        (λ rest. (after : List (Item C)) × (read ≡ Ok (after, rest.now)) × IsKept items.new after) (λ fault. read ≡ Err fault) }
+    ensures { ReadsBehind (λ rest. rest.now) (IsKept items.old) (IsKept items.new) result (λ before. item_at kind clause arrays.now before text.now) }
 {
     let (item, rest) = one_item_at(kind, clause, arrays, text)?;
     items.push(item);
@@ -61,9 +58,7 @@ fn items_at<'a, C: Copy>(
     items: &mut KeptItems<Item<C>>,
     text: &'a [u8],
 ) -> Result<&'a [u8], ScriptFault>
-    ensures { (before : List (Item C)) → IsKept items.old before
-        → let read = items_at kind clause arrays.now before text.now in MatchResult result
-        (λ rest. (after : List (Item C)) × (read ≡ Ok (after, rest.now)) × IsKept items.new after) (λ fault. read ≡ Err fault) }
+    ensures { ReadsBehind (λ rest. rest.now) (IsKept items.old) (IsKept items.new) result (λ before. items_at kind clause arrays.now before text.now) }
 {
     let mut rest = text;
     for _ in 0..text.len() {
@@ -76,29 +71,19 @@ fn items_at<'a, C: Copy>(
     Err(ScriptFault::Syntax)
 }
 
-#[tactic(auto, unfolding(crate::specs::Clauses::modifier_at))]
-fn modifier_at<C: ScriptClause>(clause: C, text: &[u8]) -> Result<(C, &[u8]), ScriptFault>
-    ensures { let read = modifier_at C.grammar clause text.now in
-        MatchResult result (λ x. read ≡ Ok (x.0, x.1.now)) (λ fault. read ≡ Err fault) }
+/// A clause with the modifier that stands next, if one does; the text after it. The first word is a modifier exactly
+/// where a colon follows it.
+#[tactic(auto, unfolding(crate::specs::Clauses::modified_at, crate::specs::Clauses::modifier_at))]
+fn modified_at<C: ScriptClause>(clause: C, text: &[u8]) -> Result<(C, &[u8]), ScriptFault>
+    ensures { Reads (λ x. (x.0, x.1.now)) result (modified_at C.grammar clause text.now) }
 {
+    if !is_word_before(b':', text) {
+        return Ok((clause, text));
+    }
     let (word, rest) = word_at(text)?;
     let rest = mark_at(b':', rest)?;
     let modified = clause.with_modifier(word).ok_or(ScriptFault::Syntax)?;
     Ok((modified, rest))
-}
-
-/// A clause with the modifier that stands next, if one does; the text after it. The first word is a modifier exactly
-/// where a colon follows it.
-#[tactic(auto, unfolding(crate::specs::Clauses::modified_at))]
-fn modified_at<C: ScriptClause>(clause: C, text: &[u8]) -> Result<(C, &[u8]), ScriptFault>
-    ensures { let read = modified_at C.grammar clause text.now in
-        MatchResult result (λ x. read ≡ Ok (x.0, x.1.now)) (λ fault. read ≡ Err fault) }
-{
-    if is_word_before(b':', text) {
-        modifier_at(clause, text)
-    } else {
-        Ok((clause, text))
-    }
 }
 
 #[tactic(auto, unfolding(crate::specs::Clauses::group_at))]
@@ -108,9 +93,7 @@ fn group_at<'a, C: ScriptClause>(
     items: &mut KeptItems<Item<C>>,
     text: &'a [u8],
 ) -> Result<&'a [u8], ScriptFault>
-    ensures { (before : List (Item C)) → IsKept items.old before
-        → let read = group_at C.grammar clause arrays.now before text.now in MatchResult result
-        (λ rest. (after : List (Item C)) × (read ≡ Ok (after, rest.now)) × IsKept items.new after) (λ fault. read ≡ Err fault) }
+    ensures { ReadsBehind (λ rest. rest.now) (IsKept items.old) (IsKept items.new) result (λ before. group_at C.grammar clause arrays.now before text.now) }
 {
     let inside = mark_at(b'(', text)?;
     let (modified, inside) = modified_at(clause, inside)?;
@@ -120,9 +103,7 @@ fn group_at<'a, C: ScriptClause>(
 
 /// The queue of `async`, which stands once at most; the text after it.
 fn queued<'a, C>(unfinished: &mut Unfinished<C>, text: &'a [u8]) -> Result<&'a [u8], ScriptFault>
-    ensures { (before : ClausesRead C) → IsRead unfinished.old before
-        → let read = queued before text.now in MatchResult result
-        (λ rest. (after : ClausesRead C) × (read ≡ Ok (after, rest.now)) × IsRead unfinished.new after) (λ fault. read ≡ Err fault) }
+    ensures { ReadsBehind (λ rest. rest.now) (IsRead unfinished.old) (IsRead unfinished.new) result (λ before. queued before text.now) }
 {
     if unfinished.queue.is_some() {
         return Err(ScriptFault::Syntax);
@@ -139,9 +120,7 @@ fn clause_at<'a, C: ScriptClause>(
     unfinished: &mut Unfinished<C>,
     text: &'a [u8],
 ) -> Result<&'a [u8], ScriptFault>
-    ensures { (before : ClausesRead C) → IsRead unfinished.old before
-        → let read = clause_at C.grammar arrays.now before text.now in MatchResult result
-        (λ rest. (after : ClausesRead C) × (read ≡ Ok (after, rest.now)) × IsRead unfinished.new after) (λ fault. read ≡ Err fault) }
+    ensures { ReadsBehind (λ rest. rest.now) (IsRead unfinished.old) (IsRead unfinished.new) result (λ before. clause_at C.grammar arrays.now before text.now) }
 {
     let (word, rest) = word_at(text)?;
     if C::is_option(word) {
@@ -164,9 +143,7 @@ fn all_clauses_at<'a, C: ScriptClause>(
     unfinished: &mut Unfinished<C>,
     text: &'a [u8],
 ) -> Result<&'a [u8], ScriptFault>
-    ensures { (before : ClausesRead C) → IsRead unfinished.old before
-        → let read = all_clauses_at C.grammar arrays.now before text.now in MatchResult result
-        (λ rest. (after : ClausesRead C) × (read ≡ Ok (after, rest.now)) × IsRead unfinished.new after) (λ fault. read ≡ Err fault) }
+    ensures { ReadsBehind (λ rest. rest.now) (IsRead unfinished.old) (IsRead unfinished.new) result (λ before. all_clauses_at C.grammar arrays.now before text.now) }
 {
     let mut rest = text;
     for _ in 0..text.len() {

@@ -1,9 +1,7 @@
 //! The directives of a script, and which device they are for.
 
-ghost use Rattle.std.specs.Prelude.{MatchResult, IsOkAnd, IsTrue, ◌≡◌};
-ghost use Rattle.acc_read.specs.Reading.{MatchTrouble};
-ghost use Rattle.acc_read.specs.Statements.{data_at, end_at, enter_at, exit_at, update_at, wait_one_at, wait_at, step_at, select_at, takes_memory};
-ghost use Rattle.acc_read.specs.Meanings.{meaning_of};
+ghost use Rattle.acc_read.specs.Statements.{data_at, end_at, enter_at, exit_at, update_at, wait_at, step_at, select_at};
+ghost use Rattle.acc_read.specs.Meanings.{Says};
 
 use crate::arrays::Arrays;
 use crate::clauses::clauses_at;
@@ -22,9 +20,7 @@ pub fn data_at(
     device: u64,
     text: &[u8],
 ) -> Result<Statement<'static>, Trouble>
-    ensures { let read = data_at arrays.now device text.now in MatchResult result
-        (λ statement. read ≡ Ok (meaning_of statement))
-        (λ trouble. MatchTrouble trouble (IsOkAnd read (λ meaning. IsTrue (takes_memory meaning))) (λ fault. read ≡ Err fault)) }
+    ensures { Says result (data_at arrays.now device text.now) }
 {
     let items = clauses_at(alloc, arrays, text)?.items;
     Ok(Statement::Direct(Directive::Enter { device, items }))
@@ -36,13 +32,12 @@ pub fn data_at(
 ///
 /// `NoOpenRegion` where none is open, behind all other faults.
 #[tactic(auto, unfolding(crate::specs::Statements::end_at))]
-pub fn end_at(innermost: Option<u64>, text: &[u8]) -> Result<Statement<'static>, ScriptFault>
-    ensures { let read = end_at innermost text.now in
-        MatchResult result (λ statement. read ≡ Ok (meaning_of statement)) (λ fault. read ≡ Err fault) }
+pub fn end_at(innermost: Option<u64>, text: &[u8]) -> Result<Statement<'static>, Trouble>
+    ensures { Says result (end_at innermost text.now) }
 {
     let rest = keyword_at("data", text)?;
     if !is_at_end(rest) {
-        return Err(ScriptFault::Syntax);
+        return Err(Trouble::Line(ScriptFault::Syntax));
     }
     let number = innermost.ok_or(ScriptFault::NoOpenRegion)?;
     Ok(Statement::Direct(Directive::Exit { number }))
@@ -56,9 +51,7 @@ pub fn enter_at(
     device: u64,
     text: &[u8],
 ) -> Result<Statement<'static>, Trouble>
-    ensures { let read = enter_at arrays.now device text.now in MatchResult result
-        (λ statement. read ≡ Ok (meaning_of statement))
-        (λ trouble. MatchTrouble trouble (IsOkAnd read (λ meaning. IsTrue (takes_memory meaning))) (λ fault. read ≡ Err fault)) }
+    ensures { Says result (enter_at arrays.now device text.now) }
 {
     let rest = keyword_at("data", text)?;
     let clauses = clauses_at(alloc, arrays, rest)?;
@@ -77,9 +70,7 @@ pub fn exit_at(
     device: u64,
     text: &[u8],
 ) -> Result<Statement<'static>, Trouble>
-    ensures { let read = exit_at arrays.now device text.now in MatchResult result
-        (λ statement. read ≡ Ok (meaning_of statement))
-        (λ trouble. MatchTrouble trouble (IsOkAnd read (λ meaning. IsTrue (takes_memory meaning))) (λ fault. read ≡ Err fault)) }
+    ensures { Says result (exit_at arrays.now device text.now) }
 {
     let rest = keyword_at("data", text)?;
     let clauses = clauses_at(alloc, arrays, rest)?;
@@ -99,9 +90,7 @@ pub fn update_at(
     device: u64,
     text: &[u8],
 ) -> Result<Statement<'static>, Trouble>
-    ensures { let read = update_at arrays.now device text.now in MatchResult result
-        (λ statement. read ≡ Ok (meaning_of statement))
-        (λ trouble. MatchTrouble trouble (IsOkAnd read (λ meaning. IsTrue (takes_memory meaning))) (λ fault. read ≡ Err fault)) }
+    ensures { Says result (update_at arrays.now device text.now) }
 {
     let clauses = clauses_at(alloc, arrays, text)?;
     Ok(Statement::Direct(Directive::Update {
@@ -112,20 +101,10 @@ pub fn update_at(
     }))
 }
 
-#[tactic(auto, unfolding(crate::specs::Statements::wait_one_at))]
-fn wait_one_at(device: u64, text: &[u8]) -> Result<Statement<'static>, ScriptFault>
-    ensures { let read = wait_one_at device text.now in
-        MatchResult result (λ statement. read ≡ Ok (meaning_of statement)) (λ fault. read ≡ Err fault) }
-{
-    let queue = Some(last_enclosed_at(text)?);
-    Ok(Statement::Direct(Directive::Wait { device, queue }))
-}
-
 /// The `wait` directive, of one queue of a device or of all (OpenACC 3.3, the wait directive).
-#[tactic(auto, unfolding(crate::specs::Statements::wait_at))]
-pub fn wait_at(device: u64, text: &[u8]) -> Result<Statement<'static>, ScriptFault>
-    ensures { let read = wait_at device text.now in
-        MatchResult result (λ statement. read ≡ Ok (meaning_of statement)) (λ fault. read ≡ Err fault) }
+#[tactic(auto, unfolding(crate::specs::Statements::wait_at, crate::specs::Statements::wait_one_at))]
+pub fn wait_at(device: u64, text: &[u8]) -> Result<Statement<'static>, Trouble>
+    ensures { Says result (wait_at device text.now) }
 {
     if is_at_end(text) {
         return Ok(Statement::Direct(Directive::Wait {
@@ -133,14 +112,14 @@ pub fn wait_at(device: u64, text: &[u8]) -> Result<Statement<'static>, ScriptFau
             queue: None,
         }));
     }
-    wait_one_at(device, text)
+    let queue = Some(last_enclosed_at(text)?);
+    Ok(Statement::Direct(Directive::Wait { device, queue }))
 }
 
 /// The step of a queue of a device, which is no directive of OpenACC (section 2.16).
 #[tactic(auto, unfolding(crate::specs::Statements::step_at))]
-pub fn step_at(device: u64, text: &[u8]) -> Result<Statement<'static>, ScriptFault>
-    ensures { let read = step_at device text.now in
-        MatchResult result (λ statement. read ≡ Ok (meaning_of statement)) (λ fault. read ≡ Err fault) }
+pub fn step_at(device: u64, text: &[u8]) -> Result<Statement<'static>, Trouble>
+    ensures { Says result (step_at device text.now) }
 {
     let queue = last_enclosed_at(text)?;
     Ok(Statement::Direct(Directive::Step { device, queue }))
@@ -148,9 +127,8 @@ pub fn step_at(device: u64, text: &[u8]) -> Result<Statement<'static>, ScriptFau
 
 /// The `set` directive, which chooses the device that later lines are for (OpenACC 3.3, the set directive).
 #[tactic(auto, unfolding(crate::specs::Statements::select_at))]
-pub fn select_at(text: &[u8]) -> Result<Statement<'static>, ScriptFault>
-    ensures { let read = select_at text.now in
-        MatchResult result (λ statement. read ≡ Ok (meaning_of statement)) (λ fault. read ≡ Err fault) }
+pub fn select_at(text: &[u8]) -> Result<Statement<'static>, Trouble>
+    ensures { Says result (select_at text.now) }
 {
     let rest = keyword_at("device_num", text)?;
     let device = last_enclosed_at(rest)?;

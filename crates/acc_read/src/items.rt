@@ -1,7 +1,7 @@
 //! The items of a clause.
 
-ghost use Rattle.std.specs.Prelude.{◌≡◌, MatchResult};
-ghost use Rattle.acc_read.specs.Items.{via_at, aim_at, one_item_at};
+ghost use Rattle.acc_read.specs.Items.{aim_at, one_item_at};
+ghost use Rattle.acc_read.specs.Reading.{Reads};
 
 use crate::arrays::Arrays;
 use crate::places::{address_at, section_at};
@@ -19,28 +19,18 @@ pub enum ItemKind {
     Pointers,
 }
 
-#[tactic(auto, unfolding(crate::specs::Items::via_at))]
-fn via_at<'a>(arrays: &Arrays, text: &'a [u8]) -> Result<(Option<u64>, &'a [u8]), ScriptFault>
-    ensures { let read = via_at arrays.now text.now in
-        MatchResult result (λ x. read ≡ Ok (x.0, x.1.now)) (λ fault. read ≡ Err fault) }
+/// The pointer to a section, where the word `via` stands next, and the text after it.
+#[inline(always)]
+#[tactic(auto, unfolding(crate::specs::Items::aim_at, crate::specs::Items::via_at))]
+fn aim_at<'a>(arrays: &Arrays, text: &'a [u8]) -> Result<(Option<u64>, &'a [u8]), ScriptFault>
+    ensures { Reads (λ x. (x.0, x.1.now)) result (aim_at arrays.now text.now) }
 {
+    if !is_word_next("via", text) {
+        return Ok((None, text));
+    }
     let rest = keyword_at("via", text)?;
     let (pointer, rest) = address_at(arrays, rest)?;
     Ok((Some(pointer), rest))
-}
-
-/// The pointer to a section, where the word `via` stands next, and the text after it.
-#[inline(always)]
-#[tactic(auto, unfolding(crate::specs::Items::aim_at))]
-fn aim_at<'a>(arrays: &Arrays, text: &'a [u8]) -> Result<(Option<u64>, &'a [u8]), ScriptFault>
-    ensures { let read = aim_at arrays.now text.now in
-        MatchResult result (λ x. read ≡ Ok (x.0, x.1.now)) (λ fault. read ≡ Err fault) }
-{
-    if is_word_next("via", text) {
-        via_at(arrays, text)
-    } else {
-        Ok((None, text))
-    }
 }
 
 /// The next item of a clause that lists such, and the text after it.
@@ -51,8 +41,7 @@ pub fn one_item_at<'a, C: Copy>(
     arrays: &Arrays,
     text: &'a [u8],
 ) -> Result<(Item<C>, &'a [u8]), ScriptFault>
-    ensures { let read = one_item_at kind clause arrays.now text.now in
-        MatchResult result (λ x. read ≡ Ok (x.0, x.1.now)) (λ fault. read ≡ Err fault) }
+    ensures { Reads (λ x. (x.0, x.1.now)) result (one_item_at kind clause arrays.now text.now) }
 {
     match kind {
         ItemKind::Sections => {

@@ -1,14 +1,15 @@
 //! Kernels, and the sections that they work on.
 
-ghost use Rattle.std.specs.Prelude.{MatchResult, ◌≡◌};
-ghost use Rattle.acc_read.specs.Kernels.{last_number_at, last_source_at, named_kernel_at, last_kernel_at};
+ghost use Rattle.std.specs.Prelude.{◌≡◌};
+ghost use Rattle.acc_read.specs.Kernels.{last_number_at, named_kernel_at};
 ghost use Rattle.acc_read.specs.Statements.{kernel_at};
-ghost use Rattle.acc_read.specs.Meanings.{meaning_of};
+ghost use Rattle.acc_read.specs.Meanings.{Says};
 
 use crate::arrays::Arrays;
 use crate::places::{last_section_at, section_at};
 use crate::statements::Statement;
 use crate::tokens::{is_text, number_at, word_at};
+use crate::troubles::Trouble;
 use acc_base::{ScriptFault, Section};
 
 /// What a kernel does to each byte that the device has of a section (OpenACC 3.3, section 2.5, compute constructs).
@@ -34,18 +35,8 @@ fn last_number_at(arrays: &Arrays, text: &[u8]) -> Result<(u8, Section), ScriptF
     Ok((number as u8, section))
 }
 
-/// A source and a section, up to the end of the line.
-#[tactic(auto, unfolding(crate::specs::Kernels::last_source_at))]
-fn last_source_at(arrays: &Arrays, text: &[u8]) -> Result<(Section, Section), ScriptFault>
-    ensures { result ≡ last_source_at arrays.now text.now }
-{
-    let (source, rest) = section_at(arrays, text)?;
-    let section = last_section_at(arrays, rest)?;
-    Ok((source, section))
-}
-
-/// A kernel and its section, by the word of the kernel.
-#[tactic(auto, unfolding(crate::specs::Kernels::named_kernel_at))]
+/// A kernel and its section, up to the end of the line, by the word of the kernel.
+#[tactic(auto, unfolding(crate::specs::Kernels::named_kernel_at, crate::specs::Kernels::last_source_at))]
 fn named_kernel_at(
     word: &[u8],
     arrays: &Arrays,
@@ -63,20 +54,12 @@ fn named_kernel_at(
         let (number, section) = last_number_at(arrays, text)?;
         Ok((ScriptKernel::Number(number), section))
     } else if is_text(word, "plus") {
-        let (source, section) = last_source_at(arrays, text)?;
+        let (source, rest) = section_at(arrays, text)?;
+        let section = last_section_at(arrays, rest)?;
         Ok((ScriptKernel::Plus(source), section))
     } else {
         Err(ScriptFault::Syntax)
     }
-}
-
-/// A kernel and its section, up to the end of the line.
-#[tactic(auto, unfolding(crate::specs::Kernels::last_kernel_at))]
-fn last_kernel_at(arrays: &Arrays, text: &[u8]) -> Result<(ScriptKernel, Section), ScriptFault>
-    ensures { result ≡ last_kernel_at arrays.now text.now }
-{
-    let (word, rest) = word_at(text)?;
-    named_kernel_at(word, arrays, rest)
 }
 
 /// A kernel in the innermost open region (OpenACC 3.3, section 2.5, compute constructs).
@@ -84,16 +67,16 @@ fn last_kernel_at(arrays: &Arrays, text: &[u8]) -> Result<(ScriptKernel, Section
 /// # Errors
 ///
 /// `NoOpenRegion` where none is open, behind all other faults.
-#[tactic(auto, unfolding(crate::specs::Statements::kernel_at))]
+#[tactic(auto, unfolding(crate::specs::Statements::kernel_at, crate::specs::Kernels::last_kernel_at))]
 pub fn kernel_at(
     arrays: &Arrays,
     innermost: Option<u64>,
     text: &[u8],
-) -> Result<Statement<'static>, ScriptFault>
-    ensures { let read = kernel_at arrays.now innermost text.now in
-        MatchResult result (λ statement. read ≡ Ok (meaning_of statement)) (λ fault. read ≡ Err fault) }
+) -> Result<Statement<'static>, Trouble>
+    ensures { Says result (kernel_at arrays.now innermost text.now) }
 {
-    let (kernel, section) = last_kernel_at(arrays, text)?;
+    let (word, rest) = word_at(text)?;
+    let (kernel, section) = named_kernel_at(word, arrays, rest)?;
     let region = innermost.ok_or(ScriptFault::NoOpenRegion)?;
     Ok(Statement::Kernel {
         region,

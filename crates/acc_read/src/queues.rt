@@ -1,6 +1,7 @@
 //! Numbers in parentheses: of the queues that options and statements name, and of devices.
 
-ghost use Rattle.std.specs.Prelude.{MatchResult, ◌≡◌};
+ghost use Rattle.std.specs.Prelude.{◌≡◌};
+ghost use Rattle.acc_read.specs.Reading.{Reads};
 ghost use Rattle.acc_read.specs.Queues.{enclosed_number_at, async_queue_at, last_enclosed_at};
 
 use crate::tokens::{is_at_end, is_mark_next, mark_at, number_at};
@@ -8,8 +9,7 @@ use acc_base::ScriptFault;
 
 #[tactic(auto, unfolding(crate::specs::Queues::enclosed_number_at))]
 fn enclosed_number_at(text: &[u8]) -> Result<(u64, &[u8]), ScriptFault>
-    ensures { let read = enclosed_number_at text.now in
-        MatchResult result (λ x. read ≡ Ok (x.0, x.1.now)) (λ fault. read ≡ Err fault) }
+    ensures { Reads (λ x. (x.0, x.1.now)) result (enclosed_number_at text.now) }
 {
     let inside = mark_at(b'(', text)?;
     let (number, rest) = number_at(u32::MAX, inside)?;
@@ -21,8 +21,7 @@ fn enclosed_number_at(text: &[u8]) -> Result<(u64, &[u8]), ScriptFault>
 /// next, and else queue 0.
 #[tactic(auto, unfolding(crate::specs::Queues::async_queue_at))]
 pub fn async_queue_at(text: &[u8]) -> Result<(u64, &[u8]), ScriptFault>
-    ensures { let read = async_queue_at text.now in
-        MatchResult result (λ x. read ≡ Ok (x.0, x.1.now)) (λ fault. read ≡ Err fault) }
+    ensures { Reads (λ x. (x.0, x.1.now)) result (async_queue_at text.now) }
 {
     if is_mark_next(b'(', text) {
         enclosed_number_at(text)

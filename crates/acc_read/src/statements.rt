@@ -1,10 +1,10 @@
 //! What a line of a script says.
 
-ghost use Rattle.std.specs.Prelude.{◌≡◌, ◌≤◌, ◌==◌, not, length, MatchResult, IsOkAnd, IsTrue};
-ghost use Rattle.std.specs.List.{list_all, prefix_len};
-ghost use Rattle.acc_read.specs.Reading.{MatchTrouble};
-ghost use Rattle.acc_read.specs.Statements.{length_at, array_at, question_at, short_at, statement_at, takes_memory, is_text_byte, hash, before_comment, line_at};
-ghost use Rattle.acc_read.specs.Meanings.{meaning_of};
+ghost use Rattle.std.specs.Prelude.{◌≡◌, ◌==◌, not};
+ghost use Rattle.std.specs.List.{list_all};
+ghost use Rattle.acc_read.specs.Reading.{Reads};
+ghost use Rattle.acc_read.specs.Statements.{array_at, question_at, short_at, statement_at, is_text_byte, hash, before_comment, line_at};
+ghost use Rattle.acc_read.specs.Meanings.{Says};
 ghost use Rattle.acc_read.specs.PlainLines.{is_plain_byte, text_of};
 
 use crate::arrays::{Array, Arrays};
@@ -14,7 +14,7 @@ use crate::directives::{
 };
 use crate::kernels::{ScriptKernel, kernel_at};
 use crate::places::{last_address_at, last_section_at};
-use crate::runs::{ByteTest, all_pass};
+use crate::runs::{ByteTest, all_pass, passing_len};
 use crate::tokens::{is_at_end, is_text, name_at, number_at, word_at};
 use crate::troubles::Trouble;
 use crate::writes::{point_at, write_at};
@@ -89,9 +89,7 @@ pub fn line_at<'a>(
     innermost: Option<u64>,
     line: &'a [u8],
 ) -> Result<Statement<'a>, Trouble>
-    ensures { let read = line_at arrays.now device innermost line.now in MatchResult result
-        (λ statement. read ≡ Ok (meaning_of statement))
-        (λ trouble. MatchTrouble trouble (IsOkAnd read (λ meaning. IsTrue (takes_memory meaning))) (λ fault. read ≡ Err fault)) }
+    ensures { Says result (line_at arrays.now device innermost line.now) }
 {
     if line.len() > LINE_LIMIT {
         return Err(Trouble::Line(ScriptFault::TooLong));
@@ -103,11 +101,11 @@ pub fn line_at<'a>(
     statement_at(alloc, arrays, device, innermost, text)
 }
 
-/// What stands before a comment, which has to be text. A line with no comment and no other byte than text is looked at
-/// once.
+/// What stands before a comment, which has to be text. A line with no comment, no tab and no other byte than text is
+/// looked at once.
 #[tactic(auto, using(crate::proofs::PlainLines::plain_laws))]
 fn text_of(line: &[u8]) -> Result<&[u8], ScriptFault>
-    ensures { MatchResult result (λ rest. text_of line.now ≡ Ok rest.now) (λ fault. text_of line.now ≡ Err fault) }
+    ensures { Reads (λ rest. rest.now) result (text_of line.now) }
 {
     if all_pass::<PlainByte>(line) {
         return Ok(line);
@@ -119,22 +117,19 @@ fn text_of(line: &[u8]) -> Result<&[u8], ScriptFault>
     Ok(text)
 }
 
-/// A byte that is text and begins no comment.
+/// A byte that is text and no tab, and begins no comment.
 struct PlainByte;
 
 impl ByteTest for PlainByte {
     ghost test = { is_plain_byte };
 
     fn passes(byte: u8) -> bool {
-        is_text_byte(byte) & (byte != b'#')
+        (b' ' <= byte) & (byte <= b'~') & (byte != b'#')
     }
 }
 
-/// What stands in a line before a comment, without the blanks around it. Most lines have no comment.
+/// What stands in a line before a comment, without the blanks around it.
 pub fn statement_text(line: &[u8]) -> &[u8] {
-    if all_pass::<OutsideByte>(line) {
-        return line.trim_ascii();
-    }
     before_comment(line).trim_ascii()
 }
 
@@ -153,15 +148,8 @@ impl ByteTest for OutsideByte {
 pub fn before_comment(line: &[u8]) -> &[u8]
     ensures { result.now ≡ before_comment line.now }
 {
-    let (text, _) = line.split_at(comment_place(line));
+    let (text, _) = line.split_at(passing_len::<OutsideByte>(line));
     text
-}
-
-fn comment_place(line: &[u8]) -> usize
-    ensures count { result ≡ prefix_len (λ b. not (b == hash)) line.now }
-    ensures bound { result ≤ length line.now }
-{
-    line.iter().take_while(|b| **b != b'#').count()
 }
 
 /// The byte may stand before a comment: a tab, or from a blank to `~`.
@@ -186,30 +174,24 @@ fn statement_at<'a>(
     innermost: Option<u64>,
     text: &'a [u8],
 ) -> Result<Statement<'a>, Trouble>
-    ensures { let read = statement_at arrays.now device innermost text.now in MatchResult result
-        (λ statement. read ≡ Ok (meaning_of statement))
-        (λ trouble. MatchTrouble trouble (IsOkAnd read (λ meaning. IsTrue (takes_memory meaning))) (λ fault. read ≡ Err fault)) }
+    ensures { Says result (statement_at arrays.now device innermost text.now) }
 {
     let (word, rest) = word_at(text)?;
     if is_text(word, "data") {
-        return data_at(alloc, arrays, device, rest);
+        data_at(alloc, arrays, device, rest)
+    } else if is_text(word, "enter") {
+        enter_at(alloc, arrays, device, rest)
+    } else if is_text(word, "exit") {
+        exit_at(alloc, arrays, device, rest)
+    } else if is_text(word, "update") {
+        update_at(alloc, arrays, device, rest)
+    } else if is_text(word, "write") {
+        write_at(arrays, rest)
+    } else if is_text(word, "point") {
+        point_at(arrays, rest)
+    } else {
+        short_at(word, arrays, device, innermost, rest)
     }
-    if is_text(word, "enter") {
-        return enter_at(alloc, arrays, device, rest);
-    }
-    if is_text(word, "exit") {
-        return exit_at(alloc, arrays, device, rest);
-    }
-    if is_text(word, "update") {
-        return update_at(alloc, arrays, device, rest);
-    }
-    if is_text(word, "write") {
-        return Ok(write_at(arrays, rest)?);
-    }
-    if is_text(word, "point") {
-        return Ok(point_at(arrays, rest)?);
-    }
-    Ok(short_at(word, arrays, device, innermost, rest)?)
 }
 
 /// The statement that begins with this word, which takes no memory.
@@ -220,9 +202,8 @@ fn short_at<'a>(
     device: u64,
     innermost: Option<u64>,
     text: &'a [u8],
-) -> Result<Statement<'a>, ScriptFault>
-    ensures { let read = short_at word.now arrays.now device innermost text.now in
-        MatchResult result (λ statement. read ≡ Ok (meaning_of statement)) (λ fault. read ≡ Err fault) }
+) -> Result<Statement<'a>, Trouble>
+    ensures { Says result (short_at word.now arrays.now device innermost text.now) }
 {
     if is_text(word, "array") {
         array_at(arrays, text)
@@ -243,9 +224,8 @@ fn short_at<'a>(
 
 /// The statement that begins with this word: `show`, `peek`, `present`, `address` or `report`.
 #[tactic(auto, unfolding(crate::specs::Statements::question_at))]
-fn question_at(word: &[u8], arrays: &Arrays, text: &[u8]) -> Result<Statement<'static>, ScriptFault>
-    ensures { let read = question_at word.now arrays.now text.now in
-        MatchResult result (λ statement. read ≡ Ok (meaning_of statement)) (λ fault. read ≡ Err fault) }
+fn question_at(word: &[u8], arrays: &Arrays, text: &[u8]) -> Result<Statement<'static>, Trouble>
+    ensures { Says result (question_at word.now arrays.now text.now) }
 {
     if is_text(word, "show") {
         Ok(Statement::Show(last_section_at(arrays, text)?))
@@ -258,35 +238,25 @@ fn question_at(word: &[u8], arrays: &Arrays, text: &[u8]) -> Result<Statement<'s
     } else if is_text(word, "report") && is_at_end(text) {
         Ok(Statement::Report)
     } else {
-        Err(ScriptFault::Syntax)
+        Err(Trouble::Line(ScriptFault::Syntax))
     }
 }
 
-/// The name and the length of a new array.
-#[tactic(auto, unfolding(crate::specs::Statements::array_at))]
-fn array_at<'a>(arrays: &Arrays, text: &'a [u8]) -> Result<Statement<'a>, ScriptFault>
-    ensures { let read = array_at arrays.now text.now in
-        MatchResult result (λ statement. read ≡ Ok (meaning_of statement)) (λ fault. read ≡ Err fault) }
+/// The name and the length of a new array, up to the end of the line.
+#[tactic(auto, unfolding(crate::specs::Statements::array_at, crate::specs::Statements::length_at))]
+fn array_at<'a>(arrays: &Arrays, text: &'a [u8]) -> Result<Statement<'a>, Trouble>
+    ensures { Says result (array_at arrays.now text.now) }
 {
     let (name, rest) = name_at(text)?;
     if arrays.get(name).is_some() {
-        return Err(ScriptFault::NameTaken);
+        return Err(Trouble::Line(ScriptFault::NameTaken));
     }
-    length_at(name, arrays, rest)
-}
-
-/// The length of a new array, up to the end of the line.
-#[tactic(auto, unfolding(crate::specs::Statements::length_at))]
-fn length_at<'a>(name: &'a [u8], arrays: &Arrays, text: &[u8]) -> Result<Statement<'a>, ScriptFault>
-    ensures { let read = length_at name.now arrays.now text.now in
-        MatchResult result (λ statement. read ≡ Ok (meaning_of statement)) (λ fault. read ≡ Err fault) }
-{
-    let (len, rest) = number_at(u32::MAX, text)?;
+    let (len, rest) = number_at(u32::MAX, rest)?;
     if len == 0 {
-        return Err(ScriptFault::Number);
+        return Err(Trouble::Line(ScriptFault::Number));
     }
     if !is_at_end(rest) {
-        return Err(ScriptFault::Syntax);
+        return Err(Trouble::Line(ScriptFault::Syntax));
     }
     let array = arrays.next_array(len).ok_or(ScriptFault::HostFull)?;
     Ok(Statement::Declare { name, array })

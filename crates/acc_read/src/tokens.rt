@@ -1,10 +1,11 @@
 //! Words, marks, numbers and names at the front of a text.
 
-ghost use Rattle.std.specs.Prelude.{◌≡◌, ◌≤◌, ◌<◌, ◌+◌, ◌==◌, not, true, min, take, length, IfOk, MatchResult};
-ghost use Rattle.std.specs.List.{list_all, prefix_len};
+ghost use Rattle.std.specs.Prelude.{◌≡◌, ◌≤◌, ◌<◌, ◌+◌, ◌==◌, not, true, min, take, length, IfOk};
+ghost use Rattle.std.specs.List.{prefix_len};
 ghost use Rattle.std.specs.Char.{is_ascii_digit};
 ghost use Rattle.std.specs.Str.{bytes_eq};
-ghost use Rattle.acc_read.specs.Tokens.{is_blank, is_word_byte, word_len, skip_blanks, is_at_end, word_at, keyword_at, is_word_next, is_mark_next, mark_at, skip_comma, is_word_before, is_keyword, number_at, is_name_byte, begins_lower, is_name, value_of, name_at};
+ghost use Rattle.acc_read.specs.Reading.{Reads};
+ghost use Rattle.acc_read.specs.Tokens.{is_blank, is_word_byte, word_len, skip_blanks, is_at_end, word_at, keyword_at, is_word_next, is_mark_next, mark_at, skip_comma, is_word_before, is_keyword, number_at, is_name_byte, begins_lower, value_of, name_at};
 
 use acc_base::ScriptFault;
 
@@ -56,6 +57,7 @@ pub fn skip_blanks(text: &[u8]) -> &[u8]
     ensures { result.now ≡ skip_blanks text.now }
 {
     match text {
+        [] => text,
         [first, ..] if *first > b' ' => text,
         [b' ', second, ..] if *second > b' ' => &text[1..],
         _ => {
@@ -78,18 +80,23 @@ pub fn is_at_end(text: &[u8]) -> bool
 pub fn is_text(word: &[u8], text: &str) -> bool
     ensures { result ≡ bytes_eq word.now text.now }
 {
-    // Most other words of this length begin with another byte. A short prefix of a constant length is compared without
-    // a call.
-    word.len() == text.len()
-        && word.first() == text.as_bytes().first()
-        && matches!(word.strip_prefix(text.as_bytes()), Some(_))
+    // A text of a constant length comes to as many tests, and no call.
+    let bytes = text.as_bytes();
+    if word.len() != bytes.len() {
+        return false;
+    }
+    'bytes: for i in 0..bytes.len() {
+        if word[i] != bytes[i] {
+            return false;
+        }
+    }
+    true
 }
 
 /// The next word, which has letters, digits and `_`, and the text after it.
 #[tactic(auto, unfolding(crate::specs::Tokens::word_at))]
 pub fn word_at(text: &[u8]) -> Result<(&[u8], &[u8]), ScriptFault>
-    ensures { let read = word_at text.now in
-        MatchResult result (λ x. read ≡ Ok (x.0.now, x.1.now)) (λ fault. read ≡ Err fault) }
+    ensures { Reads (λ x. (x.0.now, x.1.now)) result (word_at text.now) }
 {
     let token = skip_blanks(text);
     let len = word_len(token);
@@ -114,8 +121,7 @@ pub fn begins_word(text: &[u8]) -> bool
 #[tactic(auto, using(crate::proofs::Keywords::keyword_laws))]
 pub fn keyword_at<'a>(keyword: &str, text: &'a [u8]) -> Result<&'a [u8], ScriptFault>
     requires { is_keyword keyword.now ≡ true }
-    ensures { let read = keyword_at keyword.now text.now in
-        MatchResult result (λ rest. read ≡ Ok rest.now) (λ fault. read ≡ Err fault) }
+    ensures { Reads (λ rest. rest.now) result (keyword_at keyword.now text.now) }
 {
     match skip_blanks(text).strip_prefix(keyword.as_bytes()) {
         Some(rest) if !begins_word(rest) => Ok(rest),
@@ -147,8 +153,7 @@ pub fn is_mark_next(mark: u8, text: &[u8]) -> bool
 #[tactic(auto, unfolding(crate::specs::Tokens::mark_at))]
 #[inline(always)]
 pub fn mark_at(mark: u8, text: &[u8]) -> Result<&[u8], ScriptFault>
-    ensures { let read = mark_at mark text.now in
-        MatchResult result (λ rest. read ≡ Ok rest.now) (λ fault. read ≡ Err fault) }
+    ensures { Reads (λ rest. rest.now) result (mark_at mark text.now) }
 {
     match skip_blanks(text) {
         [first, rest @ ..] if *first == mark => Ok(rest),
@@ -194,8 +199,7 @@ fn digits_at(limit: u32, text: &[u8]) -> (u64, usize)
 #[inline(always)]
 #[tactic(auto, using(crate::proofs::Numbers::number_laws))]
 pub fn number_at(limit: u32, text: &[u8]) -> Result<(u32, &[u8]), ScriptFault>
-    ensures read { let read = number_at limit text.now in
-        MatchResult result (λ x. read ≡ Ok (x.0, x.1.now)) (λ fault. read ≡ Err fault) }
+    ensures read { Reads (λ x. (x.0, x.1.now)) result (number_at limit text.now) }
     ensures bound { IfOk result (λ x. x.0 ≤ limit) }
 {
     let token = skip_blanks(text);
@@ -216,39 +220,34 @@ fn is_name_byte(b: u8) -> bool
     b.is_ascii_lowercase() || b.is_ascii_digit() || b == b'_'
 }
 
-/// The word begins with a lower-case letter.
-fn begins_lower(word: &[u8]) -> bool
-    ensures { result ≡ begins_lower word.now }
+/// How many bytes at the front are of one name.
+fn name_len(text: &[u8]) -> usize
+    ensures count { result ≡ prefix_len is_name_byte text.now }
+    ensures bound { result ≤ length text.now }
 {
-    match word {
+    text.iter().take_while(|b| is_name_byte(**b)).count()
+}
+
+fn begins_lower(name: &[u8]) -> bool
+    ensures { result ≡ begins_lower name.now }
+{
+    match name {
         [] => false,
         [first, ..] => first.is_ascii_lowercase(),
     }
 }
 
-fn has_name_bytes(word: &[u8]) -> bool
-    ensures { result ≡ list_all is_name_byte word.now }
-{
-    word.iter().all(|b| is_name_byte(*b))
-}
-
-/// The word may name an array.
-fn is_name(word: &[u8]) -> bool
-    ensures { result ≡ is_name word.now }
-{
-    begins_lower(word) && has_name_bytes(word) && word.len() <= 32
-}
-
 /// The next word, which may name an array, and the text after it.
 #[inline(always)]
-#[tactic(auto, unfolding(crate::specs::Tokens::name_at))]
+#[tactic(auto, using(crate::proofs::NameWords::name_laws))]
 pub fn name_at(text: &[u8]) -> Result<(&[u8], &[u8]), ScriptFault>
-    ensures { let read = name_at text.now in
-        MatchResult result (λ x. read ≡ Ok (x.0.now, x.1.now)) (λ fault. read ≡ Err fault) }
+    ensures { Reads (λ x. (x.0.now, x.1.now)) result (name_at text.now) }
 {
-    let (word, rest) = word_at(text)?;
-    if !is_name(word) {
+    let token = skip_blanks(text);
+    let len = name_len(token);
+    let (name, rest) = token.split_at(len);
+    if begins_word(rest) || len > 32 || !begins_lower(name) {
         return Err(ScriptFault::Syntax);
     }
-    Ok((word, rest))
+    Ok((name, rest))
 }

@@ -4,7 +4,7 @@ ghost use Rattle.std.specs.Prelude.{◌≡◌};
 ghost use Rattle.acc_read.specs.declared.troubles.Trouble.TheVariants.{Memory, Line};
 
 use acc_base::ScriptFault;
-use std::alloc::{AllocError, AllocFailed};
+use std::alloc::AllocError;
 
 /// Why a line gives no statement.
 #[derive(Clone, Copy)]
@@ -27,14 +27,6 @@ impl From<AllocError> for Trouble {
     ghost from_gives = { λ _ trouble. trouble ≡ Memory };
 
     fn from(_error: AllocError) -> Trouble {
-        Trouble::Memory
-    }
-}
-
-impl<T: Drop> From<AllocFailed<T>> for Trouble {
-    ghost from_gives = { λ _ trouble. trouble ≡ Memory };
-
-    fn from(_error: AllocFailed<T>) -> Trouble {
         Trouble::Memory
     }
 }

@@ -16,6 +16,7 @@ use Rattle.acc_base.specs.Ranges.{where_is}
 use Rattle.acc_base.specs.Blocks.{used_bytes}
 use Rattle.acc_base.specs.Records.{Records}
 use Rattle.acc_base.specs.Waits.{ended_blocks, told_ended}
+use Rattle.acc_base.specs.Limits.{Limits}
 use Rattle.acc_base.specs.Devices.{OneDevice, view, open_regions}
 use Rattle.acc_base.specs.Calls.{World, event_count}
 use Rattle.acc_table.specs.declared.calls.Mapped.{Mapped}
@@ -43,17 +44,11 @@ refusal_text line fault = codes "line " ++ (decimal line ++ (codes ": refused " 
 
 -- ---- the report
 
--- the sizes of host memory and of the memory of the one device there is, and what blocks take of that
-abbrev pub sizes_text : ℕ → ℕ → ℕ → List ℕ
-sizes_text host device used =
+-- the sizes of host memory and of the memory of each device, and one number more with its name
+abbrev pub sizes_text : Limits → List ℕ → ℕ → List ℕ
+sizes_text limits name number =
     codes "host "
-    ++ (decimal host ++ (codes " device " ++ (decimal device ++ (codes " used " ++ (decimal used ++ codes "\n")))))
-
--- the sizes of host memory and of the memory of each device, and how many devices there are
-abbrev pub devices_text : ℕ → ℕ → ℕ → List ℕ
-devices_text host device count =
-    codes "host "
-    ++ (decimal host ++ (codes " device " ++ (decimal device ++ (codes " devices " ++ (decimal count ++ codes "\n")))))
+    ++ (decimal limits.host ++ (codes " device " ++ (decimal limits.device ++ (name ++ (decimal number ++ codes "\n")))))
 
 -- a device by its number, and what blocks take of it
 abbrev pub used_text : ℕ → ℕ → List ℕ
@@ -143,10 +138,10 @@ queues_text q (transfers ∷ queues) = waiting_text q (length transfers) ++ queu
 abbrev pub device_text : Records → List ℕ
 device_text w = ranges_text w ++ ended_texts 0 w ++ queues_text 0 w.queues
 
--- the one device there is, behind the sizes
+-- the one device there is, behind the sizes and what blocks take of it
 abbrev pub only_text : World → List ℕ
 only_text w =
-    sizes_text w.limits.host w.limits.device (used_bytes (view 0 w.state).records.blocks)
+    sizes_text w.limits (codes " used ") (used_bytes (view 0 w.state).records.blocks)
     ++ device_text (view 0 w.state).records
 
 -- one of several devices: its number, what blocks take of it, and what it has
@@ -160,7 +155,7 @@ each_text device (x ∷ xs) = one_text device x ++ each_text (suc device) xs
 
 -- several devices, behind the sizes and their number
 abbrev pub several_text : World → List ℕ
-several_text w = devices_text w.limits.host w.limits.device w.limits.devices ++ each_text 0 w.state.devices
+several_text w = sizes_text w.limits (codes " devices ") w.limits.devices ++ each_text 0 w.state.devices
 
 -- all devices: the number of one that is alone is not written
 abbrev pub memories_text : World → List ℕ

@@ -1,9 +1,9 @@
-//! Bytes, presence, device addresses and the step of an empty queue, each written without allocation.
+//! Bytes, presence and device addresses, each written without allocation.
 
-ghost use Rattle.std.specs.Prelude.{◌≡◌, ◌≤◌, ◌*◌, length, option_map};
+ghost use Rattle.std.specs.Prelude.{◌≤◌, length, option_map};
 ghost use Rattle.hex.specs.Hex.{encode_lower};
 ghost use Rattle.acc_script.specs.Ends.{Wrote};
-ghost use Rattle.acc_script.specs.Shown.{idle_text, bytes_text, read_text, presence_text, place_text};
+ghost use Rattle.acc_script.specs.Shown.{bytes_text, read_text, presence_text, place_text};
 
 use crate::Sink;
 use crate::ends::whole::write_all;
@@ -56,22 +56,8 @@ fn write_piece<W: Sink>(writer: &mut W, piece: &[u8]) -> bool
 {
     let mut buffer = [0u8; 2 * PIECE];
     let (digits, _) = buffer.split_at_mut(2 * piece.len());
-    put_digits(piece, digits);
-    write_all(writer, digits)
-}
-
-fn put_digits(piece: &[u8], digits: &mut [u8])
-    requires { length digits.old ≡ 2 * length piece.now }
-    ensures { digits.new ≡ encode_lower piece.now }
-{
     let _ = hex::encode_to_slice(piece, digits);
-}
-
-/// Writes that the queue of a step was empty; false where the sink failed.
-pub fn write_idle<W: Sink>(writer: &mut W) -> bool
-    ensures { Wrote (W.told writer.old) (W.told writer.new) idle_text result }
-{
-    write_all(writer, b"idle\n")
+    write_all(writer, digits)
 }
 
 /// Writes whether a section is present; false where the sink failed.

@@ -31,10 +31,8 @@ fn write_block<W: Sink>(writer: &mut W, ended: Ended) -> bool
 {
     let mut line = Line::new();
     line.put(b"\n");
-    line.put_number(ended.pins);
-    line.put(b" pins ");
-    line.put_number(ended.size);
-    line.put(b" ");
+    line.put_field(b" pins ", ended.pins);
+    line.put_field(b" ", ended.size);
     line.put_address(ended.place);
     line.put(b"ended ");
     line.write(writer)

@@ -5,7 +5,8 @@ ghost use Rattle.acc_script.specs.Ends.{Wrote};
 ghost use Rattle.acc_script.specs.Scripts.{is_refused, effect_text};
 
 use crate::Sink;
-use crate::print::answers::{write_idle, write_place, write_presence, write_read};
+use crate::ends::whole::write_all;
+use crate::print::answers::{write_place, write_presence, write_read};
 use crate::print::refusals::write_refusal;
 use crate::print::reports::write_report;
 use acc_base::{Fault, Section};
@@ -47,13 +48,14 @@ impl Effect {
 }
 
 /// Writes what the line of a number has to print; false where the sink failed.
+#[inline(always)]
 #[tactic(auto, using(crate::proofs::Fronts::took_nothing))]
 pub fn write_effect<W: Sink>(writer: &mut W, number: u64, table: &Table, effect: Effect) -> bool
     ensures { Wrote (W.told writer.old) (W.told writer.new) (effect_text number table.now effect) result }
 {
     match effect {
         Effect::Nothing => true,
-        Effect::EmptyQueue => write_idle(writer),
+        Effect::EmptyQueue => write_all(writer, b"idle\n"),
         Effect::Refused(fault) => write_refusal(writer, number, fault),
         Effect::HostBytes(section) => write_read(writer, table.host_read(section)),
         Effect::DeviceBytes { device, section } => {

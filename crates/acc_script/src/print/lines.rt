@@ -64,6 +64,17 @@ impl Line {
         self.at = put_decimal(number, &mut self.bytes, self.at);
     }
 
+    /// Puts a name and a number in front.
+    #[inline(always)]
+    pub fn put_field(&mut self, name: &[u8], number: u64)
+        requires room { length name.now + length self.old ≤ 236 }
+        ensures text { self.new ≡ name.now ++ (decimal number ++ self.old) }
+        ensures length { length self.new ≤ length name.now + (length self.old + 20) }
+    {
+        self.put_number(number);
+        self.put(name);
+    }
+
     /// Puts an address in front, as `0x` and hexadecimal digits in lower case.
     #[inline(always)]
     pub fn put_address(&mut self, number: u64)

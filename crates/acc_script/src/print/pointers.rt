@@ -38,8 +38,7 @@ fn write_pointer<W: Sink>(writer: &mut W, attached: Attachment) -> bool
 {
     let mut line = Line::new();
     line.put(b"\n");
-    line.put_number(attached.count);
-    line.put(b" count ");
+    line.put_field(b" count ", attached.count);
     line.put_address(attached.pointer);
     line.put(b"pointer ");
     line.write(writer)

@@ -39,9 +39,7 @@ fn write_queue<W: Sink>(writer: &mut W, q: u64, len: u64) -> bool
 {
     let mut line = Line::new();
     line.put(b"\n");
-    line.put_number(len);
-    line.put(b" length ");
-    line.put_number(q);
-    line.put(b"queue ");
+    line.put_field(b" length ", len);
+    line.put_field(b"queue ", q);
     line.write(writer)
 }

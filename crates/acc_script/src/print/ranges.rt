@@ -53,8 +53,7 @@ fn write_mapped<W: Sink>(writer: &mut W, mapped: Mapped) -> bool
     put_counters(&mut line, mapped);
     line.put_address(mapped.place);
     line.put(b" at ");
-    line.put_number(mapped.len);
-    line.put(b" ");
+    line.put_field(b" ", mapped.len);
     line.put_address(mapped.start);
     line.put(b"map ");
     line.write(writer)
@@ -72,8 +71,6 @@ fn put_counters(line: &mut Line, mapped: Mapped)
     } else {
         line.put(b"\n");
     }
-    line.put_number(mapped.dynamic);
-    line.put(b" dynamic ");
-    line.put_number(mapped.structured);
-    line.put(b" structured ");
+    line.put_field(b" dynamic ", mapped.dynamic);
+    line.put_field(b" structured ", mapped.structured);
 }

@@ -1,9 +1,9 @@
 //! The report of a table, written without allocation.
 
-ghost use Rattle.std.specs.Prelude.{◌<◌};
+ghost use Rattle.std.specs.Prelude.{◌<◌, ◌≤◌, length};
 ghost use Rattle.acc_base.specs.Devices.{device_at, view};
 ghost use Rattle.acc_script.specs.Ends.{Wrote};
-ghost use Rattle.acc_script.specs.Texts.{device_text, only_text, one_text, each_text, several_text, memories_text, report_text, sizes_text, devices_text, used_text, totals_text};
+ghost use Rattle.acc_script.specs.Texts.{device_text, only_text, one_text, each_text, several_text, memories_text, report_text, sizes_text, used_text, totals_text};
 ghost use Rattle.acc_script.specs.Runs.{Printed};
 
 use crate::Sink;
@@ -11,7 +11,7 @@ use crate::print::blocks::write_ended;
 use crate::print::lines::Line;
 use crate::print::queues::write_queues;
 use crate::print::ranges::write_ranges;
-use acc_base::Fault;
+use acc_base::{Config, Fault};
 use acc_table::Table;
 
 /// Writes the report of a table, without allocation. It shows the sizes of the memories in bytes, what each device has,
@@ -63,8 +63,7 @@ fn write_only<W: Sink>(table: &Table, writer: &mut W) -> bool
     ensures { Wrote (W.told writer.old) (W.told writer.new) (only_text table.now) result }
 {
     table.laws();
-    let config = table.config();
-    if !write_sizes(writer, config.host(), config.device(), table.used(0)) {
+    if !write_sizes(writer, table.config(), b" used ", table.used(0)) {
         return false;
     }
     write_device(table, writer, 0)
@@ -75,7 +74,7 @@ fn write_several<W: Sink>(table: &Table, writer: &mut W) -> bool
     ensures { Wrote (W.told writer.old) (W.told writer.new) (several_text table.now) result }
 {
     let config = table.config();
-    if !write_devices(writer, config.host(), config.device(), config.devices()) {
+    if !write_sizes(writer, config, b" devices ", config.devices()) {
         return false;
     }
     write_each(table, writer)
@@ -119,31 +118,16 @@ fn write_device<W: Sink>(table: &Table, writer: &mut W, device: u64) -> bool
     write_queues(table, writer, device)
 }
 
-fn write_sizes<W: Sink>(writer: &mut W, host: u64, device: u64, used: u64) -> bool
-    ensures { Wrote (W.told writer.old) (W.told writer.new) (sizes_text host device used) result }
+/// Writes the sizes of the memories, and one number more with its name.
+fn write_sizes<W: Sink>(writer: &mut W, config: Config, name: &[u8], number: u64) -> bool
+    requires short { length name.now ≤ 16 }
+    ensures { Wrote (W.told writer.old) (W.told writer.new) (sizes_text config name.now number) result }
 {
     let mut line = Line::new();
     line.put(b"\n");
-    line.put_number(used);
-    line.put(b" used ");
-    line.put_number(device);
-    line.put(b" device ");
-    line.put_number(host);
-    line.put(b"host ");
-    line.write(writer)
-}
-
-fn write_devices<W: Sink>(writer: &mut W, host: u64, device: u64, count: u64) -> bool
-    ensures { Wrote (W.told writer.old) (W.told writer.new) (devices_text host device count) result }
-{
-    let mut line = Line::new();
-    line.put(b"\n");
-    line.put_number(count);
-    line.put(b" devices ");
-    line.put_number(device);
-    line.put(b" device ");
-    line.put_number(host);
-    line.put(b"host ");
+    line.put_field(name, number);
+    line.put_field(b" device ", config.device());
+    line.put_field(b"host ", config.host());
     line.write(writer)
 }
 
@@ -152,10 +136,8 @@ fn write_used<W: Sink>(writer: &mut W, device: u64, used: u64) -> bool
 {
     let mut line = Line::new();
     line.put(b"\n");
-    line.put_number(used);
-    line.put(b" used ");
-    line.put_number(device);
-    line.put(b"device ");
+    line.put_field(b" used ", used);
+    line.put_field(b"device ", device);
     line.write(writer)
 }
 
@@ -164,9 +146,7 @@ fn write_totals<W: Sink>(writer: &mut W, regions: u64, events: u64) -> bool
 {
     let mut line = Line::new();
     line.put(b"\n");
-    line.put_number(events);
-    line.put(b" events ");
-    line.put_number(regions);
-    line.put(b"regions ");
+    line.put_field(b" events ", events);
+    line.put_field(b"regions ", regions);
     line.write(writer)
 }

@@ -4,7 +4,7 @@ use Rattle.acc_script.proofs.print.reports.write_only.Goals as goal
 
 pub returns-then-not-write_sizes : goal.returns-then-not-write_sizes
 returns-then-not-write_sizes g c =
-    let sizes = rw (c.host.ensures.value, c.device.ensures.value, c.used.ensures, c.config-config.ensures) at c.if-not-write_sizes.ensures in
+    let sizes = rw (c.used.ensures, c.config.ensures) at c.if-not-write_sizes.ensures in
     search (writing_laws, sizes)
 
 pub write_device-requires : goal.write_device-requires
@@ -12,5 +12,5 @@ write_device-requires g c = omega (arith, c.laws.ensures.bounds.devices.0)
 
 pub returns : goal.returns
 returns g c =
-    let sizes = rw (c.host.ensures.value, c.device.ensures.value, c.used.ensures, c.config-config.ensures) at c.if-not-write_sizes.ensures in
+    let sizes = rw (c.used.ensures, c.config.ensures) at c.if-not-write_sizes.ensures in
     search (writing_laws, sizes, c.write_device.ensures)

@@ -47,7 +47,7 @@ uint32_t lw_version(void);
 /* What a call answers: LW_DONE, or why it was refused. A refused call fills in its fault, and changes nothing else. */
 enum {
     LW_DONE = 0,           /* it is done */
-    LW_MEMORY = 1,         /* no memory could be had. For the list of a directive's items or one more lease it is told
+    LW_MEMORY = 1,         /* no memory could be had. For a list of more than one item or one more lease it is told
                               before all that a table refuses; else it is told last of all */
     LW_BAD_CONFIG = 2,     /* a limit is out of its bounds */
     LW_NO_TICKETS = 3,     /* there are as many events as there may be, and lw_rebase brings none back; value: how many
@@ -518,7 +518,7 @@ uint32_t lw_event_bytes(lw_table *table, uint64_t place, void *bytes, size_t len
 /* ---- Dry runs ---- */
 
 /* Judges a directive, and does not carry it out: the status and the fault are those of its call, were that made now.
-   Only the list of the items takes memory here, so LW_MEMORY of a table is not foretold. It is no event.
+   Only a list of more than one item takes memory here, so LW_MEMORY of a table is not foretold. It is no event.
 
    asked: the directive, as lw_event tells one that was carried out. Its kind is LW_ENTERED to LW_STEPPED; LW_ABSENT
    where no directive is of the kind. Of LW_EXITED the region is read. Of the others it is the device, the queue and the

@@ -1111,6 +1111,7 @@ static void judge(lw_table *table, const row *row, const char *before, const cha
         report_of(table, after);
         check(strcmp(before, after) == 0, where, "a directive that is judged changes the report");
         if (answer.status == LW_MEMORY && answer.is_short) {
+            check(row->count > 1, "judged", "memory is wanted for no list");
             continue;
         }
         check(is_asked ? is_told(&answer, row) : answer.status == LW_ABSENT && answer.fault.status == LW_ABSENT,

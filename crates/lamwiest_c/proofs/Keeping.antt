@@ -27,7 +27,7 @@ use Rattle.acc_table.specs.Turns.{lent_by}
 use Rattle.acc_table.proofs.Replying.{made_of}
 use Rattle.lamwiest_c.specs.declared.environments.KeptLease.{KeptLease}
 use Rattle.lamwiest_c.specs.Answers.{number_in, is_serial, leases_without}
-use Rattle.lamwiest_c.specs.Keeps.{Entries, leases_in, IsKept, AreKept, entries_by, kept, lease_of_nothing}
+use Rattle.lamwiest_c.specs.Keeps.{Entries, leases_in, IsLeaseKept, AreLeasesKept, entries_by, kept, lease_of_nothing}
 use Rattle.lamwiest_c.specs.Leases.{leases_with}
 
 -- ---- the serial number of the next loan
@@ -82,30 +82,30 @@ loan_numbered w v region s reply done = go (judge w (Lend region s)) refl done
 
 -- ---- the leases stay kept
 
-pub kept_from : (m n : ℕ) (es : Entries) → m ≤ n → AllByRecursion (IsKept m) es → AllByRecursion (IsKept n) es
-kept_from m n es le h = AllByRecursion-weaker (IsKept m) (IsKept n) es (λ e k. (k.0, omega (arith, k.1))) h
+pub kept_from : (m n : ℕ) (es : Entries) → m ≤ n → AllByRecursion (IsLeaseKept m) es → AllByRecursion (IsLeaseKept n) es
+kept_from m n es le h = AllByRecursion-weaker (IsLeaseKept m) (IsLeaseKept n) es (λ e k. (k.0, omega (arith, k.1))) h
 
 -- after a call
-pub kept_done : (w v : World) (call : Call Leased) (reply : Reply) (es : Entries) → IsDone w call reply v → AreKept w es → AreKept v es
+pub kept_done : (w v : World) (call : Call Leased) (reply : Reply) (es : Entries) → IsDone w call reply v → AreLeasesKept w es → AreLeasesKept v es
 kept_done w v call reply es done h = kept_from w.state.serial v.state.serial es (serial_rises w v call reply done) h
 
 -- whether it was done or refused
-pub kept_asked : (w v : World) (call : Call Leased) (r : Result Reply (Call Leased × Fault)) (es : Entries) → IfOk r (λ reply. IsDone w call reply v) → IfErr r (λ back. (back.0 ≡ call) × (v ≡ w)) → AreKept w es → AreKept v es
+pub kept_asked : (w v : World) (call : Call Leased) (r : Result Reply (Call Leased × Fault)) (es : Entries) → IfOk r (λ reply. IsDone w call reply v) → IfErr r (λ back. (back.0 ≡ call) × (v ≡ w)) → AreLeasesKept w es → AreLeasesKept v es
 kept_asked w v call (Ok reply) es done same h = kept_done w v call reply es done h
-kept_asked w v call (Err back) es done same h = subst (λ (x : World). AreKept x es) (sym same.1) h
+kept_asked w v call (Err back) es done same h = subst (λ (x : World). AreLeasesKept x es) (sym same.1) h
 
-pub kept_without : (w : World) (n : ℕ) (es : Entries) → AreKept w es → AreKept w (without_number n es)
-kept_without w n es h = AllByRecursion-filter (IsKept w.state.serial) (λ (e : ℕ × KeptLease). not (e.0 == n)) es h
+pub kept_without : (w : World) (n : ℕ) (es : Entries) → AreLeasesKept w es → AreLeasesKept w (without_number n es)
+kept_without w n es h = AllByRecursion-filter (IsLeaseKept w.state.serial) (λ (e : ℕ × KeptLease). not (e.0 == n)) es h
 
 -- each number is below that of a loan
-pub kept_below : (w v : World) (reply : Reply) (es : Entries) → IsNumbered w v reply → AreKept w es → AllByRecursion (λ (e : ℕ × KeptLease). e.0 < number_in reply) es
-kept_below w v reply es numbered h = AllByRecursion-weaker (IsKept w.state.serial) (λ (e : ℕ × KeptLease). e.0 < number_in reply) es (λ e k. omega (arith, k.1, numbered.number)) h
+pub kept_below : (w v : World) (reply : Reply) (es : Entries) → IsNumbered w v reply → AreLeasesKept w es → AllByRecursion (λ (e : ℕ × KeptLease). e.0 < number_in reply) es
+kept_below w v reply es numbered h = AllByRecursion-weaker (IsLeaseKept w.state.serial) (λ (e : ℕ × KeptLease). e.0 < number_in reply) es (λ e k. omega (arith, k.1, numbered.number)) h
 
 -- with that of a loan
-pub kept_more : (w v : World) (reply : Reply) (es : Entries) → IsNumbered w v reply → AreKept w es → AreKept v (es ++ entries_by reply)
-kept_more w v reply es numbered h = AllByRecursion-append (IsKept v.state.serial) es (entries_by reply) (kept_from w.state.serial v.state.serial es (omega (arith, numbered.next)) h) (own reply numbered.number)
+pub kept_more : (w v : World) (reply : Reply) (es : Entries) → IsNumbered w v reply → AreLeasesKept w es → AreLeasesKept v (es ++ entries_by reply)
+kept_more w v reply es numbered h = AllByRecursion-append (IsLeaseKept v.state.serial) es (entries_by reply) (kept_from w.state.serial v.state.serial es (omega (arith, numbered.next)) h) (own reply numbered.number)
   where
-    own : (r : Reply) → number_in r ≡ w.state.serial → AllByRecursion (IsKept v.state.serial) (entries_by r)
+    own : (r : Reply) → number_in r ≡ w.state.serial → AllByRecursion (IsLeaseKept v.state.serial) (entries_by r)
     own (replies.Lease lease) is = ((refl, omega (arith, is, numbered.next)), tt)
     own replies.Done is = tt
     own (replies.Entered number) is = tt
@@ -122,11 +122,11 @@ leases-more (e ∷ es) reply = ap (λ (ls : List Leased). e.1.lease ∷ ls) (lea
 
 -- ---- the lease of a number
 
-number_is : (next n : ℕ) (e : ℕ × KeptLease) → IsKept next e → (b : Bool) → (e.0 == n) ≡ b → is_serial n e.1.lease ≡ b
+number_is : (next n : ℕ) (e : ℕ × KeptLease) → IsLeaseKept next e → (b : Bool) → (e.0 == n) ≡ b → is_serial n e.1.lease ≡ b
 number_is next n e h b t = ap (λ (m : ℕ). m == n) (sym h.0) ∙ t
 
 -- it is found by its serial number as by its entry
-pub lease_found : (next n : ℕ) (es : Entries) → AllByRecursion (IsKept next) es → find (is_serial n) (leases_in es) ≡ option_map (λ (k : KeptLease). k.lease) (value_at n es)
+pub lease_found : (next n : ℕ) (es : Entries) → AllByRecursion (IsLeaseKept next) es → find (is_serial n) (leases_in es) ≡ option_map (λ (k : KeptLease). k.lease) (value_at n es)
 lease_found next n [] h = refl
 lease_found next n (e ∷ es) h = go (e.0 == n) refl (lease_found next n es h.1)
   where
@@ -134,10 +134,10 @@ lease_found next n (e ∷ es) h = go (e.0 == n) refl (lease_found next n es h.1)
     go true t rest = rw (t, number_is next n e h.0 true t) refl
     go false t rest = rw (t, number_is next n e h.0 false t) rest
 
-pub found_kept : (next n : ℕ) (es : Entries) (k : KeptLease) → AllByRecursion (IsKept next) es → value_at n es ≡ Some k → find (is_serial n) (leases_in es) ≡ Some k.lease
+pub found_kept : (next n : ℕ) (es : Entries) (k : KeptLease) → AllByRecursion (IsLeaseKept next) es → value_at n es ≡ Some k → find (is_serial n) (leases_in es) ≡ Some k.lease
 found_kept next n es k h is = lease_found next n es h ∙ ap (option_map (λ (x : KeptLease). x.lease)) is
 
-pub none_kept : (next n : ℕ) (es : Entries) → AllByRecursion (IsKept next) es → value_at n es ≡ None → find (is_serial n) (leases_in es) ≡ None
+pub none_kept : (next n : ℕ) (es : Entries) → AllByRecursion (IsLeaseKept next) es → value_at n es ≡ None → find (is_serial n) (leases_in es) ≡ None
 none_kept next n es h is = lease_found next n es h ∙ ap (option_map (λ (x : KeptLease). x.lease)) is
 
 -- behind the entry of a number no other one has it
@@ -160,7 +160,7 @@ pub set_later : (l x : Leased) (ls : List Leased) (k : ℕ) → slice_set (l ∷
 set_later l x ls k = let next : 1 + k ≡ suc k = omega arith in ap (λ (i : ℕ). slice_set (l ∷ ls) i x) next
 
 -- the leases without it
-pub leases-without : (next n : ℕ) (es : Entries) → IsIndexRising es → AllByRecursion (IsKept next) es → leases_in (without_number n es) ≡ leases_without n (leases_in es)
+pub leases-without : (next n : ℕ) (es : Entries) → IsIndexRising es → AllByRecursion (IsLeaseKept next) es → leases_in (without_number n es) ≡ leases_without n (leases_in es)
 leases-without next n [] rise h = refl
 leases-without next n (e ∷ es) rise h = go (e.0 == n) refl (leases-without next n es rise.1 h.1)
   where
@@ -169,7 +169,7 @@ leases-without next n (e ∷ es) rise h = go (e.0 == n) refl (leases-without nex
     go false t rest = rw (t, number_is next n e h.0 false t) (ap (λ (ls : List Leased). e.1.lease ∷ ls) rest ∙ sym (remove_later e.1.lease (leases_in es) (position_or_len (is_serial n) (leases_in es))))
 
 -- the leases with another one in its place
-pub leases-other : (next n : ℕ) (k : KeptLease) (es : Entries) → IsIndexRising es → AllByRecursion (IsKept next) es → leases_in (with_other n k es) ≡ leases_with n k.lease (leases_in es)
+pub leases-other : (next n : ℕ) (k : KeptLease) (es : Entries) → IsIndexRising es → AllByRecursion (IsLeaseKept next) es → leases_in (with_other n k es) ≡ leases_with n k.lease (leases_in es)
 leases-other next n k [] rise h = refl
 leases-other next n k (e ∷ es) rise h = go (e.0 == n) refl (leases-other next n k es rise.1 h.1)
   where
@@ -178,11 +178,11 @@ leases-other next n k (e ∷ es) rise h = go (e.0 == n) refl (leases-other next 
     go false t rest = rw (t, number_is next n e h.0 false t) (ap (λ (ls : List Leased). e.1.lease ∷ ls) rest ∙ sym (set_later e.1.lease k.lease (leases_in es) (position_or_len (is_serial n) (leases_in es))))
 
 -- which stays kept where it has the number
-pub kept_other : (w : World) (n : ℕ) (k : KeptLease) (es : Entries) → n ≡ k.lease.serial → AreKept w es → AreKept w (with_other n k es)
+pub kept_other : (w : World) (n : ℕ) (k : KeptLease) (es : Entries) → n ≡ k.lease.serial → AreLeasesKept w es → AreLeasesKept w (with_other n k es)
 kept_other w n k [] is h = tt
 kept_other w n k (e ∷ es) is h = go (e.0 == n) refl (kept_other w n k es is h.1)
   where
-    go : (b : Bool) → (e.0 == n) ≡ b → AreKept w (with_other n k es) → AreKept w (with_other n k (e ∷ es))
+    go : (b : Bool) → (e.0 == n) ≡ b → AreLeasesKept w (with_other n k es) → AreLeasesKept w (with_other n k (e ∷ es))
     go true t rest = rw t ((is, below), rest)
       where
         below : n < w.state.serial
@@ -241,13 +241,13 @@ other_back n k l (e ∷ es) rise is = go (e.0 == n) refl (other_back n k l es ri
     go false t rest s = ap (with_other n l) (other_passes n k e es t) ∙ other_passes n l e (with_other n k es) t ∙ ap (λ (ds : Entries). e ∷ ds) (rest s)
 
 -- no lease has the number of a loan
-pub number_new : (w v : World) (reply : Reply) (es : Entries) → IsNumbered w v reply → AreKept w es → find (is_serial (number_in reply)) (leases_in es) ≡ None
+pub number_new : (w v : World) (reply : Reply) (es : Entries) → IsNumbered w v reply → AreLeasesKept w es → find (is_serial (number_in reply)) (leases_in es) ≡ None
 number_new w v reply es numbered h =
     let below = AllByRecursion-weaker (λ (e : ℕ × KeptLease). e.0 < number_in reply) (λ (e : ℕ × KeptLease). (e.0 == number_in reply) ≡ false) es (λ e less. grind (arith, nat_tests)) (kept_below w v reply es numbered h) in
     none_kept w.state.serial (number_in reply) es h (ap (option_map (λ (e : ℕ × KeptLease). e.1)) (find-none (λ (e : ℕ × KeptLease). e.0 == number_in reply) es below))
 
 -- the lease of a number has it
-pub number_kept : (next n : ℕ) (es : Entries) (k : KeptLease) → AllByRecursion (IsKept next) es → value_at n es ≡ Some k → n ≡ k.lease.serial
+pub number_kept : (next n : ℕ) (es : Entries) (k : KeptLease) → AllByRecursion (IsLeaseKept next) es → value_at n es ≡ Some k → n ≡ k.lease.serial
 number_kept next n [] k h is = cc
 number_kept next n (e ∷ es) k h is = go (e.0 == n) refl (number_kept next n es k h.1) is
   where

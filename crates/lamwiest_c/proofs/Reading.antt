@@ -1,5 +1,5 @@
 -- How the items of an array are read one after the other.
-use Rattle.std.proofs.Common.{ℕ, ◌≡◌, ◌+◌, ◌<◌, ◌≤◌, refl, sym, ◌∙◌, ap, subst, append_assoc, List, [], ◌∷◌, ◌++◌, length, drop, Option, Some, None, Result, Ok, Err, inl, inr}
+use Rattle.std.proofs.Common.{ℕ, ◌≡◌, ◌+◌, ◌<◌, ◌≤◌, refl, sym, ◌∙◌, ap, subst, arith, append_assoc, suc, List, [], ◌∷◌, ◌++◌, length, drop, Option, Some, None, Result, Ok, Err, inl, inr}
 use Rattle.std.proofs.lemmas.List.{drop_more, drop_all, append-nil}
 use Rattle.std.proofs.Math.ListN.{get_or}
 use Rattle.acc_base.specs.declared.faults.Fault.TheVariants.{Memory}
@@ -48,9 +48,21 @@ pub record IsReadSoFar {C : Type 0} (rest whole : Result (List (Item C)) Refusal
 pub refused_so : {C : Type 0} (r : Result (List (Item C)) Refusal) (refusal : Refusal) → Err refusal ≡ r → IsRead r (Err refusal)
 refused_so r refusal is = subst (λ x. IsRead x (Err refusal)) is refl
 
--- where none is refused, memory may be lacking
-pub wanted_so : {C : Type 0} (r : Result (List (Item C)) Refusal) (items : List (Item C)) → Ok items ≡ r → IsRead r (Err (OfTable Memory))
-wanted_so r items is = subst (λ x. IsRead x (Err (OfTable Memory))) is (inr refl)
+-- as many are read as there are
+as_many : {C : Type 0} (f : ℕ → Option C) (place : ℕ) (items : List RawItem) (read : List (Item C)) → items_from f place items ≡ Ok read → length read ≡ length items
+as_many {C} f place [] read is = let same : [] ≡ read = cc in subst (λ (xs : List (Item C)). length xs ≡ 0) same refl
+as_many {C} f place (item ∷ items) read is = go (f item.clause) (items_from f (place + 1) items) (as_many f (place + 1) items) is
+  where
+    go : (c : Option C) (rest : Result (List (Item C)) Refusal) → ((more : List (Item C)) → rest ≡ Ok more → length more ≡ length items) → item_then c place item rest ≡ Ok read → length read ≡ length (item ∷ items)
+    go None rest later h = cc
+    go (Some clause) (Err refusal) later h = cc
+    go (Some clause) (Ok more) later h =
+        let same : item_of clause item ∷ more ≡ read = cc in
+        subst (λ (xs : List (Item C)). length xs ≡ length (item ∷ items)) same (ap suc (later more refl))
+
+-- where none is refused, memory may be lacking for more than one
+pub wanted_so : {C : Type 0} (f : ℕ → Option C) (items : List RawItem) (read : List (Item C)) → 1 < length items → Ok read ≡ items_from f 0 items → IsRead (items_from f 0 items) (Err (OfTable Memory))
+wanted_so {C} f items read many is = subst (λ (r : Result (List (Item C)) Refusal). IsRead r (Err (OfTable Memory))) is (inr (refl, omega (arith, many, as_many f 0 items read (sym is))))
 
 -- the items are returned, where all were read
 pub all_read : {C : Type 0} (r : Result (List (Item C)) Refusal) (items : List (Item C)) → Ok items ≡ r → IsRead r (Ok items)

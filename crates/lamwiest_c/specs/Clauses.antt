@@ -1,5 +1,5 @@
 -- What the numbers in the arrays of C stand for.
-use Rattle.std.specs.Prelude.{ℕ, ◌≡◌, ◌⊎◌, ◌+◌, Bool, false, true, not, ◌==◌, if◌then◌else◌, List, [], ◌∷◌, Option, Some, None, Result, Ok, Err}
+use Rattle.std.specs.Prelude.{ℕ, ◌≡◌, ◌<◌, ◌⊎◌, ◌+◌, Bool, false, true, not, ◌==◌, if◌then◌else◌, List, [], ◌∷◌, length, Option, Some, None, Result, Ok, Err}
 use Rattle.acc_base.specs.declared.faults.Fault.TheVariants.{Memory}
 use Rattle.acc_base.specs.declared.items.EnterClause.{EnterClause}
 use Rattle.acc_base.specs.declared.items.ExitClause.{ExitClause}
@@ -85,10 +85,10 @@ abbrev pub items_from : {C : Type 0} → (ℕ → Option C) → ℕ → List Raw
 items_from numbered place [] = Ok []
 items_from numbered place (item ∷ items) = item_then (numbered item.clause) place item (items_from numbered (place + 1) items)
 
--- they were read so; where none is refused, memory may be lacking for their list
+-- they were read so; where none is refused, memory may be lacking for a list of more than one
 abbrev pub IsRead : {C : Type 0} → Result (List (Item C)) Refusal → Result (List (Item C)) Refusal → Type 0
 IsRead (Err refusal) result = result ≡ Err refusal
-IsRead (Ok items) result = (result ≡ Ok items) ⊎ (result ≡ Err (OfTable Memory))
+IsRead (Ok items) result = (result ≡ Ok items) ⊎ ((result ≡ Err (OfTable Memory)) × (1 < length items))
 
 -- ---- the directives of arrays, each on a device
 

@@ -1,12 +1,11 @@
 -- What is told of a directive that is judged, and not carried out.
-use Rattle.std.specs.Prelude.{ℕ, ◌⊎◌, ◌==◌, if◌then◌else◌, List, Result, Ok, Err}
+use Rattle.std.specs.Prelude.{ℕ, ◌≡◌, ◌<◌, ◌⊎◌, ◌==◌, if◌then◌else◌, List, Result, Ok, Err}
 use Rattle.acc_base.specs.declared.faults.Fault.{Fault}
 use Rattle.acc_base.specs.declared.faults.Fault.TheVariants.{Memory}
-use Rattle.acc_base.specs.declared.directives.Directive.TheVariants.{EnterData, Exit, ExitData, Update, Wait, Step}
-use Rattle.acc_base.specs.declared.calls.Call.{Call}
+use Rattle.acc_base.specs.declared.directives.Directive.{Directive}
+use Rattle.acc_base.specs.declared.directives.Directive.TheVariants.{Enter, EnterData, Exit, ExitData, Update, Wait, Step}
 use Rattle.acc_base.specs.declared.calls.Call.TheVariants.{Do}
-use Rattle.acc_base.specs.Loans.{Leased}
-use Rattle.acc_base.specs.Judge.{Verdict}
+use Rattle.acc_base.specs.Judge.{Verdict, item_count}
 use Rattle.acc_base.specs.Calls.{judge}
 use Rattle.lamwiest_c.specs.declared.events.RawEvent.{RawEvent}
 use Rattle.lamwiest_c.specs.declared.items.RawItem.{RawItem}
@@ -14,32 +13,33 @@ use Rattle.lamwiest_c.specs.declared.statuses.Refusal.{Refusal}
 use Rattle.lamwiest_c.specs.declared.statuses.Refusal.TheVariants.{Absent, OfTable}
 use Rattle.lamwiest_c.specs.Environments.{DataEnvironment}
 use Rattle.lamwiest_c.specs.Answers.{Told}
-use Rattle.lamwiest_c.specs.Clauses.{enter_clause, exit_clause, update_clause, items_from, asked_with, is_given, queue_of, enter_of}
+use Rattle.lamwiest_c.specs.Clauses.{region_clause, enter_clause, exit_clause, update_clause, items_from, is_given, queue_of}
 
 -- ---- the directive that is named as an event names it, with the items of an array
 
-abbrev pub enter_data_named : RawEvent → List RawItem → Result (Call Leased) Refusal
-enter_data_named r items = asked_with (λ read. EnterData r.device read (queue_of r.queue)) (items_from enter_clause 0 items)
-
-abbrev pub exit_data_named : RawEvent → List RawItem → Result (Call Leased) Refusal
-exit_data_named r items = asked_with (λ read. ExitData r.device read (is_given r.option) (queue_of r.queue)) (items_from exit_clause 0 items)
-
-abbrev pub update_named : RawEvent → List RawItem → Result (Call Leased) Refusal
-update_named r items = asked_with (λ read. Update r.device read (is_given r.option) (queue_of r.queue)) (items_from update_clause 0 items)
+-- a directive with some items, where these were read
+abbrev pub named_with : {A : Type 0} → (A → Directive) → Result A Refusal → Result Directive Refusal
+named_with f (Ok items) = Ok (f items)
+named_with f (Err refusal) = Err refusal
 
 -- a directive without items; the numbers of other kinds name none
-abbrev pub call_alone : RawEvent → Result (Call Leased) Refusal
-call_alone r =
-    if r.kind == 2 then Ok (Do (Exit r.region)) else
-    if r.kind == 6 then Ok (Do (Wait r.device (queue_of r.queue))) else
-    if r.kind == 7 then Ok (Do (Step r.device r.queue)) else Err Absent
+abbrev pub directive_alone : RawEvent → Result Directive Refusal
+directive_alone r =
+    if r.kind == 2 then Ok (Exit r.region) else
+    if r.kind == 6 then Ok (Wait r.device (queue_of r.queue)) else
+    if r.kind == 7 then Ok (Step r.device r.queue) else Err Absent
 
-abbrev pub call_named : RawEvent → List RawItem → Result (Call Leased) Refusal
-call_named r items =
-    if r.kind == 1 then enter_of r.device items else
-    if r.kind == 3 then enter_data_named r items else
-    if r.kind == 4 then exit_data_named r items else
-    if r.kind == 5 then update_named r items else call_alone r
+abbrev pub directive_named : RawEvent → List RawItem → Result Directive Refusal
+directive_named r items =
+    if r.kind == 1 then named_with (Enter r.device) (items_from region_clause 0 items) else
+    if r.kind == 3 then named_with (λ read. EnterData r.device read (queue_of r.queue)) (items_from enter_clause 0 items) else
+    if r.kind == 4 then named_with (λ read. ExitData r.device read (is_given r.option) (queue_of r.queue)) (items_from exit_clause 0 items) else
+    if r.kind == 5 then named_with (λ read. Update r.device read (is_given r.option) (queue_of r.queue)) (items_from update_clause 0 items) else directive_alone r
+
+-- it was read so; memory may be lacking for a list of more than one item
+abbrev pub IsNamed : Result Directive Refusal → Result Directive Refusal → Type 0
+IsNamed (Err refusal) result = result ≡ Err refusal
+IsNamed (Ok directive) result = (result ≡ Ok directive) ⊎ ((result ≡ Err (OfTable Memory)) × (1 < item_count directive))
 
 -- ---- what is told of it
 
@@ -48,8 +48,8 @@ abbrev pub verdict_told : Result Verdict Fault → Result ℕ Refusal
 verdict_told (Ok verdict) = Ok 0
 verdict_told (Err fault) = Err (OfTable fault)
 
--- that is told of what was asked, or that it was read wrong; where it was read right, memory may be lacking before it is
--- asked
-abbrev pub IsJudged : DataEnvironment → Result (Call Leased) Refusal → Told → Type 0
-IsJudged e (Err refusal) T = T (Err refusal)
-IsJudged e (Ok call) T = T (Err (OfTable Memory)) ⊎ T (verdict_told (judge e.world call))
+-- that is told of the directive, or that it was read wrong; memory may be lacking for a list of more than one item
+-- before it is judged
+abbrev pub IsDryRun : DataEnvironment → Result Directive Refusal → Told → Type 0
+IsDryRun e (Err refusal) T = T (Err refusal)
+IsDryRun e (Ok directive) T = (T (Err (OfTable Memory)) × (1 < item_count directive)) ⊎ T (verdict_told (judge e.world (Do directive)))

@@ -21,11 +21,11 @@ abbrev pub leases_in : Entries → List Leased
 leases_in entries = map (λ (e : ℕ × KeptLease). e.1.lease) entries
 
 -- the number is the lease's serial number, and below that of the next loan
-abbrev pub IsKept : ℕ → ℕ × KeptLease → Type 0
-IsKept next e = (e.0 ≡ e.1.lease.serial) × (e.0 < next)
+abbrev pub IsLeaseKept : ℕ → ℕ × KeptLease → Type 0
+IsLeaseKept next e = (e.0 ≡ e.1.lease.serial) × (e.0 < next)
 
-abbrev pub AreKept : World → Entries → Type 0
-AreKept w entries = AllByRecursion (IsKept w.state.serial) entries
+abbrev pub AreLeasesKept : World → Entries → Type 0
+AreLeasesKept w entries = AllByRecursion (IsLeaseKept w.state.serial) entries
 
 abbrev pub kept : Leased → KeptLease
 kept lease = record { lease = lease }

@@ -15,7 +15,7 @@ use acc_base::Directive;
 use std::alloc::Global;
 
 /// Whether C gives a clause without arguments: any number but 0 gives it.
-fn is_given(clause: u32) -> bool
+pub fn is_given(clause: u32) -> bool
     ensures { result ≡ is_given clause }
 {
     clause != 0

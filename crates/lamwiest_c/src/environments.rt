@@ -42,13 +42,13 @@ pub struct TableWithLeases {
 
 impl Model for TableWithLeases {
     ghost use Rattle.lamwiest_c.specs.Environments.{DataEnvironment};
-    ghost use Rattle.lamwiest_c.specs.Keeps.{leases_in, AreKept};
+    ghost use Rattle.lamwiest_c.specs.Keeps.{leases_in, AreLeasesKept};
 
     ghost Value = { DataEnvironment };
 
     ghost view = { λ e. record { world = e.table; leases = leases_in e.leases.entries } };
 
-    ghost invariant = { λ e. AreKept e.table e.leases.entries };
+    ghost invariant = { λ e. AreLeasesKept e.table e.leases.entries };
 }
 
 /// The number of a reply. A lease in it is abandoned.

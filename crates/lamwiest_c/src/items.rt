@@ -1,6 +1,6 @@
 //! Items as C writes them, and the clauses by their numbers.
 
-ghost use Rattle.std.specs.Prelude.{◌≡◌, ℕ, Option, Err, [], ◌∷◌};
+ghost use Rattle.std.specs.Prelude.{◌≡◌, ◌<◌, ℕ, Option, Err, [], ◌∷◌, length};
 ghost use Rattle.lamwiest_c.specs.Clauses.{pointer_of, queue_of, queue_asked, region_clause, enter_clause, exit_clause, update_clause, item_of, items_from, IsRead};
 
 use crate::statuses::Refusal;
@@ -184,6 +184,7 @@ fn item_of<C: NumberedClause>(clause: C, item: RawItem) -> Item<C>
 
 /// A clause number that is none of the directive's is refused before lack of memory for the list of items.
 fn refusal_without_memory<C: NumberedClause>(items: &[RawItem]) -> Refusal
+    requires { 1 < length items.now }
     ensures { IsRead (items_from C.numbered 0 items.now) (Err result) }
 {
     let mut place = 0u64;
@@ -211,7 +212,7 @@ fn one_item<C: NumberedClause>(item: RawItem) -> Result<List<Item<C>>, Refusal>
 /// # Errors
 ///
 /// [`Refusal::BadClause`] at the first item whose clause number is none of the directive's; else `Memory` where there
-/// is none for the list.
+/// is none for a list of more than one item.
 pub fn items_of<C: NumberedClause>(
     alloc: Global,
     items: &[RawItem],

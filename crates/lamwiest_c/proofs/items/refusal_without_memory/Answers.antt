@@ -21,4 +21,4 @@ loop-item-preserved g c =
 pub returns : goal.returns
 returns g c =
     let so = c.loop-item.invariant.so_far in
-    wanted_so _ so.done (turns_over g.C.NumberedClause.numbered c.loop-item.place c.loop-item.item-index c.args.items.now so.done _ c.loop-item-test.false so.before)
+    wanted_so g.C.NumberedClause.numbered c.args.items.now so.done c.requires (turns_over g.C.NumberedClause.numbered c.loop-item.place c.loop-item.item-index c.args.items.now so.done _ c.loop-item-test.false so.before)

@@ -1154,6 +1154,32 @@ static void make_ended(lw_table *table, const row *row)
           "judged without a table", row->says);
 }
 
+/* After each of the first calls of a scene, each lease that is out is taken back, where there is a ticket for that and a
+   place in the trace. */
+static void bring_back(const scene *scene)
+{
+    for (size_t count = 1; count <= scene->count; count++) {
+        lw_table table = LW_NO_TABLE;
+        lw_lent_lease lent;
+        lw_fault fault;
+        uint64_t number;
+        uint64_t from = 0;
+
+        check(lw_table_new(&table, &scene->limits, &fault) == LW_DONE, scene->name, "no table");
+        for (size_t i = 0; i < count; i++) {
+            scene->rows[i].make(&table, &scene->rows[i], &number, &fault);
+        }
+        while (lw_lease(&table, from, &lent) == LW_DONE) {
+            uint32_t status = lw_gather(&table, lent.lease, &fault);
+
+            check(status == LW_DONE || status == LW_NO_TICKETS || status == LW_TRACE_FULL, scene->name,
+                  "a lease that is out is refused");
+            from = lent.lease + 1;
+        }
+        lw_table_end(&table);
+    }
+}
+
 static void play(const scene *scene)
 {
     lw_table table = LW_NO_TABLE;
@@ -1477,6 +1503,7 @@ int main(void)
 {
     for (size_t i = 0; i < sizeof SCENES / sizeof *SCENES; i++) {
         play(&SCENES[i]);
+        bring_back(&SCENES[i]);
     }
     check_short_tables(false);
     check_short_tables(true);

@@ -122,7 +122,7 @@ out_gathered n m e v T other h out = go (lease_of m e) h
 
 -- ---- leases that are written over
 
-serial_found : (m : ℕ) (ls : List Leased) (lease : Leased) → find (is_serial m) ls ≡ Some lease → lease.serial ≡ m
+pub serial_found : (m : ℕ) (ls : List Leased) (lease : Leased) → find (is_serial m) ls ≡ Some lease → lease.serial ≡ m
 serial_found m [] lease h = cc
 serial_found m (l ∷ ls) lease h = go (is_serial m l) refl (serial_found m ls lease) h
   where

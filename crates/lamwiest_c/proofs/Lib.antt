@@ -6,4 +6,8 @@ pub mod Copying
 pub mod Telling
 pub mod Looking
 pub mod Lasting
+pub mod Staying
+pub mod Copies
+pub mod Owed
+pub mod Returning
 pub mod Judged

@@ -1,11 +1,9 @@
 -- The copy of a lent block stays, whatever an event does that does not bring it back.
-use Rattle.std.proofs.Common.{ℕ, ◌≡◌, ◌≤◌, ◌+◌, refl, sym, ◌∙◌, ap, subst, arith, Bool, true, false, cond, List, [], ◌∷◌, ◌++◌, drop, replicate, zero, Option, Some, None, Ok}
-use Rattle.std.specs.Prelude.{◌==◌, ◌<◌, suc, is_none, is_some, not, map, find, length, option_map, slice_set, slice_get, IfSome, ⊤}
+use Rattle.std.proofs.Common.{ℕ, ◌≡◌, ◌≤◌, ◌+◌, refl, sym, ◌∙◌, subst, arith, Bool, true, false, cond, List, [], ◌∷◌, ◌++◌, drop, replicate, zero, Option, Some, None, Ok}
+use Rattle.std.specs.Prelude.{◌==◌, suc, is_none, map, find, option_map, slice_set, slice_get, IfSome, ⊤}
 use Rattle.std.specs.List.{AllByRecursion, flat_map}
-use Rattle.std.proofs.lemmas.Bool.{true≢false}
 use Rattle.std.proofs.lemmas.Bool.Decides.{nat_tests}
 use Rattle.std.proofs.lemmas.List.Concat.{flat_map-cons}
-use Rattle.acc_base.specs.declared.mappings.Block.{Block}
 use Rattle.acc_base.specs.declared.attachments.Aim.{Aim}
 use Rattle.acc_base.specs.declared.attachments.Aim.TheVariants as aims
 use Rattle.acc_base.specs.declared.loans.Loan.{Loan}
@@ -18,26 +16,24 @@ use Rattle.acc_base.specs.declared.events.Did.{Did}
 use Rattle.acc_base.specs.declared.events.Event.{Event}
 use Rattle.acc_base.specs.declared.events.Event.TheVariants.{Waited, Stepped, Lent, Gathered}
 use Rattle.acc_base.specs.Limits.{Limits, recorded}
-use Rattle.acc_base.specs.Records.{Records, Memory, Layout, State, layout_of}
+use Rattle.acc_base.specs.Records.{Records, Memory, State, layout_of}
 use Rattle.acc_base.specs.declared.attachments.Attachment.{Attachment}
 use Rattle.acc_base.specs.Attachments.{count_at}
 use Rattle.acc_base.specs.Loans.{is_lent, not_lent, none_lent}
-use Rattle.acc_base.specs.Queues.{queue_at, head_of, popped}
+use Rattle.acc_base.specs.Queues.{queue_at, head_of}
 use Rattle.acc_base.specs.Tasks.{queue_of}
 use Rattle.acc_base.specs.Transfers.{first_address, at_once, made_now}
 use Rattle.acc_base.specs.Steps.{is_in_use, released, block_needed, judge_step, act_step, act, records_aimed}
 use Rattle.acc_base.specs.Bytes.{memory_changed, is_moved, bytes_moved_in, memories_made, memories_released, without_memory, host_byte, step_state}
-use Rattle.acc_base.specs.Detaching.{block_aimed, detach_if, judge_release}
-use Rattle.acc_base.specs.Pointers.{pointer_written, memories_aimed, aimed}
-use Rattle.acc_base.specs.Waits.{records_made, records_stepped, state_made, stepped, records_drained, drained, steps_of, steps_from, transfers_of}
-use Rattle.acc_base.specs.Walk.{asked_in, done_in, stepped_in, loaned, register_after}
-use Rattle.acc_base.specs.Acting.{act_state, act_all_state, memories_after, after}
-use Rattle.acc_base.specs.History.{AreJudged, IsAttachLegal, IsAimLegal, NamesRight, IsLegal}
-use Rattle.acc_base.proofs.Results.{equal, then_ok}
-use Rattle.acc_base.proofs.Elements.{AllByRecursion-weaker}
+use Rattle.acc_base.specs.Detaching.{block_aimed}
+use Rattle.acc_base.specs.Pointers.{pointer_written, aimed}
+use Rattle.acc_base.specs.Waits.{records_made, records_stepped, state_made, stepped, records_drained, drained, steps_of, transfers_of}
+use Rattle.acc_base.specs.Walk.{asked_in, done_in}
+use Rattle.acc_base.specs.Acting.{act_state, act_all_state, after}
+use Rattle.acc_base.specs.History.{AreJudged, IsAttachLegal, IsAimLegal, IsLegal}
+use Rattle.acc_base.proofs.Results.{then_ok}
 use Rattle.acc_base.proofs.Lookups.{at-push_there, at-without_other}
-use Rattle.acc_base.proofs.Queued.{head_first}
-use Rattle.acc_base.proofs.Judged.{IsJudgedTo, IsJudgedStep, step_judged, not_lent_says, task_says}
+use Rattle.acc_base.proofs.Judged.{IsJudgedTo, step_judged, not_lent_says, task_says}
 use Rattle.acc_base.proofs.Births.{births_least}
 use Rattle.acc_base.proofs.Loaned.{loans-step, loans-act}
 use Rattle.acc_base.proofs.Walked.{records-act_state, records-drained}

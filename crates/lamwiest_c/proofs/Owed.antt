@@ -15,7 +15,7 @@ use Rattle.acc_base.specs.declared.directives.Directive.TheVariants as directive
 use Rattle.acc_base.specs.declared.transfers.Transfer.{Transfer}
 use Rattle.acc_base.specs.declared.events.Did.{Did}
 use Rattle.acc_base.specs.declared.events.Event.{Event}
-use Rattle.acc_base.specs.declared.events.Event.TheVariants.{Lent, Gathered}
+use Rattle.acc_base.specs.declared.events.Event.TheVariants.{Lent}
 use Rattle.acc_base.specs.declared.faults.Fault.{Fault}
 use Rattle.acc_base.specs.declared.faults.Fault.TheVariants.{NoTickets, TraceFull, NoLease}
 use Rattle.acc_base.specs.Results.{◌>>=◌, ◌>>◌, refuse_if}
@@ -23,23 +23,23 @@ use Rattle.acc_base.specs.Limits.{Limits, IsWithinBounds, limits_on, recorded}
 use Rattle.acc_base.specs.Section.{device_memory}
 use Rattle.acc_base.specs.Records.{Records, Memory, Layout, State, layout_of}
 use Rattle.acc_base.specs.Queues.{head_of}
-use Rattle.acc_base.specs.Ranges.{range_of, where_is}
+use Rattle.acc_base.specs.Ranges.{where_is}
 use Rattle.acc_base.specs.Blocks.{block_at}
 use Rattle.acc_base.specs.Bytes.{bytes_of, memory_changed}
 use Rattle.acc_base.specs.Loans.{Leased, loan_of, is_lent, is_loan_of, len_of}
-use Rattle.acc_base.specs.Leases.{is_kept_outside, is_of_loan, is_returnable}
+use Rattle.acc_base.specs.Leases.{is_kept_outside, is_of_loan}
 use Rattle.acc_base.specs.Detaching.{block_in}
 use Rattle.acc_base.specs.Walk.{loan_at, loaned, walk}
 use Rattle.acc_base.specs.Acting.{act_all_state, after}
 use Rattle.acc_base.specs.Steps.{act_all}
 use Rattle.acc_base.specs.Waits.{records_drained, drained}
-use Rattle.acc_base.specs.Devices.{Whole, view, with_view, device_in, device_of_region}
-use Rattle.acc_base.specs.Judge.{Verdict, Makes, Idle, few_items, verdict_of, step_verdict, written, host_write_event, leased, gathered, gather_event}
-use Rattle.acc_base.specs.History.{NamesRight, IsLegal}
+use Rattle.acc_base.specs.Devices.{view, with_view, device_in, device_of_region}
+use Rattle.acc_base.specs.Judge.{Verdict, Makes, few_items, verdict_of, step_verdict, host_write_event, leased, gathered, gather_event}
+use Rattle.acc_base.specs.History.{IsLegal}
 use Rattle.acc_base.specs.Accounts.{IsOnDevice, IsMapped, IsLoanSound, IsMemoryOf, AreRecordsSound, IsAccounted}
 use Rattle.acc_base.specs.Calls.{World, judge, ticket, allowance, trace_room, device_for, device_there, verdict_on, loan_on, bytes_brought, world_after}
 use Rattle.acc_lend.specs.Loans.{IsLoan}
-use Rattle.acc_base.proofs.Results.{equal, equal_self, differ, bind_ok, then_ok, ok_same, refused_not}
+use Rattle.acc_base.proofs.Results.{equal, equal_self, differ, bind_ok, then_ok, ok_same}
 use Rattle.acc_base.proofs.Elements.{found_has}
 use Rattle.acc_base.proofs.InPlace.{find-put_new}
 use Rattle.acc_base.proofs.Lookups.{at-changed}

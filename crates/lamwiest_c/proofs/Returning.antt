@@ -1,27 +1,26 @@
 -- A lease that was lent, and that no call has brought back, is never refused for want of a lease: the leases of a handle
 -- are those of loans of its table, whatever calls are made.
 use Rattle.std.proofs.Common.{ℕ, ◌≡◌, ◌∙◌, ◌+◌, ◌≤◌, refl, sym, ap, subst, arith, cond, inl, inr, List, [], ◌∷◌, ◌++◌, length, take, drop, Option, Some, None, IsSome, Result, Ok, Err, length-append, length-drop}
-use Rattle.std.specs.Prelude.{Bool, true, false, find, ◌==◌, ⊤, MatchOption, MatchBool}
+use Rattle.std.specs.Prelude.{Bool, true, false, find, ◌==◌, MatchOption, MatchBool}
 use Rattle.std.specs.List.{AllByRecursion, position_or_len}
 use Rattle.std.proofs.lemmas.Bool.Decides.{nat_tests}
 use Rattle.std.proofs.lemmas.List.{length-take-le}
 use Rattle.acc_base.specs.declared.items.Section.{Section}
 use Rattle.acc_base.specs.declared.calls.Call.{Call}
-use Rattle.acc_base.specs.declared.calls.Call.TheVariants.{Do, HostWrite, Lend, Gather}
+use Rattle.acc_base.specs.declared.calls.Call.TheVariants.{Do, Lend, Gather}
 use Rattle.acc_base.specs.declared.directives.Directive.{Directive}
 use Rattle.acc_base.specs.declared.events.Event.{Event}
 use Rattle.acc_base.specs.declared.faults.Fault.{Fault}
 use Rattle.acc_base.specs.declared.faults.Fault.TheVariants.{Memory, NoLease}
-use Rattle.acc_base.specs.Limits.{Limits, IsWithinBounds, limits_on}
+use Rattle.acc_base.specs.Limits.{Limits, IsWithinBounds}
 use Rattle.acc_base.specs.Loans.{Leased}
 use Rattle.acc_base.specs.Accounts.{EachPair, IsAccounted}
-use Rattle.acc_base.specs.Devices.{view}
 use Rattle.acc_base.specs.Judge.{Verdict, Makes, Idle}
 use Rattle.acc_base.specs.Calls.{World, judge, world_after}
 use Rattle.acc_base.proofs.Elements.{AllByRecursion-weaker, AllByRecursion-both, AllByRecursion-append, EachPair-push, find_none, found_has}
 use Rattle.acc_base.proofs.Queued.{all-set}
-use Rattle.acc_base.proofs.Accounted.{sound_on, accepted_accounted, new_accounted, rebased_accounted}
-use Rattle.acc_lend.specs.Loans.{IsLoan, with_section, written_over}
+use Rattle.acc_base.proofs.Accounted.{accepted_accounted, new_accounted, rebased_accounted}
+use Rattle.acc_lend.specs.Loans.{IsLoan, with_section}
 use Rattle.acc_lend.proofs.Writing.{kept_outside}
 use Rattle.acc_table.specs.Calls.{reply_in}
 use Rattle.acc_table.specs.Turns.{lent_by}

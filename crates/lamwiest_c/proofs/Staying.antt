@@ -11,11 +11,11 @@ use Rattle.acc_base.specs.declared.events.Step.{Step}
 use Rattle.acc_base.specs.declared.events.Did.{Did}
 use Rattle.acc_base.specs.declared.events.Event.{Event}
 use Rattle.acc_base.specs.declared.tasks.Task.TheVariants.{Enter}
-use Rattle.acc_base.specs.declared.events.Step.TheVariants.{Counted, Born, Dropped}
+use Rattle.acc_base.specs.declared.events.Step.TheVariants.{Born, Dropped}
 use Rattle.acc_base.specs.declared.events.Event.TheVariants.{Lent, Gathered}
 use Rattle.acc_base.specs.Limits.{Limits, IsWithinBounds}
 use Rattle.acc_base.specs.Records.{Records, Layout}
-use Rattle.acc_base.specs.Blocks.{block_at, without_block}
+use Rattle.acc_base.specs.Blocks.{block_at}
 use Rattle.acc_base.specs.Ranges.{range_of}
 use Rattle.acc_base.specs.Loans.{loan_of, is_lent, not_lent}
 use Rattle.acc_base.specs.Queues.{head_of, popped}

@@ -47,8 +47,8 @@ uint32_t lw_version(void);
 /* What a call answers: LW_DONE, or why it was refused. A refused call fills in its fault, and changes nothing else. */
 enum {
     LW_DONE = 0,           /* it is done */
-    LW_MEMORY = 1,         /* no memory could be had. For a list of more than one item or one more lease it is told
-                              before all that a table refuses; else it is told last of all */
+    LW_MEMORY = 1,         /* no memory could be had. For one more lease, or for a list of more than one item, it is
+                              told before all that a table refuses; else it is told last of all */
     LW_BAD_CONFIG = 2,     /* a limit is out of its bounds */
     LW_NO_TICKETS = 3,     /* there are as many events as there may be, and lw_rebase brings none back; value: how many
                               are left, 0 */

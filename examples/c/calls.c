@@ -1111,7 +1111,7 @@ static void judge(lw_table *table, const row *row, const char *before, const cha
         report_of(table, after);
         check(strcmp(before, after) == 0, where, "a directive that is judged changes the report");
         if (answer.status == LW_MEMORY && answer.is_short) {
-            check(row->count > 1, "judged", "memory is wanted for no list");
+            check(row->count > 1, "judged", "memory is wanted for less than two items");
             continue;
         }
         check(is_asked ? is_told(&answer, row) : answer.status == LW_ABSENT && answer.fault.status == LW_ABSENT,
@@ -1154,15 +1154,14 @@ static void make_ended(lw_table *table, const row *row)
           "judged without a table", row->says);
 }
 
-/* After each of the first calls of a scene, each lease that is out is taken back, where there is a ticket for that and a
-   place in the trace. */
+/* Behind each front of a scene, each lease that is out is brought back, where there is a ticket for that. */
 static void bring_back(const scene *scene)
 {
     for (size_t count = 1; count <= scene->count; count++) {
         lw_table table = LW_NO_TABLE;
         lw_lent_lease lent;
         lw_fault fault;
-        uint64_t number;
+        uint64_t number = UNTOUCHED;
         uint64_t from = 0;
 
         check(lw_table_new(&table, &scene->limits, &fault) == LW_DONE, scene->name, "no table");
@@ -1172,8 +1171,7 @@ static void bring_back(const scene *scene)
         while (lw_lease(&table, from, &lent) == LW_DONE) {
             uint32_t status = lw_gather(&table, lent.lease, &fault);
 
-            check(status == LW_DONE || status == LW_NO_TICKETS || status == LW_TRACE_FULL, scene->name,
-                  "a lease that is out is refused");
+            check(status == LW_DONE || status == LW_NO_TICKETS, scene->name, "a lease that is out is refused");
             from = lent.lease + 1;
         }
         lw_table_end(&table);

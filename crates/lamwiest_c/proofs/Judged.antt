@@ -17,7 +17,7 @@ read_wrong e (Err other) refusal h = ap Err (refusal_same h)
 read_wrong e (Ok directive) refusal (inl h) = cc
 read_wrong e (Ok directive) refusal (inr h) = inl (ap Err (refusal_same h.0), h.1)
 
--- and of one that was read right what it is judged to
+-- one that was read right is told what it is judged to
 pub read_right : (e : DataEnvironment) (named : Result Directive Refusal) (directive : Directive) (made : Result ℕ Refusal) → IsNamed named (Ok directive) → made ≡ verdict_told (judge e.world (Do directive)) → IsDryRun e named (λ r. made ≡ r)
 read_right e (Err refusal) directive made h is = cc
 read_right e (Ok other) directive made (inl h) is = let same : directive ≡ other = cc in inr (subst (λ (d : Directive). made ≡ verdict_told (judge e.world (Do d))) same is)

@@ -54,8 +54,8 @@ use Rattle.acc_base.proofs.Accounted.{sound_on}
 use Rattle.lamwiest_c.proofs.Staying.{IsNotBack, IsStaying, walk_stays}
 use Rattle.lamwiest_c.proofs.Copies.{memory_at, copy_stays}
 
--- the lease is that of a loan: its block is lent under its serial number, from its place on and as long, and has as
--- many bytes as the lease
+-- the lease is that of a loan: its block is lent under its serial number, from its place on and as long. The block has
+-- as many bytes as the lease
 pub record HasLoan (lease : Leased) (w : Records) : Type 0 where
   pub loan : Loan
   pub loan_is : loan_of lease.block w.loans ≡ Some loan

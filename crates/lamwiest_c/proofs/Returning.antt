@@ -1,5 +1,6 @@
--- A lease that was lent, and that no call has brought back, is never refused for want of a lease: the leases of a handle
--- are those of loans of its table, whatever calls are made.
+-- A lease that was lent, and that no call has brought back, is never refused for want of a lease: each lease of a
+-- handle is that of a loan of its table. Each call that changes a table keeps that, and all others leave the table as it
+-- is. What a kernel writes where `lw_lease_bytes` tells is no call: it has to be the section's bytes alone.
 use Rattle.std.proofs.Common.{ℕ, ◌≡◌, ◌∙◌, ◌+◌, ◌≤◌, refl, sym, ap, subst, arith, cond, inl, inr, List, [], ◌∷◌, ◌++◌, length, take, drop, Option, Some, None, IsSome, Result, Ok, Err, length-append, length-drop}
 use Rattle.std.specs.Prelude.{Bool, true, false, find, ◌==◌, MatchOption, MatchBool}
 use Rattle.std.specs.List.{AllByRecursion, position_or_len}

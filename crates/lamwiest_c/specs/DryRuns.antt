@@ -48,8 +48,8 @@ abbrev pub verdict_told : Result Verdict Fault → Result ℕ Refusal
 verdict_told (Ok verdict) = Ok 0
 verdict_told (Err fault) = Err (OfTable fault)
 
--- that is told of the directive, or that it was read wrong; memory may be lacking for a list of more than one item
--- before it is judged
+-- that is told of the directive, or that it was read wrong. Memory may be lacking before it is judged, for a list of
+-- more than one item
 abbrev pub IsDryRun : DataEnvironment → Result Directive Refusal → Told → Type 0
 IsDryRun e (Err refusal) T = T (Err refusal)
 IsDryRun e (Ok directive) T = (T (Err (OfTable Memory)) × (1 < item_count directive)) ⊎ T (verdict_told (judge e.world (Do directive)))

@@ -14,7 +14,11 @@ use std::alloc::{AllocError, Global};
 /// How many events a trace has when [`Desk::fold_when_due`] folds it.
 const FOLD: usize = 16_384;
 
-/// A table, numbers by chance, and a digest of what was answered so far.
+/// How many items a directive for a part of a row has at most.
+const PART: u64 = 50;
+
+/// A table, numbers by chance, and a digest of what was answered so far. Where memory is refused for what a call needs,
+/// the tally knows it, and the call is made without that.
 #[derive(Drop)]
 pub struct Desk {
     /// The allocator of lists.
@@ -29,19 +33,6 @@ pub struct Desk {
     pub device: u64,
     // Bytes by chance. They are drawn apart, so that their count does not change which numbers come.
     bytes: Chance,
-}
-
-/// Limits of a table with host memory and device memory of these sizes.
-pub fn limits(host: u64, device: u64) -> Result<Config, Fault> {
-    Config::new(
-        host,
-        device,
-        65_536,
-        1 << 40,
-        4_294_967_295,
-        4_096,
-        1_048_576,
-    )
 }
 
 /// So many bytes by chance, at most as many as host memory may have.
@@ -75,26 +66,63 @@ impl Desk {
         self.chance.number() % bound.max(1)
     }
 
-    /// The host writes bytes by chance into all of a section.
-    pub fn fill(&mut self, section: Section) -> Result<(), Fault> {
-        let bytes = chance_bytes(self.alloc, &mut self.bytes, section.len)?;
-        let addr = section.start;
-        self.call(Call::HostWrite {
-            addr,
-            bytes: List::from_vec(bytes),
-        });
-        Ok(())
-    }
-
     /// A stride by chance, one of `tens` numbers that end in 9. It shares no factor with a count such as 1,000 or
     /// 20,000. So that many steps of it come to each of that many arrays once.
     pub fn stride(&mut self, tens: u64) -> u64 {
         self.below(tens).wrapping_mul(10).wrapping_add(9)
     }
 
+    /// A list of what was made; an empty one where memory was refused for it.
+    pub fn list<T: Drop>(&mut self, made: Result<Vec<T>, AllocError>) -> List<T> {
+        match made {
+            Ok(items) => List::from_vec(items),
+            Err(_) => {
+                self.tally.is_short = true;
+                List::from_vec(Vec::new(self.alloc))
+            }
+        }
+    }
+
+    /// The items that [`Row::items`] makes.
+    pub fn items<C: Copy + Drop>(
+        &mut self,
+        row: Row,
+        clause: C,
+        first: u64,
+        stride: u64,
+        count: u64,
+    ) -> List<Item<C>> {
+        let made = row.items(self.alloc, clause, first, stride, count);
+        self.list(made)
+    }
+
+    /// Items of a clause for a part of a row, at most fifty. Parts are counted from 0.
+    fn part<C: Copy + Drop>(&mut self, row: Row, clause: C, part: u64) -> List<Item<C>> {
+        let first = part.wrapping_mul(PART);
+        let count = row.count.saturating_sub(first).min(PART);
+        self.items(row, clause, first, 1, count)
+    }
+
+    /// The host writes bytes that were made.
+    pub fn write(&mut self, addr: u64, made: Result<Vec<u8>, AllocError>) {
+        let bytes = self.list(made);
+        self.call(Call::HostWrite { addr, bytes });
+    }
+
+    /// The host writes bytes by chance into all of a section.
+    pub fn fill(&mut self, section: Section) {
+        let made = chance_bytes(self.alloc, &mut self.bytes, section.len);
+        self.write(section.start, made);
+    }
+
     /// Makes a call, and returns the number that it replied; 0 where it was refused.
     pub fn call(&mut self, call: Call) -> u64 {
-        match self.table.apply(call) {
+        let outcome = self.table.apply(call);
+        self.tally_outcome(outcome)
+    }
+
+    fn tally_outcome(&mut self, outcome: Result<Reply, (Call, Fault)>) -> u64 {
+        match outcome {
             Ok(reply) => self.tally.accept(reply),
             Err((call, fault)) => {
                 abandon(call);
@@ -112,6 +140,12 @@ impl Desk {
     /// Exits a region.
     pub fn exit(&mut self, number: u64) {
         self.call(Call::Do(Directive::Exit { number }));
+    }
+
+    /// Enters a region, and exits it.
+    pub fn pass(&mut self, items: List<Item<RegionClause>>) {
+        let number = self.enter(items);
+        self.exit(number);
     }
 
     /// An `enter data`.
@@ -136,21 +170,19 @@ impl Desk {
     }
 
     /// Names all sections of a row in an `enter data` for each of its parts.
-    pub fn enter_row(&mut self, row: Row, clause: EnterClause) -> Result<(), Fault> {
-        for part in 0..row.parts() {
-            let items = row.part(self.alloc, clause, part)?;
+    pub fn enter_row(&mut self, row: Row, clause: EnterClause) {
+        for part in 0..row.count.div_ceil(PART) {
+            let items = self.part(row, clause, part);
             self.enter_data(items);
         }
-        Ok(())
     }
 
     /// Names all sections of a row in an `exit data` for each of its parts.
-    pub fn exit_row(&mut self, row: Row, clause: ExitClause) -> Result<(), Fault> {
-        for part in 0..row.parts() {
-            let items = row.part(self.alloc, clause, part)?;
+    pub fn exit_row(&mut self, row: Row, clause: ExitClause) {
+        for part in 0..row.count.div_ceil(PART) {
+            let items = self.part(row, clause, part);
             self.exit_data(items, None);
         }
-        Ok(())
     }
 
     /// An `update`, at once or through a queue.
@@ -164,12 +196,6 @@ impl Desk {
         }));
     }
 
-    /// A `wait` for a queue.
-    pub fn wait(&mut self, queue: u64) {
-        let (device, queue) = (self.device, Some(queue));
-        self.call(Call::Do(Directive::Wait { device, queue }));
-    }
-
     /// Lends a section in a region, and notes the lease; `None` where it is refused.
     pub fn lend(&mut self, region: u64, section: Section) -> Option<Lease> {
         match self.table.apply(Call::Lend { region, section }) {
@@ -177,16 +203,18 @@ impl Desk {
                 self.tally.note_lease(&lease);
                 Some(lease)
             }
-            Ok(reply) => {
-                self.tally.accept(reply);
-                None
-            }
-            Err((call, fault)) => {
-                abandon(call);
-                self.tally.refuse(fault);
+            outcome => {
+                self.tally_outcome(outcome);
                 None
             }
         }
+    }
+
+    /// Notes whether a section is present, and returns it.
+    pub fn note_presence(&mut self, section: Section) -> bool {
+        let is_there = self.table.is_present(self.device, section);
+        self.tally.note(u64::from(is_there));
+        is_there
     }
 
     /// Notes the bytes that the host has of a section.
@@ -202,19 +230,17 @@ impl Desk {
     }
 
     /// Does what [`Desk::fold`] does, where the trace has grown long.
-    pub fn fold_when_due(&mut self) -> Result<(), Fault> {
-        if self.table.trace().len() < FOLD {
-            return Ok(());
+    pub fn fold_when_due(&mut self) {
+        if self.table.trace().len() >= FOLD {
+            self.fold();
         }
-        self.fold()
     }
 
     /// Notes the events of the trace, and folds them into what the table begins with.
-    pub fn fold(&mut self) -> Result<(), Fault> {
+    pub fn fold(&mut self) {
         self.tally.note_events(self.table.trace());
-        let count = self.table.rebase()?;
-        self.tally.note(count);
-        Ok(())
+        let folded = self.table.rebase();
+        self.tally.note_folded(folded);
     }
 
     /// Notes all mapped ranges of the device, one after the other, and returns how many they are.

@@ -1,7 +1,7 @@
 //! What each thread does that shares a table with others.
 
 use crate::desks::chance_bytes;
-use crate::items::{Row, item};
+use crate::items::Row;
 use crate::tallies::Tally;
 use acc_base::{EnterClause, ExitClause, Fault, RegionClause, Section, UpdateClause};
 use acc_lend::{Add, Lease, run_one};
@@ -21,6 +21,32 @@ const ARRAYS: Row = Row {
     count: 64,
 };
 
+/// What a thread does with one of its arrays.
+#[derive(Clone, Copy)]
+enum Act {
+    Write,
+    Map,
+    Work,
+    Update(UpdateClause),
+    Unmap,
+    Read,
+}
+
+/// Each kind of call on an array. Between them the host writes other bytes, so that host and device differ.
+const STEP: [Act; 11] = [
+    Act::Write,
+    Act::Map,
+    Act::Work,
+    Act::Write,
+    Act::Update(UpdateClause::ToSelf),
+    Act::Read,
+    Act::Write,
+    Act::Update(UpdateClause::ToDevice),
+    Act::Write,
+    Act::Unmap,
+    Act::Read,
+];
+
 /// What a thread has of its own.
 #[derive(Drop)]
 pub struct Worker<Regions: Ledger, Tickets: Ledger, Events: Ledger> {
@@ -29,7 +55,10 @@ pub struct Worker<Regions: Ledger, Tickets: Ledger, Events: Ledger> {
     /// A digest of what was answered.
     pub tally: Tally,
     chance: Chance,
-    number: u64,
+    // The device on which it works, its queue, and its arrays.
+    device: u64,
+    queue: Option<u64>,
+    arrays: Row,
 }
 
 impl<Regions: Ledger, Tickets: Ledger, Events: Ledger> Worker<Regions, Tickets, Events> {
@@ -43,26 +72,13 @@ impl<Regions: Ledger, Tickets: Ledger, Events: Ledger> Worker<Regions, Tickets, 
             caller: caller.split(1, TICKETS)?,
             tally: Tally::new(),
             chance: Chance::new(seed.wrapping_add(number)),
-            number,
+            device: number % 2,
+            queue: Some(number % 16),
+            arrays: Row {
+                first: number.wrapping_mul(65_536),
+                ..ARRAYS
+            },
         })
-    }
-
-    /// The device on which it works.
-    fn device(&self) -> u64 {
-        self.number % 2
-    }
-
-    /// Its queue.
-    fn queue(&self) -> Option<u64> {
-        Some(self.number % 16)
-    }
-
-    /// Its own arrays.
-    fn arrays(&self) -> Row {
-        Row {
-            first: self.number.wrapping_mul(65_536),
-            ..ARRAYS
-        }
     }
 }
 
@@ -87,57 +103,43 @@ impl<Regions: Limited, Tickets: Ledger, Events: Ledger, R: Wait + AllocGlobal> H
     /// Fills all arrays, makes so many steps while the even ones are mapped, and reads all arrays back. It stops at the
     /// first fault.
     pub fn work(&mut self, steps: u64) -> Result<(), Fault> {
-        let arrays = self.worker.arrays();
-        for number in 0..arrays.count {
-            self.write(arrays.at(number))?;
+        for number in 0..ARRAYS.count {
+            self.act(Act::Write, number)?;
         }
-        self.map_even()?;
+        self.map(0, 32)?;
         for _ in 0..steps {
             self.step()?;
         }
-        self.unmap_even()?;
-        self.read(arrays.all())
+        self.unmap(0, 32)?;
+        self.read(self.worker.arrays.all())
     }
 
-    fn map_even(&mut self) -> Result<(), Fault> {
-        let (rt, device) = (self.rt, self.worker.device());
-        let arrays = self.worker.arrays();
-        let items = arrays.items(rt.alloc(), EnterClause::Copyin, 0, 2, 32)?;
-        self.runtime
-            .enter_data(rt, &mut self.worker.caller, device, items, None)
-    }
-
-    fn unmap_even(&mut self) -> Result<(), Fault> {
-        let (rt, device) = (self.rt, self.worker.device());
-        let arrays = self.worker.arrays();
-        let items = arrays.items(rt.alloc(), ExitClause::Copyout, 0, 2, 32)?;
-        self.runtime
-            .exit_data(rt, &mut self.worker.caller, device, items, false, None)
-    }
-
-    /// Makes each kind of call on one of its arrays. Between them the host writes other bytes, so that host and device
-    /// differ.
+    /// Makes each kind of call on one of its arrays.
     fn step(&mut self) -> Result<(), Fault> {
         let number = self.worker.chance.number();
-        let array = self.worker.arrays().at(number);
-        self.write(array)?;
-        self.map(array)?;
-        self.enter(array)?;
-        self.write(array)?;
-        self.update(UpdateClause::ToSelf, array)?;
-        self.read(array)?;
-        self.write(array)?;
-        self.update(UpdateClause::ToDevice, array)?;
-        self.write(array)?;
-        self.unmap(array)?;
-        self.read(array)
+        for act in STEP {
+            self.act(act, number)?;
+        }
+        Ok(())
     }
 
-    fn write(&mut self, array: Section) -> Result<(), Fault> {
-        let rt = self.rt;
-        let bytes = chance_bytes(rt.alloc(), &mut self.worker.chance, array.len)?;
+    fn act(&mut self, act: Act, number: u64) -> Result<(), Fault> {
+        match act {
+            Act::Write => self.write(number),
+            Act::Map => self.map(number, 1),
+            Act::Work => self.enter(number),
+            Act::Update(clause) => self.update(clause, number),
+            Act::Unmap => self.unmap(number, 1),
+            Act::Read => self.read(self.worker.arrays.at(number)),
+        }
+    }
+
+    /// The host writes bytes by chance into an array.
+    fn write(&mut self, number: u64) -> Result<(), Fault> {
+        let array = self.worker.arrays.at(number);
+        let bytes = chance_bytes(self.rt.alloc(), &mut self.worker.chance, array.len)?;
         self.runtime
-            .host_write(rt, &mut self.worker.caller, array.start, bytes)
+            .host_write(self.rt, &mut self.worker.caller, array.start, bytes)
     }
 
     /// Notes what the host has of a section.
@@ -147,24 +149,26 @@ impl<Regions: Limited, Tickets: Ledger, Events: Ledger, R: Wait + AllocGlobal> H
         Ok(())
     }
 
-    fn map(&mut self, array: Section) -> Result<(), Fault> {
-        let (rt, device) = (self.rt, self.worker.device());
-        let items = Vec::from_slice(rt.alloc(), &[item(EnterClause::Copyin, array)])?;
+    /// Maps an array, and each second array behind it, `count` in all.
+    fn map(&mut self, number: u64, count: u64) -> Result<(), Fault> {
+        let (rt, device, arrays) = (self.rt, self.worker.device, self.worker.arrays);
+        let items = arrays.items(rt.alloc(), EnterClause::Copyin, number, 2, count)?;
         self.runtime
             .enter_data(rt, &mut self.worker.caller, device, items, None)
     }
 
-    fn unmap(&mut self, array: Section) -> Result<(), Fault> {
-        let (rt, device) = (self.rt, self.worker.device());
-        let items = Vec::from_slice(rt.alloc(), &[item(ExitClause::Copyout, array)])?;
+    /// Ends what [`Hand::map`] began.
+    fn unmap(&mut self, number: u64, count: u64) -> Result<(), Fault> {
+        let (rt, device, arrays) = (self.rt, self.worker.device, self.worker.arrays);
+        let items = arrays.items(rt.alloc(), ExitClause::Copyout, number, 2, count)?;
         self.runtime
             .exit_data(rt, &mut self.worker.caller, device, items, false, None)
     }
 
     /// Copies an array one way through the queue of the thread, and waits for that.
-    fn update(&mut self, clause: UpdateClause, array: Section) -> Result<(), Fault> {
-        let (rt, device, queue) = (self.rt, self.worker.device(), self.worker.queue());
-        let items = Vec::from_slice(rt.alloc(), &[item(clause, array)])?;
+    fn update(&mut self, clause: UpdateClause, number: u64) -> Result<(), Fault> {
+        let (rt, device, queue) = (self.rt, self.worker.device, self.worker.queue);
+        let items = self.worker.arrays.items(rt.alloc(), clause, number, 1, 1)?;
         let caller = &mut self.worker.caller;
         self.runtime
             .update(rt, caller, device, items, false, queue)?;
@@ -175,13 +179,13 @@ impl<Regions: Limited, Tickets: Ledger, Events: Ledger, R: Wait + AllocGlobal> H
 
     /// Enters a region over an array, works on it, and exits. The number of the region is not noted, since it depends
     /// on which thread came first.
-    fn enter(&mut self, array: Section) -> Result<(), Fault> {
-        let (rt, device) = (self.rt, self.worker.device());
-        let items = Vec::from_slice(rt.alloc(), &[item(RegionClause::Present, array)])?;
+    fn enter(&mut self, number: u64) -> Result<(), Fault> {
+        let (rt, device, arrays) = (self.rt, self.worker.device, self.worker.arrays);
+        let items = arrays.items(rt.alloc(), RegionClause::Present, number, 1, 1)?;
         let region = self
             .runtime
             .enter(rt, &mut self.worker.caller, device, items)?;
-        let lent = self.lend(&region, array);
+        let lent = self.lend(&region, arrays.at(number));
         match self.runtime.exit(rt, &mut self.worker.caller, region) {
             Ok(()) => lent,
             Err((region, fault)) => {

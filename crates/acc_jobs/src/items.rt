@@ -11,9 +11,6 @@ pub fn section(at: u64, len: u64) -> Section {
     }
 }
 
-/// How many items a directive for a part of a row has at most.
-const PART: u64 = 50;
-
 /// An item of a clause, without a pointer.
 pub fn item<C>(clause: C, section: Section) -> Item<C> {
     Item {
@@ -66,40 +63,11 @@ impl Row {
         stride: u64,
         count: u64,
     ) -> Result<Vec<Item<C>>, AllocError> {
-        let mut items = Vec::with_capacity(alloc, 64)?;
+        let mut items = Vec::with_capacity(alloc, count as usize)?;
         for nth in 0..count {
             let number = first.wrapping_add(nth.wrapping_mul(stride));
             items.push(item(clause, self.at(number)))?;
         }
         Ok(items)
-    }
-
-    /// How many parts of at most fifty sections the row has.
-    pub fn parts(self) -> u64 {
-        self.count.div_ceil(PART)
-    }
-
-    /// Items of a clause for the sections of a part. Parts are counted from 0.
-    pub fn part<C: Copy + Drop>(
-        self,
-        alloc: Global,
-        clause: C,
-        part: u64,
-    ) -> Result<List<Item<C>>, AllocError> {
-        let first = part.wrapping_mul(PART);
-        let count = self.count.saturating_sub(first).min(PART);
-        self.list(alloc, clause, first, 1, count)
-    }
-
-    /// The items that [`Row::items`] makes, as a list.
-    pub fn list<C: Copy + Drop>(
-        self,
-        alloc: Global,
-        clause: C,
-        first: u64,
-        stride: u64,
-        count: u64,
-    ) -> Result<List<Item<C>>, AllocError> {
-        Ok(List::from_vec(self.items(alloc, clause, first, stride, count)?))
     }
 }

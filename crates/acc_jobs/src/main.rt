@@ -12,13 +12,14 @@ mod loops;
 mod numbers;
 mod pointers;
 mod scripts;
+mod stages;
 mod tallies;
 mod texts;
 mod threads;
 mod walks;
 
+use crate::stages::play_stages;
 use crate::tallies::Tally;
-use acc_base::Fault;
 use anyhow::Result;
 use std::env;
 use std::rt::Env;
@@ -33,23 +34,21 @@ const JOBS: [&str; 8] = [
 fn main(rt: HostRuntime) -> Result<()> {
     let seed = number(&rt, 2)?;
     let rounds = number(&rt, 3)?;
-    match word(&rt, 1)? {
-        Some(job) => tell(&rt, &job, seed, rounds),
-        None => tell(&rt, "", seed, rounds),
-    }
+    let job = word(&rt, 1)?;
+    tell(&rt, &job, seed, rounds)
 }
 
-/// The word at a place of the command line.
-fn word<R: Env + AllocGlobal>(rt: &R, place: usize) -> Result<Option<String>> {
-    Ok(env::args(rt)?.nth(place))
+/// The word at a place of the command line; an empty one where there is none.
+fn word<R: Env + AllocGlobal>(rt: &R, place: usize) -> Result<String> {
+    match env::args(rt)?.nth(place) {
+        Some(word) => Ok(word),
+        None => Ok(String::new(rt.alloc())),
+    }
 }
 
 /// The number at a place of the command line; 0 where there is none.
 fn number<R: Env + AllocGlobal>(rt: &R, place: usize) -> Result<u64> {
-    match word(rt, place)? {
-        Some(text) => Ok(text.parse::<u64>().unwrap_or(0)),
-        None => Ok(0),
-    }
+    Ok(word(rt, place)?.parse::<u64>().unwrap_or(0))
 }
 
 /// Does a job, or all of them, and prints what came of it.
@@ -59,13 +58,14 @@ fn tell<R: Print + Threads + Wait + Sync + AllocGlobal>(
     seed: u64,
     rounds: u64,
 ) -> Result<()> {
-    if job != "all" {
-        return tell_one(rt, job, seed, rounds);
-    }
+    let mut is_known = false;
     for name in JOBS {
-        tell_one(rt, name, seed, rounds)?;
+        if job == name || job == "all" {
+            is_known = true;
+            tell_one(rt, name, seed, rounds)?;
+        }
     }
-    Ok(())
+    if is_known { Ok(()) } else { tell_usage(rt) }
 }
 
 fn tell_one<R: Print + Threads + Wait + Sync + AllocGlobal>(
@@ -74,31 +74,8 @@ fn tell_one<R: Print + Threads + Wait + Sync + AllocGlobal>(
     seed: u64,
     rounds: u64,
 ) -> Result<()> {
-    match done(rt, job, seed, rounds)? {
-        Some(tally) => tell_tally(rt, job, tally, rounds),
-        None => tell_usage(rt),
-    }
-}
-
-/// Does a job; `None` where there is none of the name.
-fn done<R: Threads + Wait + Sync + AllocGlobal>(
-    rt: &R,
-    job: &str,
-    seed: u64,
-    rounds: u64,
-) -> Result<Option<Tally>, Fault> {
-    let tally = match job {
-        "loops" => loops::run(rt.alloc(), seed, rounds),
-        "holes" => holes::run(rt.alloc(), seed, rounds),
-        "pointers" => pointers::run(rt.alloc(), seed, rounds),
-        "scripts" => scripts::run(rt, seed, rounds),
-        "bytes" => bytes::run(rt.alloc(), seed, rounds),
-        "awkward" => awkward::run(rt, seed, rounds),
-        "threads" => threads::run(rt, seed, rounds),
-        "walks" => walks::run(rt, seed, rounds),
-        _ => return Ok(None),
-    };
-    Ok(Some(tally?))
+    let tally = play_stages(rt, job, seed, rounds)?;
+    tell_tally(rt, job, tally, rounds)
 }
 
 fn tell_tally<R: Print>(rt: &R, job: &str, tally: Tally, rounds: u64) -> Result<()> {

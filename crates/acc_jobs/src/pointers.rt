@@ -1,11 +1,8 @@
 //! Deep copies: structs that hold a pointer each, which is attached, updated and detached.
 
-use crate::desks::{Desk, limits};
+use crate::desks::Desk;
 use crate::items::{Row, one, section};
-use crate::tallies::Tally;
-use acc_base::{EnterClause, ExitClause, Fault, HOST_BASE, Item, List, Section, UpdateClause};
-use acc_table::Call;
-use std::alloc::{AllocError, Global};
+use acc_base::{EnterClause, ExitClause, HOST_BASE, Item, List, Section, UpdateClause};
 
 /// How many structs there are, of 16 bytes each. A pointer is its first eight bytes.
 const STRUCTS: u64 = 20_000;
@@ -25,18 +22,11 @@ const TARGETS: Row = Row {
 };
 
 /// Deep copies of all structs, so many times.
-pub fn run(alloc: Global, seed: u64, rounds: u64) -> Result<Tally, Fault> {
-    let config = limits(2_097_152, 2_097_152)?;
-    let mut desk = Desk::new(alloc, config, seed, Tally::new())?;
-    play(&mut desk, rounds)
-}
-
-fn play(desk: &mut Desk, rounds: u64) -> Result<Tally, Fault> {
-    desk.fill(MEMORY)?;
+pub fn play(desk: &mut Desk, rounds: u64) {
+    desk.fill(MEMORY);
     for _ in 0..rounds {
-        copy_all(desk)?;
+        copy_all(desk);
     }
-    Ok(desk.finish())
 }
 
 /// The section of the struct of a number.
@@ -46,63 +36,52 @@ fn structure(nth: u64) -> Section {
 
 /// Copies all structs to the device with their targets, and back. It goes by a stride, so that one seldom
 /// follows its neighbour. Once all are attached, the host writes other bytes, so that host and device differ.
-fn copy_all(desk: &mut Desk) -> Result<(), Fault> {
+fn copy_all(desk: &mut Desk) {
     let all = section(0, STRUCTS.wrapping_mul(16));
     desk.enter_data(one(EnterClause::Copyin, all));
     desk.note_device(all);
     let step = desk.stride(2_000);
     for nth in 0..STRUCTS {
-        attach(desk, nth.wrapping_mul(step))?;
+        attach(desk, nth.wrapping_mul(step));
     }
-    desk.fill(MEMORY)?;
+    desk.fill(MEMORY);
     desk.update(one(UpdateClause::ToSelf, all), None);
     desk.update(one(UpdateClause::ToDevice, all), None);
     desk.note_device(all);
     for nth in 0..STRUCTS {
-        detach(desk, nth.wrapping_mul(step))?;
+        detach(desk, nth.wrapping_mul(step));
     }
     desk.exit_data(one(ExitClause::Copyout, all), None);
     // No target is mapped any more, so these do nothing.
-    desk.exit_row(TARGETS, ExitClause::Delete)?;
+    desk.exit_row(TARGETS, ExitClause::Delete);
     desk.note_host(MEMORY);
-    desk.fold()
+    desk.fold();
 }
 
 /// Points a struct at its target, maps the target, attaches the pointer and updates the struct.
-fn attach(desk: &mut Desk, nth: u64) -> Result<(), Fault> {
-    point(desk, nth)?;
-    let pointer = structure(nth).start;
-    let item = Item {
-        clause: EnterClause::Copyin,
-        section: TARGETS.at(nth),
-        pointer: Some(pointer),
-    };
-    desk.enter_data(List::one(item));
+fn attach(desk: &mut Desk, nth: u64) {
+    let (pointer, target) = (structure(nth).start, TARGETS.at(nth));
+    let made = Vec::from_slice(desk.alloc, &target.start.to_le_bytes());
+    desk.write(pointer, made);
+    desk.enter_data(pointing(EnterClause::Copyin, nth));
     desk.update(one(UpdateClause::ToDevice, structure(nth)), None);
     let count = desk.table.attachment(0, pointer);
     desk.tally.note(count);
-    desk.fold_when_due()
+    desk.fold_when_due();
 }
 
-/// The host writes the address of the target into the struct.
-fn point(desk: &mut Desk, nth: u64) -> Result<(), AllocError> {
-    let target = TARGETS.at(nth).start;
-    let bytes = Vec::from_slice(desk.alloc, &target.to_le_bytes())?;
-    desk.call(Call::HostWrite {
-        addr: HOST_BASE.wrapping_add((nth % STRUCTS).wrapping_mul(16)),
-        bytes: List::from_vec(bytes),
-    });
-    Ok(())
+/// A list of one item: the target of a number, with the pointer to it.
+fn pointing<C>(clause: C, nth: u64) -> List<Item<C>> {
+    List::one(Item {
+        clause,
+        section: TARGETS.at(nth),
+        pointer: Some(structure(nth).start),
+    })
 }
 
 /// Updates a target, and detaches the pointer to it with its item.
-fn detach(desk: &mut Desk, nth: u64) -> Result<(), Fault> {
+fn detach(desk: &mut Desk, nth: u64) {
     desk.update(one(UpdateClause::ToSelf, TARGETS.at(nth)), None);
-    let item = Item {
-        clause: ExitClause::Copyout,
-        section: TARGETS.at(nth),
-        pointer: Some(structure(nth).start),
-    };
-    desk.exit_data(List::one(item), None);
-    desk.fold_when_due()
+    desk.exit_data(pointing(ExitClause::Copyout, nth), None);
+    desk.fold_when_due();
 }

@@ -1,18 +1,18 @@
-//! Scripts of tens of thousands of lines: plain, with a log, and copied line by line with reports as JSON.
+//! Scripts of thousands of lines: plain, with a log or with pictures, copied line by line with reports as JSON, and some
+//! whose lines are refused or whose last line is at fault.
 
-use crate::desks::limits;
 use crate::tallies::Tally;
-use crate::texts::{many, nested};
-use acc_base::Fault;
+use crate::texts::{Body, Script, text_of};
+use acc_base::{Config, Fault};
 use acc_follow::{Beside, Frame, Page, PictureSink, Setting, Stop, Views, follow};
-use acc_script::{MemorySink, MemorySource, Status};
+use acc_script::{MemorySink, MemorySource, Status, write_all};
 use std::alloc::Global;
 use std::cell::Cell;
 use std::sync::Wait;
 use std::thread::Threads;
 
 /// Shows only what a script prints.
-pub const PLAIN: Views = Views {
+const PLAIN: Views = Views {
     echo: false,
     json: false,
     log: false,
@@ -26,19 +26,105 @@ pub const PLAIN: Views = Views {
     check_all: false,
 };
 
-/// Shows what each call did, and why lines are refused.
-const LOG: Views = Views {
-    log: true,
+/// A script with many statements between the mappings of many arrays and their ends.
+const MANY: Script = Script {
+    declared: 10_000,
+    mapped: 10_000,
+    body: Body::Statement(0),
+    times: 20_000,
+    behind: "wait\n",
+    last: "",
+    views: PLAIN,
+};
+
+/// Scripts that succeed: four that are plain, one of which is of nested regions, one with a log and why lines are
+/// refused, and one with each statement before what it prints, and reports as JSON.
+const SCRIPTS: [Script; 6] = [
+    MANY,
+    Script {
+        declared: 4,
+        mapped: 4,
+        ..MANY
+    },
+    Script {
+        declared: 1_000,
+        mapped: 1_000,
+        body: Body::Statement(100),
+        times: 10_000,
+        ..MANY
+    },
+    Script {
+        declared: 64,
+        mapped: 0,
+        body: Body::Nest(40),
+        times: 100,
+        behind: "",
+        ..MANY
+    },
+    Script {
+        declared: 4_000,
+        mapped: 4_000,
+        times: 10_000,
+        views: Views {
+            log: true,
+            explain: true,
+            ..PLAIN
+        },
+        ..MANY
+    },
+    Script {
+        declared: 500,
+        mapped: 500,
+        body: Body::Statement(50),
+        times: 5_000,
+        views: Views {
+            echo: true,
+            json: true,
+            ..PLAIN
+        },
+        ..MANY
+    },
+];
+
+/// What is shown of scripts at fault beside what they print: why a line is refused.
+const EXPLAIN: Views = Views {
     explain: true,
     ..PLAIN
 };
 
-/// Shows each statement before what it prints, and reports as JSON.
-const JSON: Views = Views {
-    echo: true,
-    json: true,
-    ..PLAIN
-};
+/// A script whose directives are all refused between the mappings and their ends, and one whose last line is at fault.
+pub const REFUSED: [Script; 2] = [
+    Script {
+        declared: 4_000,
+        mapped: 2_000,
+        body: Body::Refused,
+        times: 500,
+        behind: "",
+        views: EXPLAIN,
+        ..MANY
+    },
+    Script {
+        declared: 2_000,
+        mapped: 2_000,
+        times: 1_000,
+        last: "update self(nobody)\n",
+        views: EXPLAIN,
+        ..MANY
+    },
+];
+
+/// A script that is drawn behind each directive and each kernel, and at its end.
+pub const DRAWN: [Script; 1] = [Script {
+    declared: 300,
+    mapped: 300,
+    times: 100,
+    views: Views {
+        picture: true,
+        pictures: true,
+        ..PLAIN
+    },
+    ..MANY
+}];
 
 /// Gets pictures, and notes when each was made and its bytes.
 #[derive(Drop)]
@@ -72,54 +158,61 @@ struct Aside {
     reason: Page,
 }
 
-/// Plays scripts of each kind, so many times, each with another seed.
-pub fn run<R: Threads + Wait + Sync + AllocGlobal>(
+/// Plays scripts that succeed, so many times, each with another seed. What is shown is noted each time.
+pub fn play_apart<R: Threads + Wait + Sync + AllocGlobal>(
     rt: &R,
+    config: Config,
     seed: u64,
     rounds: u64,
-) -> Result<Tally, Fault> {
-    let mut tally = Tally::new();
+    tally: &mut Tally,
+) {
     for round in 0..rounds {
-        let mut sink = MemorySink::new(rt.alloc());
-        play_all(rt, seed.wrapping_add(round.wrapping_mul(1_000)), &mut sink)?;
-        tally.note_bytes(sink.as_slice());
+        let seed = seed.wrapping_add(round.wrapping_mul(1_000));
+        play(rt, config, &SCRIPTS, seed, 1, tally);
     }
-    Ok(tally)
 }
 
-/// Plays a script of each kind: three that are plain, and then those of [`play_more`].
-fn play_all<R: Threads + Wait + Sync + AllocGlobal>(
+/// Plays each of the scripts so many times, each time with the next seed, and notes what is shown of all of them.
+pub fn play<R: Threads + Wait + Sync + AllocGlobal>(
     rt: &R,
+    config: Config,
+    scripts: &[Script],
     seed: u64,
-    sink: &mut MemorySink,
-) -> Result<(), Fault> {
-    let alloc = rt.alloc();
-    play_text(rt, &many(alloc, seed, 10_000, 20_000, 0)?, PLAIN, sink)?;
-    play_text(rt, &many(alloc, seed, 4, 20_000, 0)?, PLAIN, sink)?;
-    play_text(rt, &many(alloc, seed, 1_000, 10_000, 100)?, PLAIN, sink)?;
-    play_more(rt, alloc, seed, sink)
+    rounds: u64,
+    tally: &mut Tally,
+) {
+    let mut sink = MemorySink::new(rt.alloc());
+    for round in 0..rounds {
+        for script in scripts {
+            tally.is_short |= !play_one(rt, config, *script, seed.wrapping_add(round), &mut sink);
+        }
+    }
+    tally.note_bytes(sink.as_slice());
 }
 
-/// Plays a script of nested regions, one with a log, and one with echo and JSON.
-fn play_more<R: Threads + Wait + Sync + AllocGlobal>(
+/// Makes and plays a script, and returns whether there was memory for that.
+fn play_one<R: Threads + Wait + Sync + AllocGlobal>(
     rt: &R,
-    alloc: Global,
+    config: Config,
+    script: Script,
     seed: u64,
     sink: &mut MemorySink,
-) -> Result<(), Fault> {
-    play_text(rt, &nested(alloc, seed, 40, 100)?, PLAIN, sink)?;
-    play_text(rt, &many(alloc, seed, 4_000, 10_000, 0)?, LOG, sink)?;
-    play_text(rt, &many(alloc, seed, 500, 5_000, 50)?, JSON, sink)
+) -> bool {
+    match text_of(rt.alloc(), seed, script) {
+        Ok(text) => play_text(rt, config, &text, script.views, sink),
+        Err(_) => false,
+    }
 }
 
 /// Plays a script. It adds what the script prints, its log, why a line is at fault, a digest of the pictures, and how
 /// the script ended.
-pub fn play_text<R: Threads + Wait + Sync + AllocGlobal>(
+fn play_text<R: Threads + Wait + Sync + AllocGlobal>(
     rt: &R,
+    config: Config,
     text: &str,
     views: Views,
     sink: &mut MemorySink,
-) -> Result<(), Fault> {
+) -> bool {
     let mut aside = Aside {
         err: MemorySink::new(rt.alloc()),
         album: Album {
@@ -127,24 +220,25 @@ pub fn play_text<R: Threads + Wait + Sync + AllocGlobal>(
         },
         reason: Page::new(rt.alloc()),
     };
-    let ending = follow_text(rt, text, views, sink, &mut aside)?;
-    acc_script::write_all(sink, aside.err.as_slice());
-    acc_script::write_all(sink, aside.reason.as_slice());
-    acc_script::write_all(sink, &aside.album.tally.get().digest.to_le_bytes());
-    acc_script::write_all(sink, ending.as_bytes());
-    Ok(())
+    let ending = follow_text(rt, config, text, views, sink, &mut aside);
+    write_all(sink, aside.err.as_slice());
+    write_all(sink, aside.reason.as_slice());
+    write_all(sink, &aside.album.tally.get().digest.to_le_bytes());
+    write_all(sink, ending.as_bytes());
+    !ending.is_empty()
 }
 
-/// Runs a script, and returns how it ended.
+/// Runs a script, and returns how it ended; nothing where there was no memory for it.
 fn follow_text<R: Threads + Wait + Sync + AllocGlobal>(
     rt: &R,
+    config: Config,
     text: &str,
     views: Views,
     out: &mut MemorySink,
     aside: &mut Aside,
-) -> Result<&'static str, Fault> {
+) -> &'static str {
     let setting = Setting {
-        config: limits(2_097_152, 2_097_152)?,
+        config,
         parts: 1,
         views,
     };
@@ -159,11 +253,15 @@ fn follow_text<R: Threads + Wait + Sync + AllocGlobal>(
         column: &mut column,
         lines: &mut lines,
     };
-    match follow(rt, setting, &mut reader, out, beside) {
-        Ok(Status::Clean) => Ok("clean\n"),
-        Ok(Status::Refused) => Ok("refused\n"),
-        Err(Stop::Fault(Fault::Script { .. })) => Ok("at fault\n"),
-        Err(Stop::Fault(fault)) => Err(fault),
-        Err(Stop::Picture(_)) => Ok("no picture\n"),
+    ending_of(follow(rt, setting, &mut reader, out, beside))
+}
+
+fn ending_of(ending: Result<Status, Stop>) -> &'static str {
+    match ending {
+        Ok(Status::Clean) => "clean\n",
+        Ok(Status::Refused) => "refused\n",
+        Err(Stop::Fault(Fault::Script { .. })) => "at fault\n",
+        Err(Stop::Fault(_)) => "",
+        Err(Stop::Picture(_)) => "no picture\n",
     }
 }

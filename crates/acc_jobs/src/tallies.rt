@@ -18,6 +18,8 @@ pub struct Tally {
     pub digest: u64,
     /// The sum of what is left at the end: bytes of device memory in use, open regions and mapped ranges.
     pub left: u64,
+    /// Whether memory was refused for something beside a call. Then the digest does not count.
+    pub is_short: bool,
 }
 
 /// A sum that has taken up one more word.
@@ -31,6 +33,7 @@ impl Tally {
         Tally {
             digest: 0xCBF2_9CE4_8422_2325,
             left: 0,
+            is_short: false,
         }
     }
 
@@ -113,6 +116,14 @@ impl Tally {
         let (first, second) = fields_of_fault(fault);
         self.note_all(&[fault.number().wrapping_add(1_000), first, second]);
         0
+    }
+
+    /// Notes how many events a fold of a trace took.
+    pub fn note_folded(&mut self, folded: Result<u64, Fault>) {
+        match folded {
+            Ok(count) => self.note(count),
+            Err(_) => self.is_short = true,
+        }
     }
 
     /// Notes a mapped range.

@@ -1,247 +1,259 @@
 //! Scripts that are made from a seed.
 
+use acc_follow::Views;
 use acc_random::Chance;
 use std::alloc::{AllocError, Global};
 
-/// A script to which lines are added, and the numbers by chance for them.
-#[derive(Drop)]
-pub struct Text {
-    text: String,
-    chance: Chance,
+/// What a script is made of.
+#[derive(Clone, Copy)]
+pub struct Script {
+    /// How many arrays it declares.
+    pub declared: u64,
+    /// How many of them it maps. It ends their mappings.
+    pub mapped: u64,
+    /// What comes between the mappings and their ends.
+    pub body: Body,
+    /// How often the body comes.
+    pub times: u64,
+    /// The lines behind the body.
+    pub behind: &'static str,
+    /// The last line.
+    pub last: &'static str,
+    /// What is shown of it.
+    pub views: Views,
 }
 
-/// How many arrays a script of [`all_refused`] or [`wrong_at_end`] maps.
-pub const ARRAYS: u64 = 2_000;
+/// What comes between the mappings of a script and their ends.
+#[derive(Clone, Copy)]
+pub enum Body {
+    /// A statement, and a report once in so many; none where that is 0.
+    Statement(u64),
+    /// Data regions that are nested so deep, with an update and a kernel in each.
+    Nest(u64),
+    /// A line that is refused: its section is only partly present, or absent.
+    Refused,
+}
+
+/// A script to which lines are added, and the numbers by chance for them.
+#[derive(Drop)]
+struct Text {
+    text: String,
+    chance: Chance,
+    // Memory was refused for some of the text.
+    is_short: bool,
+}
 
 /// One array in so many is filled and shown.
 const SHOWN: u64 = 32;
 
-impl Text {
-    fn new(alloc: Global, seed: u64) -> Text {
-        Text {
-            text: String::new(alloc),
-            chance: Chance::new(seed),
-        }
+/// The text of a script.
+pub fn text_of(alloc: Global, seed: u64, script: Script) -> Result<String, AllocError> {
+    let mut text = Text {
+        text: String::new(alloc),
+        chance: Chance::new(seed),
+        is_short: false,
+    };
+    text.put_script(script);
+    if text.is_short {
+        return Err(AllocError);
     }
+    Ok(text.text)
+}
 
+impl Text {
     fn below(&mut self, bound: u64) -> u64 {
         self.chance.number() % bound.max(1)
     }
 
+    /// Adds text as it is.
+    fn push(&mut self, text: &str) {
+        let added = self.text.push_str(text);
+        self.is_short |= added.is_err();
+    }
+
+    /// Adds pieces of text, each with the number behind it, and the last piece.
+    fn put(&mut self, pieces: &[(&str, u64)], last: &str) {
+        for (piece, number) in pieces {
+            self.push(piece);
+            self.put_number(*number);
+        }
+        self.push(last);
+    }
+
+    fn put_number(&mut self, number: u64) {
+        let added = write!(self.text, "{number}");
+        self.is_short |= added.is_err();
+    }
+
+    /// Adds so many times eight bytes by chance, as hexadecimal digits.
+    fn put_bytes(&mut self, times: u64) {
+        for _ in 0..times {
+            let number = self.chance.number();
+            let added = write!(self.text, "{number:016x}");
+            self.is_short |= added.is_err();
+        }
+    }
+
+    fn put_script(&mut self, script: Script) {
+        self.put_arrays(script.declared);
+        for four in 0..script.mapped.div_ceil(4) {
+            self.map(four.wrapping_mul(4));
+        }
+        for line in 0..script.times {
+            match script.body {
+                Body::Statement(each) => self.put_statement(script.mapped, line, each),
+                Body::Nest(depth) => self.put_nest(depth),
+                Body::Refused => self.put_refused(script.mapped),
+            }
+        }
+        self.push(script.behind);
+        for nth in 0..script.mapped {
+            self.end(nth);
+        }
+        self.push(script.last);
+    }
+
     /// Declares arrays of 64 bytes, `a0` and so on. The host writes 16 bytes into one in 32 of them.
-    fn arrays(&mut self, count: u64) -> Result<(), AllocError> {
+    fn put_arrays(&mut self, count: u64) {
         for nth in 0..count {
-            write!(self.text, "array a{nth} 64\n")?;
+            self.put(&[("array a", nth)], " 64\n");
         }
         for part in 0..count.div_ceil(SHOWN) {
-            self.fill(part.wrapping_mul(SHOWN))?;
+            self.put(&[("write a", part.wrapping_mul(SHOWN))], "[8] ");
+            self.put_bytes(2);
+            self.push("\n");
         }
-        Ok(())
     }
 
-    fn fill(&mut self, nth: u64) -> Result<(), AllocError> {
-        write!(self.text, "write a{nth}[8] ")?;
-        self.put_eight()?;
-        self.put_eight()?;
-        self.text.push_str("\n")
-    }
-
-    /// Maps arrays, four on a line.
-    fn map(&mut self, count: u64) -> Result<(), AllocError> {
-        for four in 0..count.div_ceil(4) {
-            self.map_four(four.wrapping_mul(4))?;
-        }
-        Ok(())
-    }
-
-    fn map_four(&mut self, nth: u64) -> Result<(), AllocError> {
+    /// Maps four arrays.
+    fn map(&mut self, nth: u64) {
         let (b, c, d) = (
             nth.wrapping_add(1),
             nth.wrapping_add(2),
             nth.wrapping_add(3),
         );
-        write!(
-            self.text,
-            "enter data copyin(a{nth}, a{b}) create(a{c}, a{d})\n"
-        )
+        let pieces = [
+            ("enter data copyin(a", nth),
+            (", a", b),
+            (") create(a", c),
+            (", a", d),
+        ];
+        self.put(&pieces, ")\n");
     }
 
-    /// Ends the mappings of arrays, one on a line, and shows one in 32 of them on both sides.
-    fn end(&mut self, count: u64) -> Result<(), AllocError> {
-        for nth in 0..count {
-            self.end_one(nth)?;
+    /// Ends the mapping of an array. One in 32 of them is shown on both sides.
+    fn end(&mut self, nth: u64) {
+        if nth % SHOWN == 0 {
+            let pieces = [
+                ("peek a", nth),
+                ("\nexit data copyout(a", nth),
+                (")\nshow a", nth),
+            ];
+            self.put(&pieces, "\n");
+        } else {
+            self.put(&[("exit data copyout(a", nth)], ")\n");
         }
-        Ok(())
     }
 
-    fn end_one(&mut self, nth: u64) -> Result<(), AllocError> {
-        if nth % SHOWN != 0 {
-            return write!(self.text, "exit data copyout(a{nth})\n");
+    /// A statement of any kind over so many arrays, and a report once in `each` lines.
+    fn put_statement(&mut self, arrays: u64, line: u64, each: u64) {
+        match self.below(10) {
+            0 | 1 => self.put_write(arrays),
+            2 => self.put_pointer(arrays),
+            3 => self.push("# a comment, and a blank line\n\n"),
+            _ => self.put_directive(arrays),
         }
-        write!(
-            self.text,
-            "peek a{nth}\nexit data copyout(a{nth})\nshow a{nth}\n"
-        )
-    }
-
-    /// One to three lines that name one or two of the first `count` arrays, or a step of a queue.
-    fn directive(&mut self, count: u64) -> Result<(), AllocError> {
-        let nth = self.below(count);
-        let other = self.below(count);
-        match self.below(8) {
-            0 => write!(self.text, "enter data copyin(a{nth})\n"),
-            1 => write!(
-                self.text,
-                "exit data delete(a{nth}) finalize\nenter data copyin(a{nth})\n"
-            ),
-            2 => write!(self.text, "update self(a{nth}[8:16]) device(a{other})\n"),
-            3 => write!(self.text, "data copy(a{nth}) present(a{other})\nend data\n"),
-            4 => write!(self.text, "update device(a{nth}) async(3)\n"),
-            5 => write!(
-                self.text,
-                "data copy(a{nth})\nkernel add 7 a{nth}\nend data\n"
-            ),
-            6 => write!(self.text, "present a{nth}[4:8]\naddress a{other}[3]\n"),
-            _ => write!(self.text, "step(3)\n"),
+        if each != 0 && line % each == 0 {
+            self.push("wait(3)\nreport\n");
         }
     }
 
     /// A write of 32 or 64 bytes. One array in eight is then shown on both sides.
-    fn write_bytes(&mut self, count: u64) -> Result<(), AllocError> {
-        let nth = self.below(count);
-        write!(self.text, "write a{nth}[0] ")?;
-        for _ in 0..4u64 {
-            self.put_eight()?;
-        }
-        if nth % 2 == 0 {
-            for _ in 0..4u64 {
-                self.put_eight()?;
-            }
-        }
-        self.text.push_str("\n")?;
+    fn put_write(&mut self, arrays: u64) {
+        let nth = self.below(arrays);
+        self.put(&[("write a", nth)], "[0] ");
+        self.put_bytes(if nth % 2 == 0 { 8 } else { 4 });
         if nth % 8 == 0 {
-            write!(self.text, "show a{nth}\npeek a{nth}\n")?;
+            self.put(&[("\nshow a", nth), ("\npeek a", nth)], "\n");
+        } else {
+            self.push("\n");
         }
-        Ok(())
-    }
-
-    /// Eight bytes by chance, as hexadecimal digits.
-    fn put_eight(&mut self) -> Result<(), AllocError> {
-        let number = self.chance.number();
-        write!(self.text, "{number:016x}")
     }
 
     /// An array gets a pointer to another, which is attached, copied back and detached.
-    fn pointer(&mut self, count: u64) -> Result<(), AllocError> {
-        let nth = self.below(count);
-        let other = self.below(count);
+    fn put_pointer(&mut self, arrays: u64) {
+        let nth = self.below(arrays);
+        let other = self.below(arrays);
         let place = self.below(8).wrapping_mul(8);
-        write!(
-            self.text,
-            "point a{nth}[{place}] to a{other}[0]\nenter data attach(a{nth}[{place}])\n"
-        )?;
-        write!(
-            self.text,
-            "update self(a{nth})\nexit data detach(a{nth}[{place}])\n"
-        )
+        let pieces = [
+            ("point a", nth),
+            ("[", place),
+            ("] to a", other),
+            ("[0]\nenter data attach(a", nth),
+            ("[", place),
+            ("])\nupdate self(a", nth),
+            (")\nexit data detach(a", nth),
+            ("[", place),
+        ];
+        self.put(&pieces, "])\n");
     }
 
-    /// So many statements of all kinds. A report comes once in `each` statements; none where that is 0.
-    fn statements(&mut self, arrays: u64, lines: u64, each: u64) -> Result<(), AllocError> {
-        for line in 0..lines {
-            self.statement(arrays)?;
-            if each != 0 && line % each == 0 {
-                self.text.push_str("wait(3)\nreport\n")?;
-            }
+    /// One to three lines that name one or two arrays, or a step of a queue.
+    fn put_directive(&mut self, arrays: u64) {
+        let (one, other) = (self.below(arrays), self.below(arrays));
+        match self.below(8) {
+            0 => self.put(&[("enter data copyin(a", one)], ")\n"),
+            1 => self.put(
+                &[
+                    ("exit data delete(a", one),
+                    (") finalize\nenter data copyin(a", one),
+                ],
+                ")\n",
+            ),
+            2 => self.put(
+                &[("update self(a", one), ("[8:16]) device(a", other)],
+                ")\n",
+            ),
+            3 => self.put(
+                &[("data copy(a", one), (") present(a", other)],
+                ")\nend data\n",
+            ),
+            4 => self.put(&[("update device(a", one)], ") async(3)\n"),
+            5 => self.put(
+                &[("data copy(a", one), (")\nkernel add 7 a", one)],
+                "\nend data\n",
+            ),
+            6 => self.put(&[("present a", one), ("[4:8]\naddress a", other)], "[3]\n"),
+            _ => self.push("step(3)\n"),
         }
-        self.text.push_str("wait\n")
     }
 
-    fn statement(&mut self, arrays: u64) -> Result<(), AllocError> {
-        match self.below(10) {
-            0 | 1 => self.write_bytes(arrays),
-            2 => self.pointer(arrays),
-            3 => self.text.push_str("# a comment, and a blank line\n\n"),
-            _ => self.directive(arrays),
+    /// Data regions that are nested so deep, with an update and a kernel in each.
+    fn put_nest(&mut self, depth: u64) {
+        for _ in 0..depth {
+            let nth = self.below(64);
+            let pieces = [
+                ("data copyin(a", nth),
+                ("[0:32]) create(a", nth),
+                ("[0:16])\nkernel number 5 a", nth),
+                ("[0:8]\nupdate self(a", nth),
+            ];
+            self.put(&pieces, "[0:8])\n");
+        }
+        let nth = self.below(8).wrapping_mul(8);
+        self.put(&[("peek a", nth), ("[0:32]\nshow a", nth)], "\n");
+        for _ in 0..depth {
+            self.push("end data\n");
         }
     }
-}
 
-/// A script that maps so many arrays, has so many statements, and ends the mappings. A report comes once in `each`
-/// statements; none where that is 0.
-pub fn many(
-    alloc: Global,
-    seed: u64,
-    arrays: u64,
-    lines: u64,
-    each: u64,
-) -> Result<String, AllocError> {
-    let mut text = Text::new(alloc, seed);
-    text.arrays(arrays)?;
-    text.map(arrays)?;
-    text.statements(arrays, lines, each)?;
-    text.end(arrays)?;
-    Ok(text.text)
-}
-
-/// A script of data regions that are nested so deep, so many times, with an update and a kernel in each region.
-pub fn nested(alloc: Global, seed: u64, depth: u64, times: u64) -> Result<String, AllocError> {
-    let mut text = Text::new(alloc, seed);
-    text.arrays(64)?;
-    for _ in 0..times {
-        nest(&mut text, depth)?;
-    }
-    Ok(text.text)
-}
-
-fn nest(text: &mut Text, depth: u64) -> Result<(), AllocError> {
-    for _ in 0..depth {
-        let nth = text.below(64);
-        write!(
-            text.text,
-            "data copyin(a{nth}[0:32]) create(a{nth}[0:16])\nkernel number 5 a{nth}[0:8]\nupdate self(a{nth}[0:8])\n"
-        )?;
-    }
-    let nth = text.below(8).wrapping_mul(8);
-    write!(text.text, "peek a{nth}[0:32]\nshow a{nth}\n")?;
-    for _ in 0..depth {
-        text.text.push_str("end data\n")?;
-    }
-    Ok(())
-}
-
-/// A script that maps arrays. All lines are refused that come between this and the ends of the mappings.
-pub fn all_refused(alloc: Global, seed: u64) -> Result<String, AllocError> {
-    let mut text = Text::new(alloc, seed);
-    text.arrays(ARRAYS.wrapping_mul(2))?;
-    text.map(ARRAYS)?;
-    for _ in 0..500u64 {
-        refused(&mut text)?;
-    }
-    text.end(ARRAYS)?;
-    Ok(text.text)
-}
-
-/// A line that is refused: its section is only partly present, or absent.
-fn refused(text: &mut Text) -> Result<(), AllocError> {
-    let nth = text.below(ARRAYS);
-    match text.below(3) {
-        0 => write!(text.text, "enter data copyin(a{nth}[32:64])\n"),
-        1 => {
-            let other = nth.wrapping_add(ARRAYS);
-            write!(text.text, "update self(a{other})\n")
+    /// A line that is refused: its section is only partly present, or absent.
+    fn put_refused(&mut self, mapped: u64) {
+        let nth = self.below(mapped);
+        match self.below(3) {
+            0 => self.put(&[("enter data copyin(a", nth)], "[32:64])\n"),
+            1 => self.put(&[("update self(a", nth.wrapping_add(mapped))], ")\n"),
+            _ => self.put(&[("exit data copyout(a", nth)], "[60:80])\n"),
         }
-        _ => write!(text.text, "exit data copyout(a{nth}[60:80])\n"),
     }
-}
-
-/// A script whose last line is at fault.
-pub fn wrong_at_end(alloc: Global, seed: u64) -> Result<String, AllocError> {
-    let mut text = Text::new(alloc, seed);
-    text.arrays(ARRAYS)?;
-    text.map(ARRAYS)?;
-    text.statements(ARRAYS, 1_000, 0)?;
-    text.end(ARRAYS)?;
-    text.text.push_str("update self(nobody)\n")?;
-    Ok(text.text)
 }

@@ -3,7 +3,7 @@
 
 ghost use Rattle.std.specs.Prelude.{◌≡◌};
 
-use crate::desks::{Desk, limits};
+use crate::desks::Desk;
 use crate::hands::{Hand, Worker};
 use crate::items::{one, section};
 use crate::tallies::Tally;
@@ -11,6 +11,7 @@ use acc_base::{Config, EnterClause, ExitClause, Fault, RegionClause, Section};
 use acc_lend::{Add, Cuts, Lease, Open, run_parts};
 use acc_runtime::{Blanks, Caller, Limited, Runtime, blanks};
 use acc_table::Call;
+use std::alloc::Global;
 use std::marker::Brand;
 use std::sync::Wait;
 use std::sync::ledger::Ledger;
@@ -24,37 +25,19 @@ const LARGE: u64 = 4_194_304;
 
 /// How many threads share a table, and how many rounds they make.
 #[derive(Clone, Copy)]
-struct Plan {
-    seed: u64,
-    rounds: u64,
-    threads: u64,
-}
-
-/// Makes so many rounds with one, two and four threads on a table, and as many with kernels.
-pub fn run<R: Threads + Wait + Sync + AllocGlobal>(
-    rt: &R,
-    seed: u64,
-    rounds: u64,
-) -> Result<Tally, Fault> {
-    let mut tally = Tally::new();
-    for threads in [1, 2, 4] {
-        let plan = Plan {
-            seed,
-            rounds,
-            threads,
-        };
-        share(rt, plan, &mut tally)?;
-    }
-    run_kernels(rt, seed, rounds, tally)
+pub struct Plan {
+    pub seed: u64,
+    pub rounds: u64,
+    pub threads: u64,
 }
 
 /// Makes the rounds of a plan on a new table of two devices.
-fn share<R: Threads + Wait + Sync + AllocGlobal>(
+pub fn share<R: Threads + Wait + Sync + AllocGlobal>(
     rt: &R,
+    config: Config,
     plan: Plan,
     tally: &mut Tally,
 ) -> Result<(), Fault> {
-    let config = limits(2_097_152, 2_097_152)?.with_devices(2)?;
     let blanks = blanks(&config);
     share_new::<Brand, Brand, Brand, R>(rt, config, blanks, plan, tally)
 }
@@ -87,24 +70,28 @@ fn play<
     plan: Plan,
     tally: &mut Tally,
 ) -> Result<(), Fault> {
-    let mut workers = Vec::new(rt.alloc());
-    hire(caller, plan, &mut workers)?;
-    let made = make_rounds(rt, runtime, workers.as_mut_slice(), plan, tally);
+    let mut workers = hire(rt.alloc(), caller, plan)?;
+    for _ in 0..plan.rounds {
+        let steps = STEPS / plan.threads.max(1);
+        work_all(rt, runtime, workers.as_mut_slice(), steps);
+        tally.note_folded(runtime.rebase(rt));
+    }
     note_workers(caller, workers, tally);
     note_table(rt, runtime, caller, tally);
-    made
+    Ok(())
 }
 
 /// Splits a caller off for the worker of each thread.
 fn hire<Regions: Ledger, Tickets: Ledger, Events: Ledger>(
+    alloc: Global,
     caller: &mut Caller<Regions, Tickets, Events>,
     plan: Plan,
-    workers: &mut Vec<Worker<Regions, Tickets, Events>>,
-) -> Result<(), Fault> {
+) -> Result<Vec<Worker<Regions, Tickets, Events>>, Fault> {
+    let mut workers = Vec::new(alloc);
     for number in 0..plan.threads {
         workers.push(Worker::new(caller, plan.seed, number)?)?;
     }
-    Ok(())
+    Ok(workers)
 }
 
 /// Notes what the workers noted, in the order of their numbers, and takes their shares back.
@@ -117,27 +104,6 @@ fn note_workers<Regions: Ledger, Tickets: Ledger, Events: Ledger>(
         tally.note(worker.tally.digest);
         caller.merge(worker.caller);
     }
-}
-
-/// Makes all rounds, and notes behind each how many events the fold of the trace took.
-fn make_rounds<
-    Regions: Limited + Send + Sync,
-    Tickets: Ledger + Send + Sync,
-    Events: Ledger + Send + Sync,
-    R: Threads + Wait + Sync + AllocGlobal,
->(
-    rt: &R,
-    runtime: &Runtime<Regions, Tickets, Events>,
-    workers: &mut [Worker<Regions, Tickets, Events>],
-    plan: Plan,
-    tally: &mut Tally,
-) -> Result<(), Fault> {
-    for _ in 0..plan.rounds {
-        work_all(rt, runtime, workers, STEPS / plan.threads.max(1));
-        let count = runtime.rebase(rt)?;
-        tally.note(count);
-    }
-    Ok(())
 }
 
 /// So many steps of each worker, each in a thread of its own.
@@ -200,25 +166,10 @@ fn note_table<Regions: Limited, Tickets: Ledger, Events: Ledger, R: Wait>(
     tally.left = tally.left.wrapping_add(left);
 }
 
-fn run_kernels<R: Threads + Wait + Sync + AllocGlobal>(
-    rt: &R,
-    seed: u64,
-    rounds: u64,
-    tally: Tally,
-) -> Result<Tally, Fault> {
-    let config = limits(LARGE, LARGE)?;
-    let mut desk = Desk::new(rt.alloc(), config, seed, tally)?;
-    play_kernels(rt, &mut desk, rounds)
-}
-
 /// Maps the large array, and lets kernels work on all of it in one to four parts, so many times.
-fn play_kernels<R: Threads + Wait + Sync + AllocGlobal>(
-    rt: &R,
-    desk: &mut Desk,
-    rounds: u64,
-) -> Result<Tally, Fault> {
+pub fn play_kernels<R: Threads + Wait + Sync>(rt: &R, desk: &mut Desk, rounds: u64) {
     let all = section(0, LARGE);
-    desk.fill(all)?;
+    desk.fill(all);
     desk.enter_data(one(EnterClause::Copyin, all));
     let region = desk.enter(one(RegionClause::Present, all));
     for round in 0..rounds.saturating_mul(8) {
@@ -227,11 +178,10 @@ fn play_kernels<R: Threads + Wait + Sync + AllocGlobal>(
     desk.exit(region);
     desk.exit_data(one(ExitClause::Copyout, all), None);
     desk.note_host(all);
-    Ok(desk.finish())
 }
 
 /// Lends a section to a kernel, which works on it in one part more than `others`.
-fn work_in<R: Threads + Wait + Sync + AllocGlobal>(
+fn work_in<R: Threads + Wait + Sync>(
     rt: &R,
     desk: &mut Desk,
     region: u64,
@@ -240,20 +190,20 @@ fn work_in<R: Threads + Wait + Sync + AllocGlobal>(
 ) {
     if let Some(mut lease) = desk.lend(region, section) {
         let others = (others % 64) as usize;
-        if let Err(fault) = add_evenly(rt, &mut lease, others.wrapping_add(1)) {
-            desk.tally.refuse(fault);
-        }
+        let added = add_evenly(rt, desk.alloc, &mut lease, others.wrapping_add(1));
+        desk.tally.is_short |= added.is_err();
         desk.call(Call::Gather(lease));
     }
 }
 
 /// Runs a kernel on a lease, in so many parts of about the same length.
-fn add_evenly<R: Threads + Wait + Sync + AllocGlobal>(
+fn add_evenly<R: Threads + Wait + Sync>(
     rt: &R,
+    alloc: Global,
     lease: &mut Lease,
     parts: usize,
 ) -> Result<(), Fault> {
-    let cuts = Cuts::even(rt.alloc(), lease.len(), parts)?;
+    let cuts = Cuts::even(alloc, lease.len(), parts)?;
     run_parts(rt, lease, &cuts, &Add(3), &[], &Open);
     Ok(())
 }

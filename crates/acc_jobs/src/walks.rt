@@ -1,18 +1,11 @@
-//! Questions and reports about 20,000 mapped ranges on each of two devices, copies that wait in queues, and pictures.
+//! Questions and reports about 20,000 mapped ranges on each of two devices, and copies that wait in queues.
 
-use crate::desks::{Desk, limits};
+use crate::desks::Desk;
 use crate::items::{Row, one};
 use crate::numbers::{fields_of_counters, fields_of_ended, fields_of_found, number_of};
-use crate::scripts::{PLAIN, play_text};
-use crate::tallies::Tally;
-use crate::texts::many;
-use acc_base::{Directive, EnterClause, ExitClause, Fault, Section, UpdateClause};
-use acc_follow::Views;
+use acc_base::{Directive, EnterClause, ExitClause, Section, UpdateClause};
 use acc_script::{MemorySink, report};
 use acc_table::Call;
-use std::alloc::Global;
-use std::sync::Wait;
-use std::thread::Threads;
 
 /// How many devices there are.
 const DEVICES: u64 = 2;
@@ -28,69 +21,36 @@ const ARRAYS: Row = Row {
     count: 20_000,
 };
 
-/// A script is drawn behind each directive and each kernel, and at its end.
-const PICTURES: Views = Views {
-    picture: true,
-    pictures: true,
-    ..PLAIN
-};
-
-/// Maps all arrays on each device, and makes so many rounds of questions. Then it plays as many scripts with pictures.
-pub fn run<R: Threads + Wait + Sync + AllocGlobal>(
-    rt: &R,
-    seed: u64,
-    rounds: u64,
-) -> Result<Tally, Fault> {
-    let tally = run_calls(rt.alloc(), seed, rounds)?;
-    draw(rt, seed, rounds, tally)
-}
-
-fn run_calls(alloc: Global, seed: u64, rounds: u64) -> Result<Tally, Fault> {
-    let config = limits(2_097_152, 2_097_152)?.with_devices(DEVICES)?;
-    let mut desk = Desk::new(alloc, config, seed, Tally::new())?;
-    play(&mut desk, rounds)
-}
-
-fn play(desk: &mut Desk, rounds: u64) -> Result<Tally, Fault> {
+/// Maps all arrays on each device, makes so many rounds of questions, and ends the mappings. The host writes other
+/// bytes for each device.
+pub fn play(desk: &mut Desk, rounds: u64) {
     for device in 0..DEVICES {
-        map(desk, device)?;
+        desk.device = device;
+        desk.fill(ARRAYS.all());
+        desk.enter_row(ARRAYS, EnterClause::Copyin);
     }
     for _ in 0..rounds {
-        walk_all(desk)?;
+        walk_all(desk);
     }
     for device in 0..DEVICES {
-        end(desk, device)?;
+        desk.device = device;
+        desk.exit_row(ARRAYS, ExitClause::Copyout);
+        desk.note_host(ARRAYS.all());
     }
-    Ok(desk.finish())
-}
-
-/// Maps all arrays on a device. Before that, the host writes other bytes for each device.
-fn map(desk: &mut Desk, device: u64) -> Result<(), Fault> {
-    desk.device = device;
-    desk.fill(ARRAYS.all())?;
-    desk.enter_row(ARRAYS, EnterClause::Copyin)
-}
-
-/// Ends all mappings of a device, and notes what the host has then.
-fn end(desk: &mut Desk, device: u64) -> Result<(), Fault> {
-    desk.device = device;
-    desk.exit_row(ARRAYS, ExitClause::Copyout)?;
-    desk.note_host(ARRAYS.all());
-    Ok(())
 }
 
 /// One round on each device, a report of all, and a fold.
-fn walk_all(desk: &mut Desk) -> Result<(), Fault> {
+fn walk_all(desk: &mut Desk) {
     for device in 0..DEVICES {
         desk.device = device;
-        walk(desk)?;
+        walk(desk);
     }
-    put_report(desk)?;
-    desk.fold()
+    put_report(desk);
+    desk.fold();
 }
 
 /// Puts copies into queues, asks about all arrays while the copies wait, and makes the copies.
-fn walk(desk: &mut Desk) -> Result<(), Fault> {
+fn walk(desk: &mut Desk) {
     for queue in 0..QUEUES {
         put_off(desk, queue);
     }
@@ -100,10 +60,9 @@ fn walk(desk: &mut Desk) -> Result<(), Fault> {
         ask(desk, nth.wrapping_mul(step));
     }
     for queue in 0..QUEUES {
-        make_up(desk, queue)?;
+        make_up(desk, queue);
     }
     desk.note_host(ARRAYS.all());
-    Ok(())
 }
 
 /// Notes where sixteen bytes of an array lie on the device, their address there, and the counters of their range.
@@ -134,40 +93,24 @@ fn put_off(desk: &mut Desk, queue: u64) {
 }
 
 /// Makes the copies of a queue, the first of them alone, and maps the array again whose mapping ended.
-fn make_up(desk: &mut Desk, queue: u64) -> Result<(), Fault> {
+fn make_up(desk: &mut Desk, queue: u64) {
     let device = desk.device;
     let ended = desk.table.ended(device, 0);
     let len = desk.table.queue_len(device, queue);
     desk.tally.note_all(&fields_of_ended(ended));
     desk.tally.note(len);
     desk.call(Call::Do(Directive::Step { device, queue }));
-    desk.wait(queue);
-    desk.fill(ARRAYS.at(queue))?;
+    desk.call(Call::Do(Directive::Wait {
+        device,
+        queue: Some(queue),
+    }));
+    desk.fill(ARRAYS.at(queue));
     desk.enter_data(one(EnterClause::Copyin, ARRAYS.at(queue)));
-    Ok(())
 }
 
 /// Notes the report of the table.
-fn put_report(desk: &mut Desk) -> Result<(), Fault> {
+fn put_report(desk: &mut Desk) {
     let mut sink = MemorySink::new(desk.alloc);
-    report(&desk.table, &mut sink)?;
+    desk.tally.is_short |= report(&desk.table, &mut sink).is_err();
     desk.tally.note_bytes(sink.as_slice());
-    Ok(())
-}
-
-/// Plays scripts with 300 arrays and 100 statements, of which pictures are drawn.
-fn draw<R: Threads + Wait + Sync + AllocGlobal>(
-    rt: &R,
-    seed: u64,
-    rounds: u64,
-    tally: Tally,
-) -> Result<Tally, Fault> {
-    let mut tally = tally;
-    let mut sink = MemorySink::new(rt.alloc());
-    for round in 0..rounds {
-        let text = many(rt.alloc(), seed.wrapping_add(round), 300, 100, 0)?;
-        play_text(rt, &text, PICTURES, &mut sink)?;
-    }
-    tally.note_bytes(sink.as_slice());
-    Ok(tally)
 }

@@ -1,5 +1,5 @@
-//! What the program does over sources, sinks and files in memory: where one of them fails, where memory cannot grow, and
-//! where lines are typed. How scripts end at limits that no option gives.
+//! What the program does over sources, sinks and files in memory: where one of them fails, and where memory cannot grow.
+//! How scripts end at limits that no option gives.
 
 use acc_command::{FileFault, FileStore, Terminals, tool};
 use acc_script::{MemorySink, MemorySource, Sink, Source};
@@ -11,11 +11,9 @@ use std::thread::Threads;
 use worked::SUITE;
 
 mod chances;
-mod cuts;
 mod growths;
 mod limits;
 mod streams;
-mod typed;
 mod worked;
 
 /// The options, a script, what it prints, and the status.

@@ -1,10 +1,8 @@
-//! Limits that no option of the program gives, and that of an input: what a script prints there, and how it ends.
+//! Limits that no option of the program gives: what a script prints there, and how it ends.
 
 use super::same;
 use acc_base::{Config, Fault, ScriptFault};
-use acc_script::{FromRead, MemorySink, MemorySource, Source, Status, Unwatched, run};
-use std::fmt::Debug;
-use std::io::{self, Read};
+use acc_script::{MemorySink, MemorySource, Status, Unwatched, run};
 use std::process::Abort;
 use std::sync::Wait;
 use std::test::Fail;
@@ -50,38 +48,23 @@ const ROWS: [Row; 3] = [
 ];
 
 /// Runs a script on a table with these limits, and compares what it prints and how it ends.
-fn check_run<R: Abort + Threads + Wait + Sync + AllocGlobal, S: Source, P: Debug + Copy>(
+fn check_run<R: Abort + Threads + Wait + Sync + AllocGlobal>(
     rt: &R,
-    reader: &mut S,
-    [tickets, counters, trace]: [u64; 3],
-    (printed, end): (&str, Result<Status, Fault>),
-    place: P,
+    ([tickets, counters, trace], script, printed, end): Row,
 ) -> Result<(), Fault> {
     let config = Config::new(64, 64, 1, tickets, counters, 1, trace)?;
+    let mut reader = MemorySource::new(script.as_bytes());
     let mut writer = MemorySink::new(rt.alloc());
-    let found = run(rt, reader, &mut writer, config, 1, &mut Unwatched);
-    same(rt, writer.as_slice(), printed.as_bytes(), place);
-    same(rt, found, end, place);
+    let found = run(rt, &mut reader, &mut writer, config, 1, &mut Unwatched);
+    same(rt, writer.as_slice(), printed.as_bytes(), script);
+    same(rt, found, end, script);
     Ok(())
 }
 
 #[test]
 fn small_tables_refuse(rt: HostRuntime) -> Result<(), Fail> {
-    for &(limits, script, printed, end) in &ROWS {
-        let mut reader = MemorySource::new(script.as_bytes());
-        check_run(&rt, &mut reader, limits, (printed, end), script)?;
-    }
-    Ok(())
-}
-
-#[test]
-fn an_input_has_so_many_bytes_and_no_more(rt: HostRuntime) -> Result<(), Fail> {
-    for (count, end) in [
-        (16_777_216, Ok(Status::Clean)),
-        (16_777_217, Err(Fault::Read)),
-    ] {
-        let mut reader = FromRead::new(io::repeat(b'\n').take(count));
-        check_run(&rt, &mut reader, [8, 8, 8], ("", end), count)?;
+    for row in ROWS {
+        check_run(&rt, row)?;
     }
     Ok(())
 }

@@ -1,6 +1,6 @@
 //! Rows of a table, and what stands in none.
 
-use acc_base::{Config, Fault};
+use acc_base::Fault;
 use language::Row;
 use playing::play_row;
 use std::fmt::Debug;
@@ -9,7 +9,6 @@ use std::test::Fail;
 
 mod checks;
 mod example;
-mod holes;
 mod language;
 mod layers;
 mod leasing;
@@ -40,35 +39,5 @@ fn each_row_holds_after_a_refused_growth(rt: HostRuntime) -> Result<(), Fail> {
     for rows in rows::tables() {
         play_each(&rt, rows)?;
     }
-    Ok(())
-}
-
-/// How many devices are asked for, and what that is refused for.
-const DEVICES: [(u64, Option<Fault>); 4] = [
-    (0, Some(Fault::BadConfig)),
-    (1, None),
-    (4, None),
-    (5, Some(Fault::BadConfig)),
-];
-
-fn check_devices(rt: &impl Abort, config: Config) {
-    for (devices, fault) in DEVICES {
-        let found = config.with_devices(devices).err();
-        same(rt, found, fault, devices);
-    }
-}
-
-#[test]
-fn a_table_has_one_to_four_devices(rt: HostRuntime) -> Result<(), Fail> {
-    let found = Config::new(24, 64, 1, 1, 1, 1, 1).err();
-    same(
-        &rt,
-        found,
-        Some(Fault::BadConfig),
-        "24 bytes of host memory",
-    );
-    let config = Config::new(64, 64, 1, 1, 1, 1, 1)?;
-    same(&rt, config.devices(), 1, "a new configuration");
-    check_devices(&rt, config);
     Ok(())
 }

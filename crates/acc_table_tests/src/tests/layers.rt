@@ -1,4 +1,5 @@
-//! Worked examples of the crates below `acc_clauses`.
+//! Calls of the crates below `acc_clauses` that no other crate makes. Their clauses say what each returns, or that memory
+//! is refused; here they succeed.
 
 ghost use Rattle.std.specs.Prelude.{◌<◌, ◌^◌};
 
@@ -7,52 +8,24 @@ use crate::tests::turns::section;
 use acc_attach::{Attached, Left};
 use acc_base::{Aim, Fault, Found, Transfer};
 use acc_dev::Device;
-use acc_lend::Cuts;
+use acc_placement::Holes;
 use acc_present::Present;
 use acc_queues::Queues;
 use std::process::Abort;
 use std::test::Fail;
 
-fn check_even_cuts(rt: &(impl Abort + AllocGlobal)) -> Result<(), Fault> {
-    let cuts = Cuts::even(rt.alloc(), 5, 4)?;
-    same(
-        rt,
-        cuts.lengths(),
-        [2, 2, 1].as_slice(),
-        "five in four parts",
-    );
-    Ok(())
-}
-
-fn check_cuts(rt: &(impl Abort + AllocGlobal)) -> Result<(), Fault> {
-    let cuts = Cuts::new(vec![in rt.alloc(); 2, 3]?)?;
-    same(
-        rt,
-        (cuts.total(), cuts.count()),
-        (5, 2),
-        "parts of two and three",
-    );
-    Ok(())
-}
-
-fn check_bad_cuts(rt: &(impl Abort + AllocGlobal)) {
-    let bad = Some(Fault::BadCuts);
-    for (len, parts) in [(5, 65), (0, 1)] {
-        same(
-            rt,
-            Cuts::even(rt.alloc(), len, parts).err(),
-            bad,
-            (len, parts),
-        );
-    }
-    same(rt, Cuts::new(Vec::new(rt.alloc())).err(), bad, "no part");
+/// Takes all of 64 bytes, in ranges of 16, and more.
+fn check_taken(rt: &impl Abort, holes: &mut Holes) {
+    let found = [holes.take(16), holes.take(1), holes.take(32), holes.take(1)];
+    let full = Fault::DeviceFull { item: 0, need: 16 };
+    let wanted = [Ok(0), Ok(16), Ok(32), Err(full)];
+    same(rt, found, wanted, "four needs");
 }
 
 #[test]
-fn a_loan_is_cut_into_parts(rt: HostRuntime) -> Result<(), Fail> {
-    check_even_cuts(&rt)?;
-    check_cuts(&rt)?;
-    check_bad_cuts(&rt);
+fn a_range_takes_the_first_hole_that_is_large_enough(rt: HostRuntime) -> Result<(), Fail> {
+    let mut holes = Holes::new(rt.alloc(), 0, 64)?;
+    check_taken(&rt, &mut holes);
     Ok(())
 }
 
@@ -77,22 +50,7 @@ fn a_new_block_is_filled(rt: HostRuntime) -> Result<(), Fail> {
     Ok(())
 }
 
-/// Sections, and where they lie where 16 bytes from 0x1000 on are mapped to block 1.
-const FOUND: [(u64, u64, Found); 4] = [
-    (
-        0x100f,
-        1,
-        Found::Inside {
-            block: 1,
-            offset: 15,
-        },
-    ),
-    (0x100f, 2, Found::Partly),
-    (0x1010, 1, Found::Absent),
-    (0x1004, 0, Found::Empty),
-];
-
-/// A table of that range and of one region.
+/// A table of one region, where 16 bytes from 0x1000 on are mapped to block 1.
 fn present(rt: &(impl Abort + AllocGlobal)) -> Result<Present, Fault> {
     let array = section((0x1000, 16));
     let mut present = Present::new(rt.alloc(), 2);
@@ -102,52 +60,45 @@ fn present(rt: &(impl Abort + AllocGlobal)) -> Result<Present, Fault> {
     Ok(present)
 }
 
-fn check_sections(rt: &impl Abort, present: &Present) {
-    for (start, len, wanted) in FOUND {
-        let found = present.find(section((start, len)));
-        same(rt, found, wanted, (start, len));
-    }
-}
-
-fn check_region(rt: &(impl Abort + AllocGlobal), present: &Present) -> Result<(), Fault> {
-    let copied = present.copy_regions(rt.alloc())?.len();
-    same(rt, (present.regions(), copied), (1, 1), "regions");
-    Ok(())
+fn check_present(rt: &impl Abort, present: &Present) {
+    let (block, offset) = (1, 15);
+    let inside = Found::Inside { block, offset };
+    same(
+        rt,
+        present.find(section((0x100f, 1))),
+        inside,
+        "the last byte",
+    );
+    same(rt, present.regions(), 1, "regions");
 }
 
 #[test]
 fn a_section_is_found_and_a_region_is_open(rt: HostRuntime) -> Result<(), Fail> {
     let present = present(&rt)?;
-    check_sections(&rt, &present);
-    check_region(&rt, &present)?;
+    check_present(&rt, &present);
     Ok(())
 }
 
-/// A pointer of block 1, and the device address that it is aimed at.
-const POINTER: u64 = 0x1008;
-
-const TARGET: u64 = 0x1_0000_0040;
-
-/// Attaches the pointer where the device holds an address of it.
-fn attach(attached: &mut Attached, now: u64) -> Result<Aim, Fault> {
-    attached.attach(1, POINTER, TARGET, now)
-}
-
-/// Attaches the pointer twice, and detaches it twice.
+/// Attaches a pointer of block 1 twice, and detaches it at once.
 fn check_pointer(rt: &impl Abort, attached: &mut Attached) {
+    let (pointer, block, target) = (0x1008, 1, 0x1_0000_0040);
     let new = Aim::New {
-        pointer: POINTER,
-        block: 1,
-        target: TARGET,
+        pointer,
+        block,
+        target,
     };
-    let again = Aim::Again {
-        pointer: POINTER,
-        block: 1,
-    };
-    same(rt, attach(attached, 0x2000), Ok(new), "a new pointer");
-    same(rt, attach(attached, TARGET), Ok(again), "an attached one");
-    same(rt, attached.detach_now(1, POINTER), Left::Zero, "at once");
-    same(rt, attached.detach_now(1, POINTER), Left::Nothing, "again");
+    let found = [
+        attached.attach(block, pointer, target, 0x2000),
+        attached.attach(block, pointer, target, target),
+    ];
+    let wanted = [Ok(new), Ok(Aim::Again { pointer, block })];
+    same(rt, found, wanted, "attached");
+    same(
+        rt,
+        attached.detach_now(block, pointer),
+        Left::Zero,
+        "detached",
+    );
 }
 
 #[test]
@@ -163,13 +114,8 @@ fn check_queues(rt: &impl Abort, queues: &mut Queues) {
         section: section((0x1000, 8)),
         out: false,
     };
-    same(
-        rt,
-        queues.put(16, transfer),
-        Err(Fault::NoQueue { q: 16 }),
-        16,
-    );
-    same(rt, queues.put(3, transfer), Ok(()), 3);
+    let found = [queues.put(16, transfer), queues.put(3, transfer)];
+    same(rt, found, [Err(Fault::NoQueue { q: 16 }), Ok(())], "puts");
     same(rt, queues.len(3), 1, "queue 3");
 }
 

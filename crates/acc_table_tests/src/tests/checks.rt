@@ -21,6 +21,11 @@ fn counted(table: &Table, device: u64, at: At) -> Option<(u64, u64)> {
     Some((structured, dynamic))
 }
 
+/// How many ranges the base of a table has on the first device.
+fn ranges_in(table: &Table) -> Option<usize> {
+    Some(table.base().devices().first()?.ranges().len())
+}
+
 /// Whether a table answers a query, of a device where it is asked of one, as the row says.
 pub fn holds(table: &Table, device: u64, check: Check) -> bool {
     match check {
@@ -32,5 +37,6 @@ pub fn holds(table: &Table, device: u64, check: Check) -> bool {
         Check::Queue(q, wanted) => table.queue_len(device, q) == wanted,
         Check::Used(wanted) => table.used(device) == wanted,
         Check::Events(wanted) => table.events() == wanted,
+        Check::Ranges(wanted) => ranges_in(table) == Some(wanted),
     }
 }

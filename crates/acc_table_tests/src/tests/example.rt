@@ -1,33 +1,34 @@
 //! An example of a table.
 
+use crate::tests::same;
 use acc_base::{Config, Directive, EnterClause, Fault, HOST_BASE, Item, List, Section};
 use acc_table::{Call, Table, abandon};
 use std::alloc::Global;
 use std::process::Abort;
 use std::test::Fail;
 
-/// A table of 65,536 bytes of host memory and as many of the device, in a box, since a test that owns an unboxed one
-/// takes long to check.
-fn boxed_table(alloc: Global) -> Result<Box<Table>, Fault> {
-    let config = Config::new(65_536, 65_536, 64, 1_048_576, 4_294_967_295, 256, 262_144)?;
+/// A new table, in a box, since a test that owns an unboxed one takes long to check.
+pub fn boxed_table(alloc: Global, config: Config) -> Result<Box<Table>, Fault> {
     Ok(Box::new(alloc, Table::new(alloc, config)?)?)
 }
 
+/// A table of 65,536 bytes of host memory and as many of the device.
+fn small_table(alloc: Global) -> Result<Box<Table>, Fault> {
+    let config = Config::new(65_536, 65_536, 64, 1_048_576, 4_294_967_295, 256, 262_144)?;
+    boxed_table(alloc, config)
+}
+
 /// Maps the first 20 bytes of host memory, and returns how many bytes of the device are in use then.
-fn map_one_array(table: &mut Table, alloc: Global) -> Result<u64, Fault> {
-    let section = Section {
-        start: HOST_BASE,
-        len: 20,
-    };
-    let clause = EnterClause::Copyin;
-    let items = List::from_vec(vec![in alloc;
-        Item {
-            clause,
-            section,
-            pointer: None
+fn map_one_array(table: &mut Table) -> Result<u64, Fault> {
+    let item = Item {
+        clause: EnterClause::Copyin,
+        section: Section {
+            start: HOST_BASE,
+            len: 20,
         },
-    ]?);
-    let (device, queue) = (0, None);
+        pointer: None,
+    };
+    let (device, items, queue) = (0, List::one(item), None);
     match table.apply(Call::Do(Directive::EnterData {
         device,
         items,
@@ -45,13 +46,13 @@ fn map_one_array(table: &mut Table, alloc: Global) -> Result<u64, Fault> {
 }
 
 /// Mapping the array takes so many bytes of the device.
-fn takes(rt: &(impl Abort + AllocGlobal), table: &mut Table, used: u64) -> Result<(), Fail> {
-    assert_eq!(rt; map_one_array(table, rt.alloc())?, used);
-    Ok(())
+fn takes(rt: &impl Abort, table: &mut Table, used: u64) {
+    same(rt, map_one_array(table), Ok(used), "an array of 20 bytes");
 }
 
 #[test]
 fn an_array_of_20_bytes_takes_32(rt: HostRuntime) -> Result<(), Fail> {
-    let mut table = boxed_table(rt.alloc())?;
-    takes(&rt, &mut table, 32)
+    let mut table = small_table(rt.alloc())?;
+    takes(&rt, &mut table, 32);
+    Ok(())
 }

@@ -82,6 +82,8 @@ pub enum Check {
     Used(u64),
     /// How many events there are in all.
     Events(u64),
+    /// How many ranges the base has on device 0.
+    Ranges(usize),
 }
 
 /// A line of a row.
@@ -103,6 +105,8 @@ pub enum Line {
     Says(Check),
     /// What follows is for the device of this number, where it is for one. At first it is for device 0.
     On(u64),
+    /// So many directives map 64 ranges of 16 bytes each, side by side from the first host address on.
+    Maps(u64),
     /// A rebase folds so many events.
     Rebases(u64),
     /// A kernel adds a number to each byte that the lease of this serial number lends.

@@ -1,54 +1,54 @@
 //! Leases of a row: kernels work on them, and they are brought back. One that the table did not make is brought too.
 
 use crate::tests::language::Loan;
-use crate::tests::playing::{Play, refusal};
+use crate::tests::playing::refusal;
+use crate::tests::turns::NO_CALL;
 use acc_base::{Fault, MEMORY_MAX};
 use acc_lend::{Add, run_one};
-use acc_table::{Call, Lease};
-use std::alloc::AllocError;
-use std::process::Abort;
+use acc_table::{Call, Lease, Table};
+use std::alloc::Global;
 
 /// The place of the lease of a serial number.
 fn place_of(leases: &[Lease], serial: u64) -> Option<usize> {
     leases.iter().position(|lease| lease.serial() == serial)
 }
 
-/// A kernel adds a number to each byte that a lease lends.
-pub fn adds(rt: &impl Abort, play: &mut Play, serial: u64, number: u8) {
-    match place_of(&play.leases, serial) {
-        Some(at) if at < play.leases.len() => run_one(&mut play.leases[at], &Add(number), &[]),
-        _ => panic!(rt; "{}: no lease {serial} is out", play.row.name),
+/// A kernel adds a number to each byte that a lease lends. Whether the lease is out.
+pub fn adds(leases: &mut [Lease], serial: u64, number: u8) -> bool {
+    match place_of(leases, serial) {
+        Some(at) if at < leases.len() => {
+            run_one(&mut leases[at], &Add(number), &[]);
+            true
+        }
+        _ => false,
     }
 }
 
-/// Brings the lease of a serial number back, and returns what that is refused for.
-pub fn gathers(rt: &impl Abort, play: &mut Play, serial: u64) -> Option<Fault> {
-    match place_of(&play.leases, serial) {
-        Some(at) if at < play.leases.len() => {
-            let lease = play.leases.remove(at);
-            refusal(&mut play.table, Call::Gather(lease))
+/// Brings the lease of a serial number back. Whether it is out, and taken.
+pub fn gathers(table: &mut Table, leases: &mut Vec<Lease>, serial: u64) -> bool {
+    match place_of(leases, serial) {
+        Some(at) if at < leases.len() => {
+            let lease = leases.remove(at);
+            refusal(table, Call::Gather(lease)).is_none()
         }
-        _ => panic!(rt; "{}: no lease {serial} is out", play.row.name),
+        _ => false,
     }
 }
 
 /// Brings a lease that says to be of a loan, and returns what that is refused for.
 pub fn brings(
-    rt: &(impl Abort + AllocGlobal),
-    play: &mut Play,
+    alloc: Global,
+    table: &mut Table,
     loan: Loan,
     bytes: &[u8],
-) -> Result<Option<Fault>, AllocError> {
-    let bytes = Vec::from_slice(rt.alloc(), bytes)?;
-    assert!(rt; bytes.len() <= MEMORY_MAX as usize && loan.offset <= bytes.len());
-    assert!(rt; loan.len <= bytes.len() - loan.offset);
-    let lease = Lease::of(
-        loan.serial,
-        loan.block,
-        loan.offset,
-        loan.len,
-        bytes,
-        loan.device,
-    );
-    Ok(refusal(&mut play.table, Call::Gather(lease)))
+) -> Result<Option<Fault>, Fault> {
+    let (serial, block, device) = (loan.serial, loan.block, loan.device);
+    let (offset, len) = (loan.offset, loan.len);
+    let bytes = Vec::from_slice(alloc, bytes)?;
+    let most = bytes.len();
+    if most > MEMORY_MAX as usize || offset > most || len > most - offset {
+        return Err(NO_CALL);
+    }
+    let lease = Lease::of(serial, block, offset, len, bytes, device);
+    Ok(refusal(table, Call::Gather(lease)))
 }

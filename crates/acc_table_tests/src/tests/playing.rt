@@ -6,33 +6,32 @@ ghost use Rattle.std.specs.Prelude.{◌<◌, vec_len, vec_capacity};
 use crate::tests::checks::holds;
 use crate::tests::language::{Ask, Line, Row};
 use crate::tests::leasing::{adds, brings, gathers};
+use crate::tests::million::maps;
+use crate::tests::same;
 use crate::tests::turns::{call_of, table_of, turn_of, two_arrays};
 use acc_base::Fault;
 use acc_read::Arrays;
 use acc_table::{Answer, Call, Lease, Reply, Table, Turn, abandon, abandon_all};
 use std::alloc::Global;
-use std::fmt::Debug;
 use std::process::Abort;
 
 /// A row that is played.
-pub struct Play {
-    pub row: &'static Row,
-    /// The number of the line that is played, counted from 1.
-    pub line: usize,
-    pub arrays: Arrays,
+struct Play {
+    /// Its name, and the number of the line that is played, counted from 1.
+    place: (&'static str, usize),
+    arrays: Arrays,
     /// The table on which the lines are played.
-    pub table: Box<Table>,
+    table: Box<Table>,
     /// The leases that are out.
-    pub leases: Vec<Lease>,
+    leases: Vec<Lease>,
     /// The device that calls and queries are for.
-    pub device: u64,
+    device: u64,
 }
 
 impl Play {
-    fn new(alloc: Global, row: &'static Row) -> Result<Play, Fault> {
+    fn new(alloc: Global, row: &Row) -> Result<Play, Fault> {
         Ok(Play {
-            row,
-            line: 0,
+            place: (row.name, 0),
             arrays: two_arrays(alloc)?,
             table: table_of(alloc, row.limits)?,
             leases: Vec::new(alloc),
@@ -43,8 +42,7 @@ impl Play {
     /// Abandons the leases that are out at the end.
     fn end(self) {
         let Play {
-            row: _,
-            line: _,
+            place: _,
             arrays: _,
             table: _,
             leases,
@@ -52,11 +50,6 @@ impl Play {
         } = self;
         abandon_all(leases);
     }
-}
-
-/// Ends the test where what was found is not what the line says.
-fn same<T: PartialEq + Debug + Copy>(rt: &impl Abort, play: &Play, found: T, wanted: T) {
-    assert_eq!(rt; found, wanted, "{}: line {}", play.row.name, play.line);
 }
 
 /// Makes a call, and once more where a growth is refused for it.
@@ -108,12 +101,9 @@ fn answer_of(reply: Reply, leases: &mut Vec<Lease>) -> Answer
 }
 
 /// Makes the call of a line, and returns what the answer to a turn would be.
-fn make(rt: &(impl Abort + AllocGlobal), play: &mut Play, ask: Ask) -> Result<Answer, Fault> {
+fn make(alloc: Global, play: &mut Play, ask: Ask) -> Result<Answer, Fault> {
     play.leases.reserve(1)?;
-    let turn = turn_of(rt.alloc(), &play.arrays, play.device, ask)?;
-    let Some(call) = call_of(turn) else {
-        panic!(rt; "{}: no call in line {}", play.row.name, play.line)
-    };
+    let call = call_of(turn_of(alloc, &play.arrays, play.device, ask)?)?;
     match apply(&mut play.table, call) {
         Ok(reply) => Ok(answer_of(reply, &mut play.leases)),
         Err((call, fault)) => {
@@ -146,73 +136,81 @@ fn turns_of(alloc: Global, play: &Play, lines: &[Line]) -> Result<Vec<Turn>, Fau
     Ok(turns)
 }
 
-/// Makes the calls of some lines as a list of turns, and compares the answers.
-fn run(rt: &(impl Abort + AllocGlobal), play: &mut Play, lines: &[Line]) -> Result<(), Fault> {
-    let turns = turns_of(rt.alloc(), play, lines)?;
+/// Makes the calls of some lines as a list of turns. Whether the answers are as the lines say.
+fn run(alloc: Global, play: &mut Play, lines: &[Line]) -> Result<bool, Fault> {
+    let turns = turns_of(alloc, play, lines)?;
     let answers = play.table.run(turns, &mut play.leases)?;
-    same(rt, play, answers.len(), lines.len());
-    if answers.contains(&Answer::Refused(Fault::Memory)) {
-        return Err(Fault::Memory);
-    }
-    for (&answer, &line) in answers.iter().zip(lines) {
-        same(rt, play, Some(answer), asked(line).map(|asked| asked.1));
-    }
-    Ok(())
+    are_said(answers.as_slice(), lines)
 }
 
-/// Plays a line that asks for no single call.
-fn play_other(rt: &(impl Abort + AllocGlobal), play: &mut Play, line: Line) -> Result<(), Fault> {
-    match line {
-        Line::Runs(lines) => run(rt, play, lines)?,
-        Line::Says(check) => same(rt, play, holds(&play.table, play.device, check), true),
-        Line::On(device) => play.device = device,
-        Line::Rebases(wanted) => {
-            let found = rebase(&mut play.table);
-            same(rt, play, found, Ok(wanted));
+fn are_said(answers: &[Answer], lines: &[Line]) -> Result<bool, Fault> {
+    let mut is_so = answers.len() == lines.len();
+    for (&answer, &line) in answers.iter().zip(lines) {
+        if answer == Answer::Refused(Fault::Memory) {
+            return Err(Fault::Memory);
         }
-        Line::Adds(serial, number) => adds(rt, play, serial, number),
-        Line::Gathers(serial) => {
-            let found = gathers(rt, play, serial);
-            same(rt, play, found, None);
-        }
-        Line::Brings(loan, bytes, wanted) => {
-            let found = brings(rt, play, loan, bytes)?;
-            same(rt, play, found, wanted);
-        }
-        _ => {}
+        is_so &= Some(answer) == asked(line).map(|asked| asked.1);
     }
-    Ok(())
+    Ok(is_so)
+}
+
+/// Does what a line says that asks for no single call. Whether it comes out as the line says.
+fn is_so(alloc: Global, play: &mut Play, line: Line) -> Result<bool, Fault> {
+    match line {
+        Line::Runs(lines) => run(alloc, play, lines),
+        Line::Brings(loan, bytes, wanted) => {
+            Ok(brings(alloc, &mut play.table, loan, bytes)? == wanted)
+        }
+        Line::Maps(count) => Ok(maps(alloc, &mut play.table, count)?),
+        _ => Ok(is_done(play, line)),
+    }
+}
+
+/// The same of a line for which no memory is needed.
+fn is_done(play: &mut Play, line: Line) -> bool {
+    match line {
+        Line::Says(check) => holds(&play.table, play.device, check),
+        Line::Rebases(wanted) => rebase(&mut play.table) == Ok(wanted),
+        Line::Adds(serial, number) => adds(play.leases.as_mut_slice(), serial, number),
+        Line::Gathers(serial) => gathers(&mut play.table, &mut play.leases, serial),
+        Line::On(device) => {
+            play.device = device;
+            true
+        }
+        _ => false,
+    }
 }
 
 fn play_line(rt: &(impl Abort + AllocGlobal), play: &mut Play, line: Line) -> Result<(), Fault> {
     match asked(line) {
-        Some((ask, wanted)) => {
-            let found = make(rt, play, ask)?;
-            same(rt, play, found, wanted);
-            Ok(())
-        }
-        None => play_other(rt, play, line),
+        Some((ask, wanted)) => same(rt, make(rt.alloc(), play, ask)?, wanted, play.place),
+        None => same(rt, is_so(rt.alloc(), play, line)?, true, play.place),
     }
+    Ok(())
 }
 
-fn play_lines(rt: &(impl Abort + AllocGlobal), play: &mut Play) -> Result<(), Fault> {
-    for &line in play.row.lines {
-        play.line = play.line.saturating_add(1);
+fn play_lines(
+    rt: &(impl Abort + AllocGlobal),
+    play: &mut Play,
+    lines: &[Line],
+) -> Result<(), Fault> {
+    for &line in lines {
+        play.place.1 = play.place.1.saturating_add(1);
         play_line(rt, play, line)?;
     }
     Ok(())
 }
 
 /// Plays a row on a new table.
-fn play_once(rt: &(impl Abort + AllocGlobal), row: &'static Row) -> Result<(), Fault> {
+fn play_once(rt: &(impl Abort + AllocGlobal), row: &Row) -> Result<(), Fault> {
     let mut play = Play::new(rt.alloc(), row)?;
-    let outcome = play_lines(rt, &mut play);
+    let outcome = play_lines(rt, &mut play, row.lines);
     play.end();
     outcome
 }
 
 /// Plays a row, and once more where a growth is refused.
-pub fn play_row(rt: &(impl Abort + AllocGlobal), row: &'static Row) -> Result<(), Fault> {
+pub fn play_row(rt: &(impl Abort + AllocGlobal), row: &Row) -> Result<(), Fault> {
     match play_once(rt, row) {
         Err(Fault::Memory) => play_once(rt, row),
         outcome => outcome,

@@ -1,10 +1,17 @@
 //! The turns and calls that a row asks of a table, and the table.
 
+use crate::tests::example::boxed_table;
 use crate::tests::language::{Ask, At, Limits};
 use acc_base::{Config, Directive, Fault, List, ScriptFault, Section};
 use acc_read::{Arrays, Statement, Trouble, line_at};
 use acc_table::{Call, Table, Turn};
 use std::alloc::{AllocError, Global};
+
+/// A line that asks for no call.
+pub const NO_CALL: Fault = Fault::Script {
+    line: 0,
+    kind: ScriptFault::Syntax,
+};
 
 /// The section of a first host address and a length in bytes.
 pub fn section(at: At) -> Section {
@@ -38,10 +45,7 @@ fn said(alloc: Global, arrays: &Arrays, device: u64, text: &str) -> Result<Turn,
             Ok(Turn::HostWrite { addr, bytes })
         }
         Err(Trouble::Memory) => Err(Fault::Memory),
-        _ => Err(Fault::Script {
-            line: 0,
-            kind: ScriptFault::Syntax,
-        }),
+        _ => Err(NO_CALL),
     }
 }
 
@@ -55,19 +59,19 @@ pub fn turn_of(alloc: Global, arrays: &Arrays, device: u64, ask: Ask) -> Result<
             Ok(Turn::Lend { region, section })
         }
         Ask::Back(serial, listed) => {
-            let bytes = List::from_vec(Vec::from_slice(alloc, listed)?);
+            let bytes = List::from_slice(alloc, listed)?;
             Ok(Turn::Back { serial, bytes })
         }
     }
 }
 
 /// The call that a turn makes. One that brings a lease back makes none by itself.
-pub fn call_of(turn: Turn) -> Option<Call> {
+pub fn call_of(turn: Turn) -> Result<Call, Fault> {
     match turn {
-        Turn::Do(directive) => Some(Call::Do(directive)),
-        Turn::HostWrite { addr, bytes } => Some(Call::HostWrite { addr, bytes }),
-        Turn::Lend { region, section } => Some(Call::Lend { region, section }),
-        Turn::Back { .. } => None,
+        Turn::Do(directive) => Ok(Call::Do(directive)),
+        Turn::HostWrite { addr, bytes } => Ok(Call::HostWrite { addr, bytes }),
+        Turn::Lend { region, section } => Ok(Call::Lend { region, section }),
+        Turn::Back { .. } => Err(NO_CALL),
     }
 }
 
@@ -90,7 +94,7 @@ fn config_of(limits: Limits) -> Result<Config, Fault> {
     })
 }
 
-/// A new table within limits. It is boxed, since a test that owns an unboxed one takes long to check.
+/// A new table within limits.
 pub fn table_of(alloc: Global, limits: Limits) -> Result<Box<Table>, Fault> {
-    Ok(Box::new(alloc, Table::new(alloc, config_of(limits)?)?)?)
+    boxed_table(alloc, config_of(limits)?)
 }

@@ -3,21 +3,19 @@
 use crate::emitters::Emitter;
 use crate::languages::Language;
 use crate::marks::Marks;
+use crate::pieces::Piece;
 use crate::pointers::{POINTER_LEN, bytes_at, is_attached, pointer_section};
 use crate::sheets::Sheet;
 use crate::twins::DEVICE;
-use crate::wanted::put_literal;
 use acc_base::{HOST_BASE, Section};
 use acc_table::Table;
-use std::fmt::Write;
 
 /// How many expected bytes stand on one line of the program.
 const BYTES_ON_LINE: u64 = 32;
 
 /// Emits a question for the bytes of a section, in host memory or on the device, and for its pointers.
-pub fn emit_bytes(emitter: &mut Emitter<'_>, section: Section, on_device: bool) {
+pub fn emit_bytes(emitter: &mut Emitter<'_>, own: &Table, section: Section, on_device: bool) {
     let Emitter {
-        own,
         twin,
         marks,
         sheet,
@@ -25,18 +23,23 @@ pub fn emit_bytes(emitter: &mut Emitter<'_>, section: Section, on_device: bool) 
         ..
     } = emitter;
     let question = if on_device { "peek" } else { "show" };
-    start_question(sheet, question, section);
     sheet.need(section.len);
-    let bytes = bytes_at(&own.table, section, on_device);
+    let bytes = bytes_at(own, section, on_device);
     let others = bytes_at(&twin.table, section, on_device);
     let (Some(bytes), Some(others)) = (bytes, others) else {
-        return put_answer(sheet, wanted.line.unwrap_or(b"none"));
+        return sheet.ask(question, section, wanted.line.unwrap_or(b"none"));
     };
     match wanted.line {
-        Some(line) if !is_of_bytes(line, section.len) => put_answer(sheet, line),
+        Some(line) if !is_of_bytes(line, section.len) => sheet.ask(question, section, line),
         line => {
+            let pieces = [
+                Piece::Text(question),
+                Piece::Number(sheet.line),
+                Piece::Argument(section),
+            ];
+            sheet.line("%(%, %", "call %(%, %", &pieces);
             put_bytes(sheet, marks, section, bytes, others, line);
-            put_pointers(sheet, marks, &own.table, section, on_device);
+            put_pointers(sheet, marks, own, section, on_device);
         }
     }
 }
@@ -48,24 +51,14 @@ fn is_of_bytes(line: &[u8], count: u64) -> bool {
 }
 
 /// Emits a question for the presence of a section.
-pub fn emit_present(emitter: &mut Emitter<'_>, section: Section) {
-    let is_present = emitter.own.table.is_present(DEVICE, section);
-    let word: &[u8] = if is_present { b"yes" } else { b"no" };
-    let Emitter { sheet, wanted, .. } = emitter;
-    start_question(sheet, "present", section);
-    put_answer(sheet, wanted.line.unwrap_or(word));
-}
-
-/// Puts the line that has to come, and ends the question.
-fn put_answer(sheet: &mut Sheet, line: &[u8]) {
-    sheet.body.text(", \"");
-    put_literal(sheet, line);
-    end_answer(sheet);
-}
-
-fn end_answer(sheet: &mut Sheet) {
-    sheet.body.text("\"");
-    sheet.end_call();
+pub fn emit_present(emitter: &mut Emitter<'_>, own: &Table, section: Section) {
+    let word: &[u8] = if own.is_present(DEVICE, section) {
+        b"yes"
+    } else {
+        b"no"
+    };
+    let answer = emitter.wanted.line.unwrap_or(word);
+    emitter.sheet.ask("present", section, answer);
 }
 
 /// Puts the bytes that have to come, and that the twin has too: those of the line that is given, if one is. A byte that is
@@ -82,34 +75,28 @@ fn put_bytes(
         let from = at.saturating_mul(2);
         let digits = line.and_then(|line| line.get(from..from.saturating_add(2)));
         let at = at as u64;
-        if at % BYTES_ON_LINE == 0 {
-            put_break(sheet, at == 0);
-        }
-        if *byte != *other || marks.is_open(section.start.saturating_add(at)) {
-            sheet.body.text("??");
-        } else if let Some(digits) = digits {
-            put_literal(sheet, digits);
-        } else {
-            sheet.body.digits(&[*byte]);
-        }
+        let is_open = *byte != *other || marks.is_open(section.start.saturating_add(at));
+        put_break(sheet, at);
+        let piece = match digits {
+            _ if is_open => Piece::Text("??"),
+            Some(digits) => Piece::Literal(digits),
+            None => Piece::Digits(*byte),
+        };
+        sheet.put("%", &[piece]);
     }
-    end_answer(sheet);
+    sheet.pick("\");\n", "\")\n", &[]);
 }
 
-fn put_break(sheet: &mut Sheet, is_first: bool) {
-    let (c, fortran) = if is_first {
-        (",\n", ", &\n")
-    } else {
-        ("\"\n", "\" // &\n")
-    };
-    sheet.body.text(sheet.language.pick(c, fortran));
-    sheet.start("    \"");
-}
-
-fn start_question(sheet: &mut Sheet, call: &str, section: Section) {
-    sheet.start_question(call);
-    sheet.body.text(", ");
-    sheet.put_argument(section);
+/// Begins a line of expected bytes where the one at a place is the first on it.
+fn put_break(sheet: &mut Sheet, at: u64) {
+    if at % BYTES_ON_LINE == 0 {
+        if at == 0 {
+            sheet.pick(",\n", ", &\n", &[]);
+        } else {
+            sheet.pick("\"\n", "\" // &\n", &[]);
+        }
+        sheet.line("    \"", "    \"", &[]);
+    }
 }
 
 /// Puts a question for each pointer of a section whose target is known.
@@ -134,66 +121,58 @@ fn put_pointers(
 
 /// Puts a question for a pointer. Attached it holds the device address of its target, and else the host address.
 fn put_pointer(sheet: &mut Sheet, place: u64, on_device: bool, target: u64, is_attached: bool) {
-    let (show, peek) = ("show_pointer", "peek_pointer");
-    sheet.start_question(if on_device { peek } else { show });
-    sheet.body.text(", ");
-    sheet.put_start(pointer_section(place));
-    let address = if is_attached {
-        "acc_deviceptr"
-    } else {
-        sheet.language.pick("(void *)", "c_loc")
-    };
-    let _ = write!(sheet.body, ", {address}(");
-    sheet.put_byte(target);
-    sheet.body.text(")");
-    sheet.end_call();
+    let pieces = [
+        Piece::Text(if on_device { "peek" } else { "show" }),
+        Piece::Number(sheet.line),
+        Piece::Start(pointer_section(place)),
+        Piece::Text(if is_attached {
+            "acc_deviceptr"
+        } else {
+            sheet.language.pick("(void *)", "c_loc")
+        }),
+        Piece::Byte(target),
+    ];
+    sheet.call("%_pointer(%, %, %(%))", &pieces);
 }
 
 /// Emits a report: a comment with what the table says, and questions for each array and each mapped range.
-pub fn emit_report(emitter: &mut Emitter<'_>, report: &[u8]) {
+pub fn emit_report(emitter: &mut Emitter<'_>, own: &Table, report: &[u8]) {
     put_comment(&mut emitter.sheet, report);
-    for nth in 0..emitter.own.table.config().host() / 16 {
+    for nth in 0..own.config().host() / 16 {
         let address = HOST_BASE.saturating_add(nth.saturating_mul(16));
         let Some(spot) = emitter.sheet.names.spot(address) else {
             break;
         };
         let whole = spot.array.whole();
         if whole.start == address {
-            emit_present(emitter, whole);
-            emit_bytes(emitter, whole, false);
+            emit_present(emitter, own, whole);
+            emit_bytes(emitter, own, whole, false);
         }
     }
-    emit_ranges(emitter);
+    emit_ranges(emitter, own);
 }
 
 /// Emits a question for the bytes of each mapped range on the device.
-fn emit_ranges(emitter: &mut Emitter<'_>) {
+fn emit_ranges(emitter: &mut Emitter<'_>, own: &Table) {
     let mut from = HOST_BASE;
-    for _ in 0..emitter.own.table.config().host() {
-        let Some(range) = emitter.own.table.mapped(DEVICE, from) else {
+    for _ in 0..own.config().host() {
+        let Some(range) = own.mapped(DEVICE, from) else {
             break;
         };
-        let section = Section {
-            start: range.start,
-            len: range.len,
-        };
-        emit_bytes(emitter, section, true);
-        from = section.start.saturating_add(section.len);
+        let (start, len) = (range.start, range.len);
+        emit_bytes(emitter, own, Section { start, len }, true);
+        from = start.saturating_add(len);
     }
 }
 
 /// Puts what no OpenACC program can see, as a comment with what the table says.
 pub fn put_comment(sheet: &mut Sheet, text: &[u8]) {
-    sheet.start_remark();
-    sheet
-        .body
-        .text("no program can see this; the table says:\n");
+    let head = [Piece::Text("no program can see this; the table says:")];
+    sheet.line("/* %\n", "! %\n", &head);
     for line in text.trim_ascii_end().split(|byte| *byte == b'\n') {
-        sheet.start(sheet.language.pick("     ", "!    "));
-        sheet.body.bytes(line);
-        sheet.body.text("\n");
+        sheet.line("     %\n", "!    %\n", &[Piece::Bytes(line)]);
     }
     if sheet.language == Language::C {
-        sheet.start("*/\n");
+        sheet.line("*/\n", "", &[]);
     }
 }

@@ -1,11 +1,11 @@
 //! Directives with data clauses.
 
 use crate::items::{Written, fit_one_directive};
+use crate::pieces::Piece;
 use crate::pointers::pointer_section;
 use crate::sheets::Sheet;
-use acc_base::{Did, Directive, Fault};
+use acc_base::{Did, Directive, Section};
 use std::alloc::Global;
-use std::fmt::Write;
 
 /// A directive without its items: what stands before them, and behind them.
 #[derive(Clone, Copy)]
@@ -20,39 +20,8 @@ pub struct DirectiveFrame {
     pub opens: bool,
 }
 
-/// A directive with data clauses.
-#[derive(Drop)]
-pub struct WrittenDirective {
-    /// What stands before its items, and behind them.
-    pub frame: DirectiveFrame,
-    /// Its items.
-    pub items: Vec<Written>,
-}
-
-/// Returns a directive with what each of its items did, as far as that is known; `None` where it has no data clause.
-///
-/// # Errors
-///
-/// [`Fault::Memory`] alone.
-pub fn written_directive(
-    alloc: Global,
-    directive: &Directive,
-    did: &[Did],
-) -> Result<Option<WrittenDirective>, Fault> {
-    let Some(frame) = frame_of(directive) else {
-        return Ok(None);
-    };
-    let mut items = Vec::new(alloc);
-    for place in 0..directive.item_count() {
-        if let Some(task) = directive.task(place) {
-            let did = did.get(place).copied().unwrap_or_default();
-            items.push(Written::new(task, did))?;
-        }
-    }
-    Ok(Some(WrittenDirective { frame, items }))
-}
-
-fn frame_of(directive: &Directive) -> Option<DirectiveFrame> {
+/// Returns the frame of a directive; `None` where it has no data clause.
+pub fn frame_of(directive: &Directive) -> Option<DirectiveFrame> {
     let detach = "acc_detach";
     let detach_finalize = "acc_detach_finalize";
     let (head, option, detach) = match directive {
@@ -77,6 +46,23 @@ fn frame_of(directive: &Directive) -> Option<DirectiveFrame> {
         detach,
         opens,
     })
+}
+
+/// Returns the items of a directive with what each of them did, as far as that is known.
+pub fn written_items(
+    alloc: Global,
+    sheet: &mut Sheet,
+    directive: &Directive,
+    did: &[Did],
+) -> Vec<Written> {
+    let mut items = Vec::new(alloc);
+    for place in 0..directive.item_count() {
+        if let Some(task) = directive.task(place) {
+            let did = did.get(place).copied().unwrap_or_default();
+            sheet.heed(items.push(Written::new(task, did)).is_ok());
+        }
+    }
+    items
 }
 
 /// Puts a directive, or one for each item where it needs that. Items act one after the other, so both do the same.
@@ -105,7 +91,9 @@ fn put_item(sheet: &mut Sheet, frame: DirectiveFrame, item: Written) {
         sheet.remark("the pointer stays as it is: no action");
     }
     put_opening(sheet, frame);
-    put_fill(sheet, item);
+    if item.zero && item.is_born() {
+        put_fill(sheet, item.section());
+    }
     if frame.detach.is_none() {
         put_call(sheet, "acc_attach", item.pointer());
     }
@@ -120,43 +108,39 @@ fn put_clause_alone(sheet: &mut Sheet, frame: DirectiveFrame, item: Written) {
         zero: false,
         ..item
     };
-    sheet.body.text("#if KNOWS_ZERO\n");
+    sheet.put("#if KNOWS_ZERO\n", &[]);
     put_clauses(sheet, frame, &[item]);
-    sheet.body.text("#else\n");
+    sheet.put("#else\n", &[]);
     put_clauses(sheet, frame, &[without_zero]);
-    sheet.body.text("#endif\n");
+    sheet.put("#endif\n", &[]);
 }
 
 /// Fills the new block of an item with the modifier `zero`, for a compiler that does not know it.
-fn put_fill(sheet: &mut Sheet, item: Written) {
-    if !item.zero || !item.is_born() {
-        return;
-    }
-    sheet.need(item.section().len);
-    sheet.body.text("#if !KNOWS_ZERO\n");
-    sheet.start_call("fill_with_zero");
-    sheet.put_argument(item.section());
-    sheet.end_call();
-    sheet.body.text("#endif\n");
+fn put_fill(sheet: &mut Sheet, section: Section) {
+    sheet.need(section.len);
+    sheet.put("#if !KNOWS_ZERO\n", &[]);
+    sheet.call("fill_with_zero(%)", &[Piece::Argument(section)]);
+    sheet.put("#endif\n", &[]);
 }
 
 fn put_clauses(sheet: &mut Sheet, frame: DirectiveFrame, items: &[Written]) {
-    sheet.start_directive();
-    sheet.body.text(frame.head);
+    sheet.line("#pragma acc %", "!$acc %", &[Piece::Text(frame.head)]);
     for item in items {
-        let modifier = if item.zero { "zero: " } else { "" };
-        let _ = write!(sheet.body, " {}({modifier}", item.task.word());
-        sheet.put_section(item.section());
-        sheet.body.text(")");
+        put_clause(sheet, *item);
     }
     // All items of a directive have its queue.
-    put_queue(
-        sheet,
-        " async",
-        items.first().and_then(|item| item.task.queue()),
+    if let Some(queue) = items.first().and_then(|item| item.task.queue()) {
+        sheet.put(" async(%)", &[Piece::Number(queue)]);
+    }
+    sheet.put("%\n", &[Piece::Text(frame.option)]);
+}
+
+fn put_clause(sheet: &mut Sheet, item: Written) {
+    let text = if item.zero { " %(zero: %)" } else { " %(%)" };
+    sheet.put(
+        text,
+        &[Piece::Text(item.task.word()), Piece::Part(item.section())],
     );
-    sheet.body.text(frame.option);
-    sheet.body.text("\n");
 }
 
 fn put_opening(sheet: &mut Sheet, frame: DirectiveFrame) {
@@ -165,28 +149,25 @@ fn put_opening(sheet: &mut Sheet, frame: DirectiveFrame) {
     }
 }
 
-fn put_queue(sheet: &mut Sheet, word: &str, queue: Option<u64>) {
-    if let Some(queue) = queue {
-        let _ = write!(sheet.body, "{word}({queue})");
-    }
-}
-
 /// Puts a `wait` for a queue, or for all (OpenACC 3.3, the wait directive).
 pub fn put_wait(sheet: &mut Sheet, queue: Option<u64>) {
-    sheet.start_directive();
-    sheet.body.text("wait");
-    put_queue(sheet, "", queue);
-    sheet.body.text("\n");
+    match queue {
+        Some(queue) => {
+            let queue = Piece::Number(queue);
+            sheet.line("#pragma acc wait(%)\n", "!$acc wait(%)\n", &[queue]);
+        }
+        None => sheet.line("#pragma acc wait\n", "!$acc wait\n", &[]),
+    }
 }
 
 /// Puts the call that attaches or detaches a pointer, if there is one.
 pub fn put_call(sheet: &mut Sheet, call: &str, pointer: Option<u64>) {
-    let Some(pointer) = pointer else {
-        return;
-    };
-    sheet.start_call(call);
-    sheet.pick("(void **)(", "");
-    sheet.put_start(pointer_section(pointer));
-    sheet.pick(")", "");
-    sheet.end_call();
+    if let Some(pointer) = pointer {
+        let start = Piece::Start(pointer_section(pointer));
+        sheet.line(
+            "%((void **)(%));\n",
+            "call %(%)\n",
+            &[Piece::Text(call), start],
+        );
+    }
 }

@@ -4,21 +4,20 @@ use crate::emitting::Origin;
 use crate::marks::Marks;
 use crate::regions::NestedRegion;
 use crate::sheets::Sheet;
-use crate::twins::{boxed_session, twin_of};
+use crate::twins::twin_of;
 use crate::wanted::Wanted;
 use acc_base::{Config, Fault, Section};
 use acc_script::Session;
-use std::sync::Wait;
-use std::thread::Threads;
+use std::alloc::Global;
 
 /// A script that is being emitted.
 #[derive(Drop)]
 pub struct Emitter<'a> {
+    /// The allocator.
+    pub alloc: Global,
     /// What the program is made of.
     pub origin: Origin<'a>,
-    /// The script's own table.
-    pub own: Box<Session>,
-    /// Its twin, whose bytes are others where nothing has filled them.
+    /// The twin of the script's own session, whose bytes are others where nothing has filled them.
     pub twin: Box<Session>,
     /// The bytes that are not compared.
     pub marks: Marks,
@@ -33,22 +32,20 @@ pub struct Emitter<'a> {
 }
 
 impl<'a> Emitter<'a> {
-    /// Returns new tables of these limits, and an empty program, in the language and with the output that are asked for.
+    /// Returns a new twin of a session of these limits, and an empty program, in the language and with the output that
+    /// are asked for.
     ///
     /// # Errors
     ///
     /// [`Fault::Memory`] alone.
-    pub fn new<R: Threads + Wait + Sync + AllocGlobal>(
-        rt: &R,
-        config: Config,
-        origin: Origin<'a>,
-    ) -> Result<Emitter<'a>, Fault> {
-        let alloc = rt.alloc();
+    pub fn new(alloc: Global, config: Config, origin: Origin<'a>) -> Result<Emitter<'a>, Fault> {
+        let marks = Marks::new(alloc, config.host())?;
+        let twin = twin_of(alloc, config)?;
         Ok(Emitter {
+            alloc,
             origin,
-            marks: Marks::new(alloc, config.host())?,
-            own: boxed_session(alloc, config)?,
-            twin: twin_of(rt, config)?,
+            twin,
+            marks,
             sheet: Sheet::new(alloc, origin.language),
             births: Vec::new(alloc),
             regions: Vec::new(alloc),

@@ -1,19 +1,20 @@
-//! Emits a script, line by line.
+//! Emits a script, line by line: a watcher of each line emits it behind its run.
 
 use crate::answers::{emit_bytes, emit_present, emit_report, put_comment};
 use crate::doing::emit_directive;
 use crate::emitters::Emitter;
 use crate::faults::{EmitFault, Reason};
 use crate::languages::Language;
+use crate::pieces::Piece;
+use crate::pointers::pointer_section;
 use crate::refusals::emit_refused;
 use crate::sheets::Sheet;
-use crate::twins::{DEVICE, follow_on_twin, read_on};
-use crate::writes::{declare, emit_kernel, emit_write};
+use crate::twins::{DEVICE, boxed_session, follow_on_twin, open_twin};
+use crate::writes::{declare, emit_kernel, emit_point, emit_write};
 use acc_base::{Config, Fault, ScriptFault, Section};
-use acc_read::{Page, Statement, next_line, statement_text};
-use acc_script::{Effect, MemorySink, write_effect};
-use std::alloc::Global;
-use std::fmt::Write;
+use acc_read::{Page, Statement, line_at, next_line, statement_text};
+use acc_script::{Effect, MemorySink, Session, Watcher, run_line};
+use acc_table::Table;
 use std::sync::Wait;
 use std::thread::Threads;
 
@@ -44,93 +45,100 @@ pub fn emit<R: Threads + Wait + Sync + AllocGlobal>(
     config: Config,
     origin: Origin<'_>,
 ) -> Result<Page, EmitFault> {
-    let mut emitter = Emitter::new(rt, config, origin)?;
-    emit_lines(rt, &mut emitter)?;
-    Ok(emitter.sheet.whole(rt.alloc(), origin.name, origin.script)?)
+    let mut own = boxed_session(rt.alloc(), config)?;
+    emit_on(rt, &mut own, origin)
+}
+
+/// Emits a script on its own table, which is new.
+fn emit_on<R: Threads + Wait + Sync + AllocGlobal>(
+    rt: &R,
+    own: &mut Session,
+    origin: Origin<'_>,
+) -> Result<Page, EmitFault> {
+    let mut emitter = Emitter::new(rt.alloc(), own.table.config(), origin)?;
+    open_twin(rt, &mut emitter);
+    emit_lines(rt, own, &mut emitter);
+    emitter.sheet.whole(rt.alloc(), origin.name, origin.script)
 }
 
 fn emit_lines<R: Threads + Wait + Sync + AllocGlobal>(
     rt: &R,
+    own: &mut Session,
     emitter: &mut Emitter<'_>,
-) -> Result<(), EmitFault> {
+) {
     let mut rest = emitter.origin.script;
     for _ in 0..rest.len() {
         if rest.is_empty() {
             break;
         }
         let (line, after) = next_line(rest);
-        emitter.sheet.line = emitter.sheet.line.saturating_add(1);
-        if emit_line(rt, emitter, line)? {
-            return Ok(());
+        if !emit_line(rt, own, emitter, line) {
+            return;
         }
         rest = after;
     }
-    end(emitter)
+    end(emitter, own.table.regions());
 }
 
-fn end(emitter: &mut Emitter<'_>) -> Result<(), EmitFault> {
-    let line = emitter.sheet.line.saturating_add(1);
-    emitter.sheet.line = line;
-    if emitter.own.table.regions() > 0 {
-        let kind = ScriptFault::Unclosed;
-        return Err(EmitFault::Run(Fault::Script { line, kind }));
-    }
-    if emitter.origin.until_refusal {
-        emitter.sheet.unfit(Reason::NothingRefused);
-    }
-    if emitter.wanted.goes_on() {
-        emitter.sheet.unfit(Reason::OutputGoesOn);
-    }
-    emitter.sheet.check()
-}
-
-/// Emits a line; returns whether it was refused, and so ends the program.
+/// Runs a line on the script's own table, whose watcher emits it, and then on the twin. False where it ended the program.
 fn emit_line<R: Threads + Wait + Sync + AllocGlobal>(
     rt: &R,
+    own: &mut Session,
     emitter: &mut Emitter<'_>,
     line: &[u8],
-) -> Result<bool, EmitFault> {
-    let effect = perform(rt, emitter, line)?;
-    let again = read_on(rt.alloc(), &emitter.twin, emitter.sheet.line, line)?;
-    emit_effect(rt.alloc(), emitter, line, &again, effect)?;
-    emitter.sheet.check()?;
-    if effect.is_refused() {
-        return Ok(true);
+) -> bool {
+    let number = emitter.sheet.line.saturating_add(1);
+    emitter.sheet.line = number;
+    let mut printed = MemorySink::new(rt.alloc());
+    match run_line(rt, number, own, line, &mut printed, emitter) {
+        Ok(true) => return false,
+        Ok(false) => follow_on_twin(rt, emitter, line),
+        Err(fault) => emitter.sheet.fail_run(fault),
     }
-    follow_on_twin(rt, emitter, again)?;
-    emitter.sheet.check()?;
-    Ok(false)
+    emitter.sheet.is_fit()
 }
 
-/// Does a line on the script's own table.
-fn perform<R: Threads + Wait + Sync + AllocGlobal>(
-    rt: &R,
-    emitter: &mut Emitter<'_>,
-    line: &[u8],
-) -> Result<Effect, Fault> {
-    let statement = read_on(rt.alloc(), &emitter.own, emitter.sheet.line, line)?;
-    emitter.own.perform(rt, statement)
+impl Watcher<MemorySink> for Emitter<'_> {
+    /// Emits a line that the script's own table did or refused, and the twin has yet to do. It is read once more, as the
+    /// twin has it.
+    fn after(
+        &mut self,
+        _number: u64,
+        line: &[u8],
+        session: &Session,
+        effect: Effect,
+        writer: &mut MemorySink,
+    ) {
+        let twin = &self.twin;
+        let innermost = twin.innermost();
+        match line_at(self.alloc, &twin.arrays, twin.device, innermost, line) {
+            Ok(statement) => {
+                put_statement(&mut self.sheet, line);
+                emit_effect(self, &session.table, &statement, effect, writer.as_slice());
+            }
+            // It has no fault, since the script's own session has read it.
+            Err(_) => self.sheet.fail_run(Fault::Memory),
+        }
+    }
 }
 
-/// Emits a statement of a line, which a script's own table did or refused, and its twin has yet to do.
-fn emit_effect(
-    alloc: Global,
-    emitter: &mut Emitter<'_>,
-    line: &[u8],
-    statement: &Statement<'_>,
-    effect: Effect,
-) -> Result<(), Fault> {
-    put_statement(&mut emitter.sheet, line);
-    let mut printed = MemorySink::new(alloc);
-    if !write_effect(&mut printed, emitter.sheet.line, &emitter.own.table, effect) {
-        return Err(Fault::Memory);
-    }
-    if !emitter.wanted.pass(printed.as_slice()) {
-        emitter.sheet.unfit(Reason::OutputEnds);
-    }
-    match effect {
-        Effect::Refused(fault) => emit_refused(alloc, emitter, statement, fault),
-        _ => emit_statement(alloc, emitter, statement, printed.as_slice()),
+/// Notes where a program cannot have the end of a script, of which no line was refused.
+fn end(emitter: &mut Emitter<'_>, open_regions: u64) {
+    let Emitter {
+        origin,
+        sheet,
+        wanted,
+        ..
+    } = emitter;
+    let line = sheet.line.saturating_add(1);
+    sheet.line = line;
+    if open_regions > 0 {
+        let kind = ScriptFault::Unclosed;
+        sheet.fail_run(Fault::Script { line, kind });
+    } else if origin.until_refusal {
+        sheet.unfit(Reason::NothingRefused);
+    } else if wanted.goes_on() {
+        sheet.unfit(Reason::OutputGoesOn);
     }
 }
 
@@ -138,49 +146,62 @@ fn emit_effect(
 fn put_statement(sheet: &mut Sheet, line: &[u8]) {
     let text = statement_text(line);
     if !text.is_empty() {
-        sheet.start_remark();
-        let _ = write!(sheet.body, "{}: ", sheet.line);
-        sheet.body.bytes(text);
-        sheet.end_remark();
+        let pieces = [Piece::Number(sheet.line), Piece::Bytes(text)];
+        sheet.line("/* %: % */\n", "! %: %\n", &pieces);
+    }
+}
+
+/// Emits a statement, and what it printed.
+fn emit_effect(
+    emitter: &mut Emitter<'_>,
+    own: &Table,
+    statement: &Statement<'_>,
+    effect: Effect,
+    printed: &[u8],
+) {
+    if !emitter.wanted.pass(printed) {
+        emitter.sheet.unfit(Reason::OutputEnds);
+    }
+    match effect {
+        Effect::Refused(fault) => emit_refused(emitter, own, statement, fault),
+        _ => emit_statement(emitter, own, statement, printed),
     }
 }
 
 /// Emits a statement that was done, and what it printed.
 fn emit_statement(
-    alloc: Global,
     emitter: &mut Emitter<'_>,
+    own: &Table,
     statement: &Statement<'_>,
     printed: &[u8],
-) -> Result<(), Fault> {
+) {
     match statement {
         Statement::Blank => {}
-        Statement::Declare { name, array } => declare(alloc, &mut emitter.sheet, name, *array)?,
-        Statement::Direct(directive) => emit_directive(alloc, emitter, directive)?,
+        Statement::Declare { name, array } => {
+            declare(emitter.alloc, &mut emitter.sheet, name, *array);
+        }
+        Statement::Direct(directive) => emit_directive(emitter, own, directive),
         Statement::Select(device) if *device == DEVICE => {}
         Statement::Select(_) => emitter.sheet.unfit(Reason::OtherDevice),
         Statement::Kernel {
             kernel,
             section,
             ..
-        } => emit_kernel(emitter, *kernel, *section),
+        } => emit_kernel(emitter, own, *kernel, *section),
         Statement::Write { addr, bytes } => {
             let start = *addr;
             let len = bytes.len() as u64;
-            emit_write(emitter, Section { start, len }, false)?;
+            emit_write(emitter, own, Section { start, len });
         }
-        Statement::Point { addr, .. } => {
-            let start = *addr;
-            emit_write(emitter, Section { start, len: 8 }, true)?;
-        }
+        Statement::Point { addr, .. } => emit_point(emitter, own, pointer_section(*addr)),
         Statement::Show(section) | Statement::Peek(section) | Statement::Present(section)
             if section.len == 0 => {
             emitter.sheet.remark("an empty section: nothing to compare");
         }
-        Statement::Show(section) => emit_bytes(emitter, *section, false),
-        Statement::Peek(section) => emit_bytes(emitter, *section, true),
-        Statement::Present(section) => emit_present(emitter, *section),
+        Statement::Show(section) => emit_bytes(emitter, own, *section, false),
+        Statement::Peek(section) => emit_bytes(emitter, own, *section, true),
+        Statement::Present(section) => emit_present(emitter, own, *section),
         Statement::Address(_) => put_comment(&mut emitter.sheet, printed),
-        Statement::Report => emit_report(emitter, printed),
+        Statement::Report => emit_report(emitter, own, printed),
     }
-    Ok(())
 }

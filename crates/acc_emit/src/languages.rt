@@ -30,4 +30,12 @@ impl Language {
             Language::Fortran => fortran,
         }
     }
+
+    /// Returns the end of so many places from 0 on, as it names that: their number, or the last of them.
+    pub(crate) fn end_of(self, count: u64) -> u64 {
+        match self {
+            Language::C => count,
+            Language::Fortran => count.saturating_sub(1),
+        }
+    }
 }

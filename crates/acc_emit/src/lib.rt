@@ -18,6 +18,7 @@ mod kernels;
 mod kits;
 mod languages;
 mod marks;
+mod pieces;
 mod pointers;
 mod refusals;
 mod regions;

@@ -155,6 +155,12 @@ impl Marks {
         Ok(())
     }
 
+    /// Forgets the copies of a queue, or of all queues, which a `wait` has made.
+    pub fn forget_waits(&mut self, queue: Option<u64>) {
+        self.waits
+            .retain(|copy| queue.is_some_and(|queue| queue != copy.queue));
+    }
+
     fn spoil(&mut self, section: Section) {
         for pointer in &mut self.pointers {
             if common(pointer_section(pointer.place), section).len > 0 {

@@ -1,42 +1,36 @@
 //! The statement that is refused, as the last one of a program.
 
-use crate::directives::written_directive;
-use crate::doing::put_all;
+use crate::doing::emit_items;
 use crate::emitters::Emitter;
 use crate::faults::Reason;
 use crate::kernels::put_kernel;
+use crate::pieces::Piece;
 use crate::sheets::Sheet;
 use acc_base::Fault;
 use acc_read::Statement;
-use std::alloc::Global;
-use std::fmt::Write;
+use acc_table::Table;
 
 /// Emits a statement that is refused, as the last one of the program. The command line has to ask for that, and OpenACC
 /// has to have the refusal too.
-///
-/// # Errors
-///
-/// [`Fault::Memory`] alone.
 pub fn emit_refused(
-    alloc: Global,
     emitter: &mut Emitter<'_>,
+    own: &Table,
     statement: &Statement<'_>,
     fault: Fault,
-) -> Result<(), Fault> {
+) {
     if !emitter.origin.until_refusal {
         emitter.sheet.unfit(Reason::Refused);
     } else if !is_of_openacc(fault) {
         emitter.sheet.unfit(Reason::Limit);
     }
-    emitter.sheet.start_call("expect_failure");
-    emitter.sheet.end_call();
-    put_refused(alloc, emitter, statement)?;
-    emitter.sheet.start_question("no_failure");
-    emitter.sheet.end_call();
-    for region in emitter.regions.iter().rev() {
-        region.close_blocks(&mut emitter.sheet);
+    emitter.sheet.call("expect_failure()", &[]);
+    put_refused(emitter, own, statement);
+    let line = emitter.sheet.line;
+    emitter.sheet.call("no_failure(%)", &[Piece::Number(line)]);
+    let Emitter { regions, sheet, .. } = emitter;
+    for region in regions.iter().rev() {
+        region.close_blocks(sheet);
     }
-    Ok(())
 }
 
 /// Whether a refusal is an error of OpenACC (OpenACC 3.3, sections 2.7 and 2.14.3). The others come from limits of the
@@ -49,37 +43,31 @@ fn is_of_openacc(fault: Fault) -> bool {
 }
 
 /// Puts the statement that is refused. Where it starts a region, it opens the blocks of that too.
-fn put_refused(
-    alloc: Global,
-    emitter: &mut Emitter<'_>,
-    statement: &Statement<'_>,
-) -> Result<(), Fault> {
+fn put_refused(emitter: &mut Emitter<'_>, own: &Table, statement: &Statement<'_>) {
     match statement {
-        Statement::Direct(directive) => match written_directive(alloc, directive, &[])? {
-            Some(written) => return put_all(emitter, written),
-            None => emitter.sheet.unfit(Reason::Limit),
-        },
+        Statement::Direct(directive) => {
+            if !emit_items(emitter, own, directive, &[]) {
+                emitter.sheet.unfit(Reason::Limit);
+            }
+        }
         Statement::Kernel {
             kernel,
             section,
             ..
         } => put_kernel(&mut emitter.sheet, *kernel, *section),
         Statement::Select(device) => {
-            let devices = emitter.own.table.config().devices();
-            put_absent_device(&mut emitter.sheet, device.saturating_sub(devices));
+            let behind = device.saturating_sub(own.config().devices());
+            put_absent_device(&mut emitter.sheet, behind);
         }
         _ => emitter.sheet.unfit(Reason::Limit),
     }
-    Ok(())
 }
 
 /// Puts the choice of a device that is not there on any machine (OpenACC 3.3, section 3.2.4): so many behind the first
 /// that is not.
 fn put_absent_device(sheet: &mut Sheet, behind: u64) {
-    sheet.start_call("acc_set_device_num");
-    let _ = write!(
-        sheet.body,
-        "acc_get_num_devices(acc_get_device_type()) + {behind}, acc_get_device_type()"
+    sheet.call(
+        "acc_set_device_num(acc_get_num_devices(acc_get_device_type()) + %, acc_get_device_type())",
+        &[Piece::Number(behind)],
     );
-    sheet.end_call();
 }

@@ -4,10 +4,11 @@ use crate::faults::{EmitFault, Reason};
 use crate::harness::IN_C;
 use crate::harness_in_fortran::IN_FORTRAN;
 use crate::languages::Language;
+use crate::pieces::Piece;
+use crate::wanted::put_literal;
 use acc_base::{Fault, Section};
 use acc_read::{Names, Page};
 use std::alloc::Global;
-use std::fmt::Write;
 use std::slice;
 
 /// How many nested blocks are indented.
@@ -26,8 +27,8 @@ pub struct Sheet {
     pub names: Names,
     /// The number of the line that is being emitted, counted from 1.
     pub line: u64,
-    /// Why a program cannot have this line, if it cannot.
-    reason: Option<Reason>,
+    /// Why there is no program, if there is none.
+    fault: Option<EmitFault>,
     /// The length of the longest section whose bytes the program handles.
     longest: u64,
     /// How many blocks are open.
@@ -43,27 +44,42 @@ impl Sheet {
             body: Page::new(alloc),
             names: Names::new(alloc),
             line: 0,
-            reason: None,
+            fault: None,
             longest: 16,
             depth: 0,
         }
     }
 
-    /// Notes why a program cannot have this line, of which only [`Sheet::check`] tells, by its first reason. So what puts
-    /// pieces of a line needs no `?`.
-    pub fn unfit(&mut self, reason: Reason) {
-        self.reason = self.reason.or(Some(reason));
+    /// Notes why there is no program, of which only [`Sheet::whole`] tells, by its first reason. So what emits a line
+    /// needs no `?`.
+    fn fail(&mut self, fault: EmitFault) {
+        self.fault = self.fault.or(Some(fault));
     }
 
-    /// Checks that a program can have this line.
-    ///
-    /// # Errors
-    ///
-    /// [`EmitFault::Line`] with the first reason why it cannot.
-    pub fn check(&self) -> Result<(), EmitFault> {
+    /// Notes why a program cannot have this line.
+    pub fn unfit(&mut self, reason: Reason) {
         let line = self.line;
-        self.reason
-            .map_or(Ok(()), |reason| Err(EmitFault::Line { line, reason }))
+        self.fail(EmitFault::Line { line, reason });
+    }
+
+    /// Notes a fault of a run into memory, which fails for lack of it alone.
+    pub fn fail_run(&mut self, fault: Fault) {
+        self.fail(EmitFault::Run(match fault {
+            Fault::Write => Fault::Memory,
+            fault => fault,
+        }));
+    }
+
+    /// Notes that there was no memory for a thing, where it is not kept.
+    pub fn heed(&mut self, is_kept: bool) {
+        if !is_kept {
+            self.fail_run(Fault::Memory);
+        }
+    }
+
+    /// Whether a program can have all lines so far.
+    pub fn is_fit(&self) -> bool {
+        self.fault.is_none()
     }
 
     /// Notes that the program handles `length` bytes at a time.
@@ -71,58 +87,59 @@ impl Sheet {
         self.longest = self.longest.max(length);
     }
 
-    /// Begins a line of the program, indented as its block is, or as the deepest indented block.
-    pub fn start(&mut self, text: &str) {
+    /// Puts a text, in which a piece stands in place of each `%`.
+    pub fn put(&mut self, text: &str, pieces: &[Piece<'_>]) {
+        let texts = text.as_bytes().split(|byte| *byte == b'%');
+        for (nth, text) in texts.enumerate() {
+            // The first text has no piece before it.
+            if let Some(piece) = pieces.get(nth.wrapping_sub(1)) {
+                self.put_piece(*piece);
+            }
+            self.body.bytes(text);
+        }
+    }
+
+    /// Puts the one of two texts that is for the language. Pieces behind its last `%` are left out.
+    pub fn pick(&mut self, c: &'static str, fortran: &'static str, pieces: &[Piece<'_>]) {
+        self.put(self.language.pick(c, fortran), pieces);
+    }
+
+    /// Puts the one of two texts that is for the language on a new line, indented as its block is, or as the deepest
+    /// indented block.
+    pub fn line(&mut self, c: &'static str, fortran: &'static str, pieces: &[Piece<'_>]) {
         self.body.text("    ");
         for _ in 0..self.depth.min(SET_IN) {
             self.body.text("    ");
         }
-        self.body.text(text);
+        self.pick(c, fortran, pieces);
     }
 
-    /// Begins a directive.
-    pub fn start_directive(&mut self) {
-        self.start(self.language.pick("#pragma acc ", "!$acc "));
+    /// Puts a call as a line.
+    pub fn call(&mut self, text: &'static str, pieces: &[Piece<'_>]) {
+        self.line("", "call ", &[]);
+        self.put(text, pieces);
+        self.pick(";\n", "\n", &[]);
     }
 
-    /// Begins a call.
-    pub fn start_call(&mut self, name: &str) {
-        self.start(self.language.pick("", "call "));
-        let _ = write!(self.body, "{name}(");
-    }
-
-    /// Begins a call, whose first argument is the number of the script's line.
-    pub fn start_question(&mut self, name: &str) {
-        self.start_call(name);
-        self.body.number(self.line);
-    }
-
-    /// Ends a call.
-    pub fn end_call(&mut self) {
-        self.pick(");\n", ")\n");
+    /// Puts a question for a section, and the answer that has to come.
+    pub fn ask<'a>(&mut self, question: &'a str, section: Section, answer: &'a [u8]) {
+        let line = Piece::Number(self.line);
+        let (question, answer) = (Piece::Text(question), Piece::Literal(answer));
+        self.call(
+            "%(%, %, \"%\")",
+            &[question, line, Piece::Argument(section), answer],
+        );
     }
 
     /// Puts a comment as a line.
     pub fn remark(&mut self, text: &str) {
-        self.start_remark();
-        self.body.text(text);
-        self.end_remark();
-    }
-
-    /// Begins a line that is a comment.
-    pub fn start_remark(&mut self) {
-        self.start(self.language.pick("/* ", "! "));
-    }
-
-    /// Ends it.
-    pub fn end_remark(&mut self) {
-        self.pick(" */\n", "\n");
+        self.line("/* % */\n", "! %\n", &[Piece::Text(text)]);
     }
 
     /// Opens the block of a region's directive, or in C also one without a directive. In Fortran the directive opens it.
     pub fn open_block(&mut self) {
         if self.language == Language::C {
-            self.start("{\n");
+            self.line("{\n", "", &[]);
         }
         self.depth = self.depth.saturating_add(1);
     }
@@ -130,84 +147,43 @@ impl Sheet {
     /// Closes the innermost block, which has a directive or none.
     pub fn close_block(&mut self, has_directive: bool) {
         self.depth = self.depth.saturating_sub(1);
-        match self.language {
-            Language::C => self.start("}\n"),
-            Language::Fortran if has_directive => self.start("!$acc end data\n"),
-            Language::Fortran => {}
+        if has_directive || self.language == Language::C {
+            self.line("}\n", "!$acc end data\n", &[]);
         }
     }
 
-    /// Puts the one of two texts that is for the language.
-    pub fn pick(&mut self, c: &'static str, fortran: &'static str) {
-        self.body.text(self.language.pick(c, fortran));
+    fn put_piece(&mut self, piece: Piece<'_>) {
+        match piece {
+            Piece::Text(text) => self.body.text(text),
+            Piece::Bytes(bytes) => self.body.bytes(bytes),
+            Piece::Literal(bytes) => put_literal(&mut self.body, self.language, bytes),
+            Piece::Digits(byte) => self.body.digits(&[byte]),
+            Piece::Number(number) => self.body.number(number),
+            Piece::End(count) => self.body.number(self.language.end_of(count)),
+            Piece::Part(section) => self.put_place(section, "[f:n]", "(f:l)"),
+            Piece::Start(section) => self.put_place(section, "+", "(f:l)"),
+            Piece::Argument(section) => self.put_place(section, "+, n", "(f:l)"),
+            Piece::Byte(start) => self.put_place(Section { start, len: 1 }, "+", "(f)"),
+            Piece::Cell(section) => self.put_place(section, "[i+]", "(i+)"),
+        }
     }
 
-    /// Puts the name of the array that has a section, and returns how many of its bytes stand before the section. A
-    /// program cannot have a section that lies in no one array.
-    fn put_array(&mut self, section: Section) -> u64 {
+    /// Puts the name of the array that has a section, and what a text says of its bytes: the place of the first one for
+    /// `f`, and that added to an address or an index for `+`; the place of the last one for `l`; the number of them for
+    /// `n`. A whole array has no such range. A program cannot have a section that lies in no one array.
+    fn put_place(&mut self, section: Section, c: &'static str, fortran: &'static str) {
         let Some(spot) = self.names.within(section) else {
             self.unfit(Reason::OutsideArray);
-            return 0;
+            return;
         };
+        let (first, count) = (spot.offset, section.len);
+        let is_whole = spot.array.whole() == section;
         put_name(&mut self.body, spot.name);
-        spot.offset
-    }
-
-    /// Puts a section as a subarray, `a_[0:16]` or `a_(0:15)`, or as the whole array, `a_`.
-    pub fn put_section(&mut self, section: Section) {
-        let offset = self.put_array(section);
-        let last = offset.saturating_add(section.len).saturating_sub(1);
-        let whole = self
-            .names
-            .spot(section.start)
-            .map(|spot| spot.array.whole());
-        let _ = match self.language {
-            _ if whole == Some(section) => Ok(()),
-            Language::C => write!(self.body, "[{offset}:{}]", section.len),
-            Language::Fortran => write!(self.body, "({offset}:{last})"),
-        };
-    }
-
-    /// Puts a section that lies in one array as an argument without a length: in C the address of its first byte,
-    /// `a_ + 8`, and in Fortran the section.
-    pub fn put_start(&mut self, section: Section) {
-        if self.language == Language::Fortran {
-            return self.put_section(section);
-        }
-        let offset = self.put_array(section);
-        self.put_offset(offset);
-    }
-
-    /// Puts a section that lies in one array as an argument with its length: in C as two arguments, `a_ + 8, 4`.
-    pub fn put_argument(&mut self, section: Section) {
-        self.put_start(section);
-        if self.language == Language::C {
-            let _ = write!(self.body, ", {}", section.len);
-        }
-    }
-
-    /// Puts a byte of some array as what an address is taken of: in C as its address, and in Fortran as the element.
-    pub fn put_byte(&mut self, start: u64) {
-        let offset = self.put_array(Section { start, len: 1 });
-        match self.language {
-            Language::C => self.put_offset(offset),
-            Language::Fortran => {
-                let _ = write!(self.body, "({offset})");
+        let text = self.language.pick(c, fortran).as_bytes();
+        if !is_whole || !text.contains(&b':') {
+            for letter in text {
+                put_letter(&mut self.body, *letter, first, count);
             }
-        }
-    }
-
-    /// Puts the byte at the place `i` of a section that lies in one array, `a_[i + 8]` or `a_(i + 8)`.
-    pub fn put_cell(&mut self, section: Section) {
-        let offset = self.put_array(section);
-        self.pick("[i", "(i");
-        self.put_offset(offset);
-        self.pick("]", ")");
-    }
-
-    fn put_offset(&mut self, offset: u64) {
-        if offset > 0 {
-            let _ = write!(self.body, " + {offset}");
         }
     }
 
@@ -216,31 +192,57 @@ impl Sheet {
     ///
     /// # Errors
     ///
-    /// [`Fault::Memory`] alone.
-    pub fn whole(&self, alloc: Global, name: Option<&str>, script: &[u8]) -> Result<Page, Fault> {
+    /// Why there is none.
+    pub fn whole(
+        &self,
+        alloc: Global,
+        name: Option<&str>,
+        script: &[u8],
+    ) -> Result<Page, EmitFault> {
+        if let Some(fault) = self.fault {
+            return Err(fault);
+        }
+        let (head, body) = (self.head.whole()?, self.body.whole()?);
         let harness = match self.language {
             Language::C => IN_C,
             Language::Fortran => IN_FORTRAN,
         };
         let mut page = Page::new(alloc);
-        self.put_title(&mut page, name, script);
+        put_title(&mut page, self.language, name, script);
         page.text(harness.head);
-        page.bytes(self.head.whole()?);
-        let _ = writeln!(page, "\n#define LONGEST {}", self.longest);
+        page.bytes(head);
+        page.text("\n#define LONGEST ");
+        page.number(self.longest);
+        page.text("\n");
         page.text(harness.declarations);
-        page.bytes(self.body.whole()?);
+        page.bytes(body);
         page.text(harness.functions);
         Ok(page)
     }
+}
 
-    fn put_title(&self, page: &mut Page, name: Option<&str>, script: &[u8]) {
-        if let Some(name) = name {
-            put_remark(page, self.language, name.as_bytes());
+/// Puts a letter of what a program says of some bytes of an array ([`Sheet::put_place`]).
+fn put_letter(page: &mut Page, letter: u8, first: u64, count: u64) {
+    match letter {
+        b'f' => page.number(first),
+        b'l' => page.number(first.saturating_add(count).saturating_sub(1)),
+        b'n' => page.number(count),
+        b'+' if first == 0 => {}
+        b'+' => {
+            page.text(" + ");
+            page.number(first);
         }
-        let lines = script.split(|byte| *byte == b'\n');
-        for comment in lines.map_while(|line| line.strip_prefix(b"#".as_slice())) {
-            put_remark(page, self.language, comment.trim_ascii());
-        }
+        _ => page.bytes(&[letter]),
+    }
+}
+
+fn put_title(page: &mut Page, language: Language, name: Option<&str>, script: &[u8]) {
+    if let Some(name) = name {
+        put_remark(page, language, name.as_bytes());
+    }
+    let lines = script.split(|byte| *byte == b'\n');
+    for comment in lines.map_while(|line| line.strip_prefix(b"#".as_slice())) {
+        put_remark(page, language, comment.trim_ascii());
     }
 }
 

@@ -1,11 +1,11 @@
-//! The script on two tables, which differ in the bytes that nothing has filled.
+//! The script on a second table, which differs in the bytes that nothing has filled.
 
 use crate::emitters::Emitter;
 use crate::faults::Reason;
 use crate::pointers::{POINTER_LEN, pointer_section};
 use acc_base::{Config, Directive, Fault, List, MEMORY_MAX, Section};
-use acc_read::{ScriptKernel, Statement, Trouble, line_at};
-use acc_script::Session;
+use acc_read::{ScriptKernel, Statement};
+use acc_script::{MemorySink, Session, Unwatched, run_line};
 use std::alloc::Global;
 use std::sync::Wait;
 use std::thread::Threads;
@@ -16,7 +16,7 @@ pub const DEVICE: u64 = 0;
 /// How many events the second table may have: it makes more of them than the first.
 const EVENTS: u64 = 16_777_216;
 
-/// Returns a session on a new table. It is boxed: a function that owns two unboxed ones takes minutes to check.
+/// Returns a session on a new table. It is boxed, so that its owner moves one pointer.
 ///
 /// # Errors
 ///
@@ -29,22 +29,13 @@ pub fn boxed_session(alloc: Global, config: Config) -> Result<Box<Session>, Faul
 ///
 /// On the twin the bytes of a new block that nothing fills are others, each with all bits flipped. A copy keeps that,
 /// and so does a kernel, whose new byte is another where the old one is. So a byte that is the same on both is one that
-/// was filled. (A `plus` has two old bytes: whoever emits it has to look at its source.) A region without items is open
-/// on the twin from the start, for the kernels that flip.
+/// was filled. (A `plus` has two old bytes: whoever emits it has to look at its source.)
 ///
 /// # Errors
 ///
 /// [`Fault::Memory`] alone.
-pub fn twin_of<R: Threads + Wait + Sync + AllocGlobal>(
-    rt: &R,
-    config: Config,
-) -> Result<Box<Session>, Fault> {
-    let mut twin = boxed_session(rt.alloc(), twin_config(config)?)?;
-    let device = DEVICE;
-    let items = List::from_vec(Vec::new(rt.alloc()));
-    let enter = Directive::Enter { device, items };
-    twin.perform(rt, Statement::Direct(enter))?;
-    Ok(twin)
+pub fn twin_of(alloc: Global, config: Config) -> Result<Box<Session>, Fault> {
+    boxed_session(alloc, twin_config(config)?)
 }
 
 /// The limits of the twin. It has one region more, for fills, and room on its device for blocks that lie otherwise.
@@ -57,45 +48,41 @@ fn twin_config(config: Config) -> Result<Config, Fault> {
     )
 }
 
-/// Reads the line of a number on a table.
-///
-/// # Errors
-///
-/// [`Fault::Script`] where the line is at fault; [`Fault::Memory`].
-pub fn read_on<'a>(
-    alloc: Global,
-    session: &Session,
-    number: u64,
-    line: &'a [u8],
-) -> Result<Statement<'a>, Fault> {
-    let innermost = session.innermost();
-    match line_at(alloc, &session.arrays, session.device, innermost, line) {
-        Ok(statement) => Ok(statement),
-        Err(Trouble::Memory) => Err(Fault::Memory),
-        Err(Trouble::Line(kind)) => Err(Fault::Script { line: number, kind }),
+/// Opens a region without items on the twin before the first line, for the kernels that flip.
+pub fn open_twin<R: Threads + Wait + Sync + AllocGlobal>(rt: &R, emitter: &mut Emitter<'_>) {
+    let device = DEVICE;
+    let items = List::from_vec(Vec::new(rt.alloc()));
+    let enter = Directive::Enter { device, items };
+    if let Err(fault) = emitter.twin.perform(rt, Statement::Direct(enter)) {
+        emitter.sheet.fail_run(fault);
     }
 }
 
-/// Runs a statement on the twin, and makes the blocks differ that nothing filled. A program cannot have one that the twin
+/// Runs a line on the twin, and makes the blocks differ that nothing filled. A program cannot have one that the twin
 /// refuses.
-///
-/// # Errors
-///
-/// [`Fault::Memory`] alone.
 pub fn follow_on_twin<R: Threads + Wait + Sync + AllocGlobal>(
     rt: &R,
     emitter: &mut Emitter<'_>,
-    statement: Statement<'_>,
-) -> Result<(), Fault> {
-    if emitter.twin.perform(rt, statement)?.is_refused() {
-        emitter.sheet.unfit(Reason::Unsettled);
+    line: &[u8],
+) {
+    let Emitter {
+        twin,
+        births,
+        sheet,
+        ..
+    } = emitter;
+    let mut printed = MemorySink::new(rt.alloc());
+    match run_line(rt, sheet.line, twin, line, &mut printed, &mut Unwatched) {
+        Ok(false) => {}
+        Ok(true) => sheet.unfit(Reason::Unsettled),
+        Err(fault) => sheet.fail_run(fault),
     }
-    let Emitter { twin, births, .. } = emitter;
     for section in births.iter() {
-        flip(rt, twin, *section)?;
+        if let Err(fault) = flip(rt, twin, *section) {
+            sheet.fail_run(fault);
+        }
     }
     births.clear();
-    Ok(())
 }
 
 /// Flips all bits of a section's bytes on the device, but those of its attached pointers.

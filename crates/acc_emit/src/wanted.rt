@@ -1,7 +1,6 @@
 //! The output that a program has to have, where it is given.
 
 use crate::languages::Language;
-use crate::sheets::Sheet;
 use acc_read::{Page, next_line};
 use std::fmt::Write;
 use std::slice;
@@ -50,9 +49,7 @@ impl<'a> Wanted<'a> {
 }
 
 /// Puts a piece of a line within a text of the program.
-pub fn put_literal(sheet: &mut Sheet, piece: &[u8]) {
-    let language = sheet.language;
-    let page = &mut sheet.body;
+pub fn put_literal(page: &mut Page, language: Language, piece: &[u8]) {
     for byte in piece {
         match *byte {
             b'"' => page.text(language.pick("\\\"", "\"\"")),

@@ -3,110 +3,71 @@
 use crate::emitters::Emitter;
 use crate::kernels::put_kernel;
 use crate::languages::Language;
+use crate::pieces::Piece;
 use crate::pointers::word_at;
 use crate::sheets::{Sheet, put_name};
 use acc_base::Section;
 use acc_read::{Array, ScriptKernel};
-use std::alloc::{AllocError, Global};
-use std::fmt::Write;
+use acc_table::Table;
+use std::alloc::Global;
 
 /// Declares an array of the program, with its size in bytes.
-///
-/// # Errors
-///
-/// [`AllocError`] where there is no memory for the name.
-pub fn declare(
-    alloc: Global,
-    sheet: &mut Sheet,
-    name: &[u8],
-    array: Array,
-) -> Result<(), AllocError> {
-    sheet.names.insert(alloc, name, array)?;
-    let size = array.whole().len;
+pub fn declare(alloc: Global, sheet: &mut Sheet, name: &[u8], array: Array) {
+    let is_kept = sheet.names.insert(alloc, name, array).is_ok();
+    sheet.heed(is_kept);
+    let language = sheet.language;
     let in_c = "static _Alignas(16) unsigned char ";
     let in_fortran = "    integer(1), target, save :: ";
-    sheet.head.text(sheet.language.pick(in_c, in_fortran));
+    sheet.head.text(language.pick(in_c, in_fortran));
     put_name(&mut sheet.head, name);
-    if sheet.language == Language::Fortran {
-        let _ = writeln!(sheet.head, "(0:{}) = 0", size.saturating_sub(1));
-        return Ok(());
+    sheet.head.text(language.pick("[", "(0:"));
+    sheet.head.number(language.end_of(array.whole().len));
+    sheet.head.text(language.pick("];\n", ") = 0\n"));
+    if language == Language::C {
+        sheet.line("(void)%_;\n", "", &[Piece::Bytes(name)]);
     }
-    let _ = writeln!(sheet.head, "[{size}];");
-    sheet.start("(void)");
-    put_name(&mut sheet.body, name);
-    sheet.body.text(";\n");
-    Ok(())
 }
 
-/// Emits a write of the host into a section: of bytes, or of the host address of a target into a pointer.
-///
-/// # Errors
-///
-/// [`AllocError`] where there is no memory for a pointer.
-pub fn emit_write(
-    emitter: &mut Emitter<'_>,
-    section: Section,
-    is_point: bool,
-) -> Result<(), AllocError> {
-    let Emitter {
-        own,
-        marks,
-        sheet,
-        ..
-    } = emitter;
-    if is_point {
-        let target = word_at(&own.table, section.start, false);
-        marks.point(section.start, target)?;
-        put_point(sheet, section, target);
-    } else {
-        marks.write(section);
-        put_write(sheet, section, own.table.host_read(section).unwrap_or(&[]));
-    }
-    Ok(())
+/// Emits a write of the host of these bytes into a section.
+pub fn emit_write(emitter: &mut Emitter<'_>, own: &Table, section: Section) {
+    emitter.marks.write(section);
+    put_write(
+        &mut emitter.sheet,
+        section,
+        own.host_read(section).unwrap_or(&[]),
+    );
 }
 
 fn put_write(sheet: &mut Sheet, section: Section, bytes: &[u8]) {
-    sheet.start_call(sheet.language.pick("memcpy", "put"));
-    sheet.put_start(section);
-    sheet.body.text(", \"");
+    sheet.line("memcpy(%, \"", "call put(%, \"", &[Piece::Start(section)]);
     for byte in bytes {
-        sheet.pick("\\x", "");
-        sheet.body.digits(&[*byte]);
+        sheet.pick("\\x%", "%", &[Piece::Digits(*byte)]);
     }
-    sheet.body.text("\"");
-    if sheet.language == Language::C {
-        let _ = write!(sheet.body, ", {}", section.len);
-    }
-    sheet.end_call();
+    sheet.pick("\", %);\n", "\")\n", &[Piece::Number(section.len)]);
 }
 
-fn put_point(sheet: &mut Sheet, section: Section, target: u64) {
-    sheet.start_call("point");
-    sheet.put_start(section);
-    sheet.pick(", ", ", c_loc(");
-    sheet.put_byte(target);
-    sheet.pick("", ")");
-    sheet.end_call();
+/// Emits a write of the host address of a target into the pointer that is a section.
+pub fn emit_point(emitter: &mut Emitter<'_>, own: &Table, section: Section) {
+    let Emitter { marks, sheet, .. } = emitter;
+    let target = word_at(own, section.start, false);
+    sheet.heed(marks.point(section.start, target).is_ok());
+    let pieces = [Piece::Start(section), Piece::Byte(target)];
+    sheet.line("point(%, %);\n", "call point(%, c_loc(%))\n", &pieces);
 }
 
 /// Emits a kernel, and marks the bytes to which it adds bytes that are not compared.
-pub fn emit_kernel(emitter: &mut Emitter<'_>, kernel: ScriptKernel, section: Section) {
+pub fn emit_kernel(emitter: &mut Emitter<'_>, own: &Table, kernel: ScriptKernel, section: Section) {
     if let ScriptKernel::Plus(source) = kernel {
-        spread_marks(emitter, source, section);
+        spread_marks(emitter, own, source, section);
     }
     emitter.marks.write(section);
     put_kernel(&mut emitter.sheet, kernel, section);
 }
 
 /// Marks bytes of a section: those to which bytes of a source are added that are not compared, or that nothing filled.
-fn spread_marks(emitter: &mut Emitter<'_>, source: Section, section: Section) {
-    let Emitter {
-        own,
-        twin,
-        marks,
-        ..
-    } = emitter;
-    let own = own.table.host_read(source).unwrap_or(&[]);
+fn spread_marks(emitter: &mut Emitter<'_>, own: &Table, source: Section, section: Section) {
+    let Emitter { twin, marks, .. } = emitter;
+    let own = own.host_read(source).unwrap_or(&[]);
     let twin = twin.table.host_read(source).unwrap_or(&[]);
     for offset in 0..source.len.min(section.len) {
         let at = offset as usize;

@@ -4,7 +4,7 @@ use crate::hints::{Finding, put_hint};
 use crate::readers::{Reader, front_of};
 use crate::sources::{put_cause, put_note, put_source};
 use crate::tokens::{Token, is_mark, tokens_of};
-use crate::wanted::{put_wanted, wanted_behind};
+use crate::wanted::put_wanted;
 use acc_base::ScriptFault;
 use acc_read::{Arrays, Page, before_comment, is_text_byte, is_word_byte};
 use std::alloc::{AllocError, Global};
@@ -28,7 +28,12 @@ pub fn fault_column(alloc: Global, arrays: &Arrays, line: &[u8], kind: ScriptFau
 
 /// How many bytes stand before the first one that no line may have.
 fn text_len(line: &[u8]) -> usize {
-    line.iter().take_while(|b| is_text_byte(**b)).count()
+    for (nth, byte) in line.iter().enumerate() {
+        if !is_text_byte(*byte) {
+            return nth;
+        }
+    }
+    line.len()
 }
 
 fn token_place(reader: Reader<'_>, line: &[u8], kind: ScriptFault) -> Result<usize, AllocError> {
@@ -88,14 +93,24 @@ fn explain_token(
 ) -> Result<(), AllocError> {
     let text = before_comment(line);
     let tokens = tokens_of(reader.alloc, text)?;
-    let nth = reader.place(text, &tokens, kind);
-    put_source(page, number, line, place_of(text, &tokens, nth));
     let finding = Finding {
         text,
         tokens: &tokens,
-        nth,
+        nth: reader.place(text, &tokens, kind),
         kind,
     };
+    explain_finding(page, reader, number, line, finding)
+}
+
+fn explain_finding(
+    page: &mut Page,
+    reader: Reader<'_>,
+    number: u64,
+    line: &[u8],
+    finding: Finding<'_>,
+) -> Result<(), AllocError> {
+    let place = place_of(finding.text, finding.tokens, finding.nth);
+    put_source(page, number, line, place);
     put_kind(page, reader, finding)?;
     page.text("\n");
     add_hint(page, reader, number, finding);
@@ -146,17 +161,10 @@ fn put_why(page: &mut Page, reader: Reader<'_>, finding: Finding<'_>) -> Result<
         ScriptFault::Number => page.text(", which is out of bounds"),
         ScriptFault::UnknownName => page.text(", which names no array"),
         ScriptFault::NameTaken => page.text(", which names an array already"),
-        _ => return add_wanted(page, reader, finding),
-    }
-    Ok(())
-}
-
-fn add_wanted(page: &mut Page, reader: Reader<'_>, finding: Finding<'_>) -> Result<(), AllocError> {
-    let front = front_of(finding.text, finding.tokens, finding.nth);
-    let wanted = wanted_behind(reader, front)?;
-    if !wanted.is_empty() {
-        page.text(", wanted ");
-        put_wanted(page, &wanted);
+        _ => {
+            let front = front_of(finding.text, finding.tokens, finding.nth);
+            return put_wanted(page, reader, front);
+        }
     }
     Ok(())
 }

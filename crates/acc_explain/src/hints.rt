@@ -1,7 +1,7 @@
 //! What to write in place of what was found.
 
 use crate::readers::Reader;
-use crate::routines::{Advice, QUESTIONS, ROUTINES, WORDS};
+use crate::routines::{Advice, LISTS};
 use crate::tokens::{Token, nth_bytes};
 use acc_base::ScriptFault;
 use acc_read::{Page, is_text};
@@ -87,18 +87,15 @@ fn put_syntax_hint(page: &mut Page, finding: Finding<'_>) -> bool {
 /// The advice for a word of OpenACC that scripts do not have there, in two parts.
 fn advice_of(finding: Finding<'_>) -> Option<(&'static str, &'static str)> {
     let found = finding.found();
-    if finding.nth == 0 {
-        if let Some(directive) = advice_in(ROUTINES, found) {
-            return Some(("a script has directives: ", directive));
-        }
-        if let Some(question) = advice_in(QUESTIONS, found) {
-            return Some(("a script asks: ", question));
-        }
-        if found.starts_with(b"acc_") {
-            return Some(("a script has directives, and no routines", ""));
+    for (front, list, is_first) in LISTS {
+        if finding.nth == 0 || !*is_first {
+            if let Some(advice) = advice_in(list, found) {
+                return Some((*front, advice));
+            }
         }
     }
-    Some((advice_in(WORDS, found)?, ""))
+    let is_routine = finding.nth == 0 && found.starts_with(b"acc_");
+    is_routine.then_some(("a script has directives, and no routines", ""))
 }
 
 /// The advice that a list has for a word.

@@ -19,9 +19,9 @@ impl Reader<'_> {
     /// Returns what is wrong with a text as a line, if something is. A region counts as open; no fault depends on the
     /// device.
     pub fn fault(self, text: &[u8]) -> Option<ScriptFault> {
-        match line_at(self.alloc, self.arrays, 0, Some(1), text) {
-            Err(Trouble::Line(kind)) => Some(kind),
-            _ => None,
+        match line_at(self.alloc, self.arrays, 0, Some(1), text).err()? {
+            Trouble::Line(kind) => Some(kind),
+            Trouble::Memory => None,
         }
     }
 
@@ -39,10 +39,15 @@ impl Reader<'_> {
 
     /// Returns whether some tail of a sentence makes a front part such a line.
     pub fn can_go_on(self, front: &[u8]) -> bool {
-        self.fits(front, "")
-            || SENTENCES
-                .iter()
-                .any(|sentence| self.fits_some(front, sentence))
+        if self.fits(front, "") {
+            return true;
+        }
+        for sentence in SENTENCES {
+            if self.fits_some(front, sentence) {
+                return true;
+            }
+        }
+        false
     }
 
     fn fits_some(self, front: &[u8], sentence: &str) -> bool {

@@ -3,8 +3,15 @@
 /// Words with blanks between them, and the advice where one of them stands in a line at fault.
 pub type Advice = (&'static str, &'static str);
 
+/// The lists, what stands before their advice, and whether they are for the first word of a line alone.
+pub const LISTS: &[(&str, &[Advice], bool)] = &[
+    ("a script has directives: ", ROUTINES, true),
+    ("a script asks: ", QUESTIONS, true),
+    ("", WORDS, false),
+];
+
 /// The routines of OpenACC 3.3, section 3.2, that move data, and the directives that do the same.
-pub const ROUTINES: &[Advice] = &[
+const ROUTINES: &[Advice] = &[
     ("acc_copyin", "enter data copyin(REF)"),
     ("acc_copyin_async", "enter data copyin(REF) async(QUEUE)"),
     ("acc_create", "enter data create(REF)"),
@@ -28,13 +35,13 @@ pub const ROUTINES: &[Advice] = &[
 ];
 
 /// The routines that ask, and the statements that do the same.
-pub const QUESTIONS: &[Advice] = &[
+const QUESTIONS: &[Advice] = &[
     ("acc_is_present", "present REF"),
     ("acc_deviceptr", "address PLACE"),
 ];
 
 /// Words of directives that stand elsewhere in scripts, or not at all.
-pub const WORDS: &[Advice] = &[
+const WORDS: &[Advice] = &[
     (
         "pragma",
         "the directive stands alone on its line, without #pragma acc",

@@ -55,7 +55,7 @@ fn put_part(page: &mut Page, line: &[u8], from: usize) {
         page.text("..");
     }
     let rest = line.get(from..).unwrap_or(&[]);
-    for byte in rest.iter().take(SHOWN) {
+    for byte in rest.get(..SHOWN).unwrap_or(rest) {
         put_byte(page, *byte);
     }
     if rest.len() > SHOWN {

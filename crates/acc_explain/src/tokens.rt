@@ -32,18 +32,33 @@ pub fn tokens_of(alloc: Global, text: &[u8]) -> Result<Vec<Token>, AllocError> {
 
 /// The first token of a text from a place on, if it has one.
 pub fn next_token(text: &[u8], from: usize) -> Option<Token> {
-    let rest = text.get(from..)?;
-    let blanks = rest.iter().take_while(|b| is_blank(**b)).count();
-    let token = rest.get(blanks..)?;
-    if token.is_empty() {
-        return None;
+    for start in from..text.len() {
+        if !is_blank(byte_at(text, start)) {
+            return Some(Token {
+                start,
+                end: word_end(text, start.saturating_add(1)),
+            });
+        }
     }
-    let len = token.iter().take_while(|b| is_word_byte(**b)).count();
-    let start = from.saturating_add(blanks);
-    Some(Token {
-        start,
-        end: start.saturating_add(len.max(1)),
-    })
+    None
+}
+
+/// The end of the token that ends behind a place: that place, unless it stands inside a word.
+fn word_end(text: &[u8], from: usize) -> usize {
+    if !is_word_byte(byte_at(text, from.saturating_sub(1))) {
+        return from;
+    }
+    for end in from..text.len() {
+        if !is_word_byte(byte_at(text, end)) {
+            return end;
+        }
+    }
+    text.len()
+}
+
+/// The byte at a place; a zero where there is none.
+fn byte_at(text: &[u8], place: usize) -> u8 {
+    text.get(place).copied().unwrap_or(0)
 }
 
 /// The bytes of a token of the text; none where it is not of this text.

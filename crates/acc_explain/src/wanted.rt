@@ -25,24 +25,37 @@ pub enum Wanted<'a> {
     End,
 }
 
-/// Returns all that could stand behind a front part of a line, each once.
+/// Puts all that could stand behind a front part of a line, each once; nothing where nothing could.
 ///
 /// # Errors
 ///
 /// [`AllocError`] where there is no memory.
-pub fn wanted_behind(reader: Reader<'_>, front: &[u8]) -> Result<Vec<Wanted<'static>>, AllocError> {
+pub fn put_wanted(page: &mut Page, reader: Reader<'_>, front: &[u8]) -> Result<(), AllocError> {
     let mut all = Vec::new(reader.alloc);
+    add_all(reader, front, &mut all)?;
+    keep_told(&mut all, front.last() == Some(&b'('));
+    put_all(page, &all);
+    Ok(())
+}
+
+fn add_all(
+    reader: Reader<'_>,
+    front: &[u8],
+    all: &mut Vec<Wanted<'static>>,
+) -> Result<(), AllocError> {
     for sentence in SENTENCES {
-        add_wanted(reader, front, sentence, &mut all)?;
+        add_wanted(reader, front, sentence, all)?;
     }
     if reader.fits(front, "") {
         all.push(Wanted::End)?;
     }
-    let is_open = front.last() == Some(&b'(');
+    Ok(())
+}
+
+fn keep_told(all: &mut Vec<Wanted<'static>>, is_open: bool) {
     let has_name = all.contains(&Wanted::Name);
     let has_digits = all.contains(&Wanted::Digits);
     all.retain(|wanted| is_told(*wanted, is_open, has_name, has_digits));
-    Ok(all)
 }
 
 /// Adds the first token of each tail of a sentence that could stand there.
@@ -101,7 +114,7 @@ fn is_told(wanted: Wanted<'_>, is_open: bool, has_name: bool, has_digits: bool) 
 }
 
 /// Puts all of them, with `or` before the last one.
-pub fn put_wanted(page: &mut Page, all: &[Wanted<'_>]) {
+fn put_all(page: &mut Page, all: &[Wanted<'_>]) {
     for (nth, wanted) in all.iter().enumerate() {
         let left = all.len().saturating_sub(nth);
         page.text(separator(nth, left));
@@ -111,7 +124,7 @@ pub fn put_wanted(page: &mut Page, all: &[Wanted<'_>]) {
 
 fn separator(nth: usize, left: usize) -> &'static str {
     if nth == 0 {
-        ""
+        ", wanted "
     } else if left == 1 {
         " or "
     } else {

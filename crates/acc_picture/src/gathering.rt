@@ -149,6 +149,13 @@ pub fn add_stretches(
 ) -> Result<(), AllocError> {
     let mut by_place = BTreeMap::new(alloc);
     place_all(table, device, parts, &mut by_place)?;
+    add_placed(&by_place, stretches)
+}
+
+fn add_placed(
+    by_place: &BTreeMap<u64, Stretch>,
+    stretches: &mut Vec<Stretch>,
+) -> Result<(), AllocError> {
     for (_, stretch) in by_place.iter() {
         if stretch.size > 0 {
             stretches.push(*stretch)?;

@@ -107,17 +107,30 @@ pub fn add_host_strips(
     strips: &mut Vec<Strip>,
 ) -> Result<(), AllocError> {
     for (nth, group) in parts.chunks(group_size(parts.len())).enumerate() {
-        let (Some(first), Some(last)) = (group.first(), group.last()) else {
-            continue;
-        };
-        let row = Row {
-            area: host_area(nth),
-            start: first.section.start,
-            end: end_of(last.section),
-        };
-        for part in group {
-            row.add(known, None, part.section, strips)?;
+        if let Some(row) = host_row(group, nth) {
+            add_host_group(row, known, group, strips)?;
         }
+    }
+    Ok(())
+}
+
+/// The row of a number, of some parts of host memory, if there are any.
+fn host_row(group: &[Part], nth: usize) -> Option<Row> {
+    Some(Row {
+        area: host_area(nth),
+        start: group.first()?.section.start,
+        end: end_of(group.last()?.section),
+    })
+}
+
+fn add_host_group(
+    row: Row,
+    known: &Known,
+    group: &[Part],
+    strips: &mut Vec<Strip>,
+) -> Result<(), AllocError> {
+    for part in group {
+        row.add(known, None, part.section, strips)?;
     }
     Ok(())
 }
@@ -134,27 +147,42 @@ pub fn add_device_strips(
     strips: &mut Vec<Strip>,
 ) -> Result<(), AllocError> {
     for (nth, group) in stretches.chunks(group_size(stretches.len())).enumerate() {
-        let (Some(first), Some(last)) = (group.first(), group.last()) else {
-            continue;
-        };
-        let row = Row {
-            area: device_area(nth),
-            start: first.place,
-            end: last.place.saturating_add(last.size),
-        };
-        for stretch in group {
-            if let (Some(section), StretchKind::Mapped | StretchKind::Lent) = (
-                stretch.section,
-                stretch.kind,
-            ) {
-                let placed = Placed {
-                    device,
-                    block: 0,
-                    start: section.start,
-                    place: stretch.place,
-                };
-                row.add(known, Some(placed), section, strips)?;
-            }
+        if let Some(row) = device_row(group, nth) {
+            add_device_group(row, known, device, group, strips)?;
+        }
+    }
+    Ok(())
+}
+
+/// The row of a number, of some blocks and holes, if there are any.
+fn device_row(group: &[Stretch], nth: usize) -> Option<Row> {
+    let (first, last) = (group.first()?, group.last()?);
+    Some(Row {
+        area: device_area(nth),
+        start: first.place,
+        end: last.place.saturating_add(last.size),
+    })
+}
+
+fn add_device_group(
+    row: Row,
+    known: &Known,
+    device: u64,
+    group: &[Stretch],
+    strips: &mut Vec<Strip>,
+) -> Result<(), AllocError> {
+    for stretch in group {
+        if let (Some(section), StretchKind::Mapped | StretchKind::Lent) = (
+            stretch.section,
+            stretch.kind,
+        ) {
+            let placed = Placed {
+                device,
+                block: 0,
+                start: section.start,
+                place: stretch.place,
+            };
+            row.add(known, Some(placed), section, strips)?;
         }
     }
     Ok(())

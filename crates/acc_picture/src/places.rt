@@ -139,9 +139,12 @@ pub trait Addressed {
 
 /// The number of the last one that begins at an address or below it, counted from 0, where all lie by rising address.
 pub fn last_from<T: Addressed>(all: &[T], address: u64) -> Option<usize> {
-    let begun = all
-        .iter()
-        .take_while(|one| one.address() <= address)
-        .count();
-    begun.checked_sub(1)
+    let mut last = None;
+    for (nth, one) in all.iter().enumerate() {
+        if address < one.address() {
+            break;
+        }
+        last = Some(nth);
+    }
+    last
 }

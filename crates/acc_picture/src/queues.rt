@@ -98,13 +98,22 @@ fn add_made<C: CopyingClause>(
     did: &[Did],
     copies: &mut Vec<Queued>,
 ) -> Result<(), AllocError> {
-    for (item, did) in items.iter().zip(did) {
-        if let Some(out) = item.clause.copies_out_by(did.step) {
-            let section = item.section;
-            copies.push(Queued { section, out })?;
+    for nth in 0..items.len() {
+        if let Some(queued) = queued_by(items.get(nth), did.get(nth)) {
+            copies.push(queued)?;
         }
     }
     Ok(())
+}
+
+/// The copy that an item made, if it made one.
+fn queued_by<C: CopyingClause>(item: Option<&Item<C>>, did: Option<&Did>) -> Option<Queued> {
+    let (Some(item), Some(did)) = (item, did) else {
+        return None;
+    };
+    let out = item.clause.copies_out_by(did.step)?;
+    let section = item.section;
+    Some(Queued { section, out })
 }
 
 /// A clause whose copies may be put into a queue.

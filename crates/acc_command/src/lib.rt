@@ -5,6 +5,5 @@
 mod drills;
 mod tools;
 
-pub use acc_files::{Disk, FileFault, FileStore};
 pub use acc_lines::{Terminals, tell};
 pub use tools::{CLEAN, FAULTED, REFUSED, tool};

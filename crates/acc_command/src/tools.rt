@@ -2,7 +2,6 @@
 
 use crate::drills::run_drill;
 use acc_base::{Config, Fault};
-use acc_files::FileStore;
 use acc_follow::first_difference;
 use acc_lines::{Terminals, tell};
 use acc_options::{Options, options_of, parsed_words};
@@ -13,6 +12,7 @@ use acc_runs::{
 };
 use acc_script::{MemorySink, Sink, Source, Status, ToWrite, read_all, write_all};
 use acc_suites::Tester;
+use acc_trials::FileStore;
 use clap::Error;
 use clap::error::ErrorKind;
 use std::cell::Cell;

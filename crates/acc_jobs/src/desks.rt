@@ -7,8 +7,8 @@ use acc_base::{
     Section, UpdateClause,
 };
 use acc_lend::Lease;
-use acc_random::Chance;
 use acc_table::{Call, Reply, Table, abandon};
+use acc_trials::Chance;
 use std::alloc::{AllocError, Global};
 
 /// How many events a trace has when [`Desk::fold_when_due`] folds it.

@@ -5,8 +5,8 @@ use crate::items::Row;
 use crate::tallies::Tally;
 use acc_base::{EnterClause, ExitClause, Fault, RegionClause, Section, UpdateClause};
 use acc_lend::{Add, Lease, run_one};
-use acc_random::Chance;
 use acc_runtime::{Caller, Limited, Region, Runtime};
+use acc_trials::Chance;
 use std::sync::Wait;
 use std::sync::ledger::Ledger;
 

@@ -3,7 +3,7 @@
 use crate::desks::Desk;
 use crate::items::{one, section};
 use acc_base::{EnterClause, ExitClause, Section};
-use acc_random::Chance;
+use acc_trials::Chance;
 use std::alloc::{AllocError, Global};
 
 /// How many arrays there are, 4,096 bytes apart.

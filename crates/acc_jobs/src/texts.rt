@@ -1,7 +1,7 @@
 //! Scripts that are made from a seed.
 
 use acc_follow::Views;
-use acc_random::Chance;
+use acc_trials::Chance;
 use std::alloc::{AllocError, Global};
 
 /// What a script is made of.

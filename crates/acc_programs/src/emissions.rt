@@ -3,7 +3,6 @@
 use crate::programs::write_page;
 use acc_base::Fault;
 use acc_emit::{CHECK, EmitFault, Language, MAKEFILE, Origin, Reason, emit};
-use acc_files::{FileFault, FileStore};
 use acc_follow::Page;
 use acc_options::Options;
 use acc_runs::{
@@ -11,6 +10,7 @@ use acc_runs::{
     tell_mishap,
 };
 use acc_script::{Sink, Source, Status, read_all, write_all};
+use acc_trials::{FileFault, FileStore};
 use std::alloc::Global;
 use std::sync::Wait;
 use std::thread::Threads;

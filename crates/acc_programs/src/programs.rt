@@ -2,12 +2,11 @@
 //! reach.
 
 use acc_base::{Config, Fault};
-use acc_files::FileStore;
 use acc_follow::{Page, RowCounts, count_rows};
 use acc_options::Options;
-use acc_random::random_script;
 use acc_runs::{Ends, Mishap, find_column, limits, options_for, read_file};
 use acc_script::{Sink, Status, write_all};
+use acc_trials::{FileStore, random_script};
 use std::sync::Wait;
 use std::thread::Threads;
 

@@ -2,7 +2,7 @@
 
 use crate::endings::Mishap;
 use acc_base::Fault;
-use acc_files::{FileFault, FileStore};
+use acc_trials::{FileFault, FileStore};
 use std::alloc::Global;
 use std::collections::VecDeque;
 

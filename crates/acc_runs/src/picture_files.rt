@@ -1,10 +1,10 @@
 //! The files that pictures become.
 
 use acc_base::Fault;
-use acc_files::{FileFault, FileStore};
 use acc_follow::{Frame, Page, PictureSink, Stop, Unkept};
 use acc_lines::Keeper;
 use acc_options::statements;
+use acc_trials::{FileFault, FileStore};
 use std::alloc::Global;
 use std::cell::Cell;
 use std::fmt::Write;

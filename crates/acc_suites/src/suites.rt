@@ -1,13 +1,13 @@
 //! Scripts as tests: those of files and folders are run, and compared with what they have to print.
 
 use acc_base::Fault;
-use acc_files::{FileFault, FileStore};
 use acc_follow::{Page, warnings_of};
 use acc_options::Options;
 use acc_runs::{Ends, Mishap, Told, options_for, run_text, scripts_of, tell_mishap};
 use acc_script::{MemorySink, Sink, Status, write_all};
 use acc_trials::{
-    BAIL_OUT, Played, Report, Trial, blessed, compared, expectation, lines_of, output_name,
+    BAIL_OUT, FileFault, FileStore, Played, Report, Trial, blessed, compared, expectation,
+    lines_of, output_name,
 };
 use std::alloc::{AllocError, Global};
 use std::sync::Wait;

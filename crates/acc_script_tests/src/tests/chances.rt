@@ -1,7 +1,7 @@
 //! The numbers of random scripts.
 
 use super::same;
-use acc_random::Chance;
+use acc_trials::Chance;
 
 /// The first numbers of SplitMix64 for the seed 1234567, as other programs publish them.
 const NUMBERS: [u64; 5] = [

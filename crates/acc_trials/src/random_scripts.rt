@@ -1,6 +1,6 @@
 //! Whole scripts by chance.
 
-use crate::statements::Statements;
+use crate::random_statements::Statements;
 use acc_base::{Config, Fault};
 use acc_read::{Page, Trouble, line_at};
 use acc_script::Session;

@@ -1,6 +1,6 @@
 //! What scripts require of the machine that runs them.
 
-use crate::notes::notes_in;
+use crate::notes::{Note, note_behind};
 use crate::trials::Trial;
 use acc_base::Fault;
 use acc_read::Page;
@@ -24,21 +24,28 @@ impl Machine {
     ///
     /// [`Fault::Memory`].
     pub fn unmet(self, alloc: Global, name: &str, lines: &[&[u8]]) -> Result<Option<Trial>, Fault> {
-        let notes = notes_in(alloc, lines, "# requires:")?;
-        if let Some(note) = notes.iter().find(|note| self.meets(note.text).is_none()) {
+        if let Some(note) = self.requirement(lines, None) {
             let texts = ["unknown '# requires: ", note.text, "'"];
             return Ok(Some(Trial::failed_at(alloc, name, note.line, &texts)?));
         }
-        match notes
-            .iter()
-            .find(|note| self.meets(note.text) == Some(false))
-        {
-            None => Ok(None),
-            Some(note) => {
-                let texts = ["SKIP requires ", note.text];
-                Ok(Some(Trial::noted(alloc, &texts, Page::new(alloc))?))
+        let Some(note) = self.requirement(lines, Some(false)) else {
+            return Ok(None);
+        };
+        let texts = ["SKIP requires ", note.text];
+        Ok(Some(Trial::noted(alloc, &texts, Page::new(alloc))?))
+    }
+
+    /// The first comment with a requirement that is met so.
+    fn requirement<'x>(self, lines: &[&'x [u8]], met: Option<bool>) -> Option<Note<'x>> {
+        let mut done = 0;
+        for _ in 0..lines.len() {
+            let note = note_behind(lines, "# requires:", done)?;
+            if self.meets(note.text) == met {
+                return Some(note);
             }
+            done = note.line as usize;
         }
+        None
     }
 
     /// Whether it has what a text requires, as `devices 2` or `host 1M`; `None` where that is unknown.

@@ -55,20 +55,20 @@ pub fn first_words(alloc: Global, text: &str) -> Result<Vec<&str>, AllocError> {
     Ok(words)
 }
 
-/// The comments that begin with a heading, by rising lines.
-pub fn notes_in<'a>(
-    alloc: Global,
-    lines: &[&'a [u8]],
-    heading: &str,
-) -> Result<Vec<Note<'a>>, AllocError> {
-    let mut notes = Vec::new(alloc);
-    for (index, line) in lines.iter().enumerate() {
-        if let Some(text) = text_behind(*line, heading) {
-            let line = index.saturating_add(1) as u64;
-            notes.push(Note { line, text })?;
+/// The first comment that begins with a heading, behind so many lines.
+pub fn note_behind<'a>(lines: &[&'a [u8]], heading: &str, count: usize) -> Option<Note<'a>> {
+    for nth in count..lines.len() {
+        if let Some(text) = text_behind(line_at(lines, nth), heading) {
+            let line = nth.saturating_add(1) as u64;
+            return Some(Note { line, text });
         }
     }
-    Ok(notes)
+    None
+}
+
+/// The line of a number, counted from 0; an empty one where there are fewer.
+pub fn line_at<'a>(lines: &[&'a [u8]], nth: usize) -> &'a [u8] {
+    lines.get(nth).copied().unwrap_or(&[])
 }
 
 fn text_behind<'a>(line: &'a [u8], heading: &str) -> Option<&'a str> {

@@ -56,9 +56,9 @@ impl Report {
     }
 
     fn add_trial(&mut self, alloc: Global, name: &str, trial: &Trial) -> Result<(), Fault> {
+        let note = trial.note.whole()?;
         let wrong = lines_of(alloc, trial.wrong.whole()?)?;
         let warnings = lines_of(alloc, trial.warnings.as_slice())?;
-        let note = trial.note.whole()?;
         self.all = self.all.saturating_add(1);
         self.failed = self.failed.saturating_add(u64::from(trial.is_failed()));
         self.noted = self.noted.saturating_add(u64::from(!note.is_empty()));

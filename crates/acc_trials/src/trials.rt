@@ -1,6 +1,6 @@
 //! What came of a script as a test, by what it printed and what it had to print.
 
-use crate::notes::{lines_of, notes_in};
+use crate::notes::{line_at, lines_of, note_behind};
 use acc_base::Fault;
 use acc_read::Page;
 use std::alloc::{AllocError, Global};
@@ -92,9 +92,7 @@ pub struct Played<'a> {
 impl Played<'_> {
     /// Whether it has to fail.
     pub fn has_to_fail(self) -> bool {
-        self.lines
-            .iter()
-            .any(|line| line.starts_with(XFAIL.as_bytes()))
+        note_behind(self.lines, XFAIL, 0).is_some()
     }
 
     /// Why what it printed cannot be stored in the file that has this text; `None` where it can.
@@ -111,7 +109,16 @@ impl Played<'_> {
 
 /// Whether a script says itself what it has to print.
 fn is_marked(played: Played<'_>) -> bool {
-    played.lines.iter().any(|line| is_mark(*line))
+    count_marks(played.lines) > 0
+}
+
+/// How many of some lines say what has to be printed.
+fn count_marks(lines: &[&[u8]]) -> usize {
+    let mut count = 0usize;
+    for line in lines {
+        count = count.saturating_add(usize::from(is_mark(*line)));
+    }
+    count
 }
 
 /// Whether a line says what has to be printed. One that is indented differs from what stands there if it is blessed.
@@ -161,12 +168,13 @@ pub fn blessed(alloc: Global, played: Played<'_>) -> Page {
 
 /// Puts what was printed up to a line of the script, but for so many lines, and returns how many there are then.
 fn put_printed(page: &mut Page, played: Played<'_>, done: usize, number: u64) -> usize {
-    let places = played.places.get(done..).unwrap_or(&[]);
-    let lines = played.printed.get(done..).unwrap_or(&[]);
-    let pairs = places.iter().zip(lines.iter());
-    let count = pairs.take_while(|pair| *pair.0 <= number).count();
-    put_lines(page, "#> ", lines.get(..count).unwrap_or(&[]));
-    done.saturating_add(count)
+    for nth in done..played.printed.len() {
+        if number < played.places.get(nth).copied().unwrap_or(0) {
+            return nth;
+        }
+        put_line(page, "#> ", line_at(played.printed, nth));
+    }
+    played.printed.len()
 }
 
 /// Puts texts, one behind the other.
@@ -209,8 +217,7 @@ pub fn compared(
 
 /// What came of a script with this wrong, by whether it has to fail.
 fn judged(alloc: Global, played: Played<'_>, wrong: Page) -> Result<Trial, Fault> {
-    let notes = notes_in(alloc, played.lines, XFAIL)?;
-    match notes.first() {
+    match note_behind(played.lines, XFAIL, 0) {
         None => Trial::noted(alloc, &[], wrong),
         Some(note) if wrong.whole()?.is_empty() => {
             let told = "it passes, in spite of '# xfail:'";
@@ -229,22 +236,51 @@ fn difference(
     found: &[&[u8]],
 ) -> Page {
     let mut page = Page::new(alloc);
-    let pairs = wanted.iter().zip(found.iter());
-    let front = pairs.take_while(|pair| pair.0 == pair.1).count();
+    let front = same_front(wanted, found);
     if front < wanted.len().max(found.len()) {
-        let index = printed_before(played, found, front);
-        let place = place_of(played, found, front, index);
-        let statement = played.lines.get(place.wrapping_sub(1) as usize);
-        put_heading(&mut page, played.name, name, place, index.saturating_add(1));
-        put_diff(
-            &mut page,
-            front,
-            wanted,
-            found,
-            statement.copied().unwrap_or(&[]),
-        );
+        put_difference(&mut page, played, name, front, wanted, found);
     }
     page
+}
+
+/// How many of the first lines of two texts are the same.
+fn same_front(wanted: &[&[u8]], found: &[&[u8]]) -> usize {
+    let most = wanted.len().min(found.len());
+    for nth in 0..most {
+        if line_at(wanted, nth) != line_at(found, nth) {
+            return nth;
+        }
+    }
+    most
+}
+
+/// How many of the last lines of two texts are the same, behind so many first ones.
+fn same_back(front: usize, wanted: &[&[u8]], found: &[&[u8]]) -> usize {
+    let most = wanted.len().min(found.len()).saturating_sub(front);
+    for nth in 0..most {
+        let behind = nth.saturating_add(1);
+        let line = line_at(wanted, wanted.len().saturating_sub(behind));
+        if line != line_at(found, found.len().saturating_sub(behind)) {
+            return nth;
+        }
+    }
+    most
+}
+
+/// Puts how lines differ behind so many that are the same.
+fn put_difference(
+    page: &mut Page,
+    played: Played<'_>,
+    name: &str,
+    front: usize,
+    wanted: &[&[u8]],
+    found: &[&[u8]],
+) {
+    let index = printed_before(played, found, front);
+    let place = place_of(played, found, front, index);
+    let statement = line_at(played.lines, place.wrapping_sub(1) as usize);
+    put_heading(page, played.name, name, place, index.saturating_add(1));
+    put_diff(page, front, wanted, found, statement);
 }
 
 /// Puts the line of the script and the line of its output, and whose lines the piece behind has.
@@ -259,20 +295,28 @@ fn put_heading(page: &mut Page, script: &str, name: &str, place: u64, number: us
 /// The number of the line that printed a line of the output, or had to print one that is missing.
 fn place_of(played: Played<'_>, found: &[&[u8]], front: usize, index: usize) -> u64 {
     let place = if is_marked(played) {
-        let lines = found.get(..front).unwrap_or(&[]).iter().rev();
-        let marked = lines.take_while(|line| is_mark(*line)).count();
-        front.saturating_sub(marked) as u64
+        statement_before(found, front) as u64
     } else {
         played.places.get(index).copied().unwrap_or(1)
     };
     place.clamp(1, (played.lines.len() as u64).max(1))
 }
 
+/// The number of the last of the first lines of a script that does not say what has to be printed; 0 where all do.
+fn statement_before(lines: &[&[u8]], front: usize) -> usize {
+    for nth in 0..front {
+        let number = front.saturating_sub(nth);
+        if !is_mark(line_at(lines, number.saturating_sub(1))) {
+            return number;
+        }
+    }
+    0
+}
+
 /// How many of the first lines of a file were printed.
 fn printed_before(played: Played<'_>, found: &[&[u8]], front: usize) -> usize {
-    let lines = found.iter().take(front);
     if is_marked(played) {
-        lines.filter(|line| is_mark(*line)).count()
+        count_marks(found.get(..front).unwrap_or(found))
     } else {
         front
     }
@@ -281,12 +325,13 @@ fn printed_before(played: Played<'_>, found: &[&[u8]], front: usize) -> usize {
 /// Puts how lines differ, as `diff -U0` does, in one piece. Behind its place stands the statement that printed its
 /// first line.
 fn put_diff(page: &mut Page, front: usize, wanted: &[&[u8]], found: &[&[u8]], statement: &[u8]) {
-    let wanted = wanted.get(front..).unwrap_or(&[]);
-    let found = found.get(front..).unwrap_or(&[]);
-    let pairs = wanted.iter().rev().zip(found.iter().rev());
-    let back = pairs.take_while(|pair| pair.0 == pair.1).count();
-    let (wanted, _) = wanted.split_at(wanted.len().saturating_sub(back));
-    let (found, _) = found.split_at(found.len().saturating_sub(back));
+    let back = same_back(front, wanted, found);
+    let wanted = wanted
+        .get(front..wanted.len().saturating_sub(back))
+        .unwrap_or(&[]);
+    let found = found
+        .get(front..found.len().saturating_sub(back))
+        .unwrap_or(&[]);
     page.text("@@");
     put_piece(page, " -", front, wanted.len());
     put_piece(page, " +", front, found.len());

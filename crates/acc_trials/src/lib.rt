@@ -1,5 +1,5 @@
 //! Scripts as tests: the files that have them, scripts by chance, what their comments say, what came of them, and how
-//! that is told. No script is run here.
+//! that is told. No test is run here.
 #![tactic(auto)]
 
 mod chances;

@@ -2,9 +2,10 @@
 
 use crate::random_statements::Statements;
 use acc_base::{Config, Fault};
-use acc_read::{Page, Trouble, line_at};
-use acc_script::Session;
+use acc_read::Page;
+use acc_script::{Session, ToWrite, Unwatched, run_line};
 use std::alloc::Global;
+use std::io;
 use std::sync::Wait;
 use std::thread::Threads;
 
@@ -142,10 +143,10 @@ fn runs<R: Threads + Wait + Sync + AllocGlobal>(
     session: &mut Session,
     line: &[u8],
 ) -> Result<bool, Fault> {
-    let innermost = session.innermost();
-    match line_at(rt.alloc(), &session.arrays, session.device, innermost, line) {
-        Ok(statement) => Ok(!session.perform(rt, statement)?.is_refused()),
-        Err(Trouble::Memory) => Err(Fault::Memory),
-        Err(Trouble::Line(_)) => Ok(false),
+    let mut out = ToWrite::new(io::sink());
+    match run_line(rt, 1, session, line, &mut out, &mut Unwatched) {
+        Ok(is_refused) => Ok(!is_refused),
+        Err(Fault::Script { .. }) => Ok(false),
+        Err(fault) => Err(fault),
     }
 }

@@ -5,5 +5,4 @@
 mod drills;
 mod tools;
 
-pub use acc_lines::{Terminals, tell};
 pub use tools::{CLEAN, FAULTED, REFUSED, tool};

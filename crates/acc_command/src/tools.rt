@@ -3,15 +3,14 @@
 use crate::drills::run_drill;
 use acc_base::{Config, Fault};
 use acc_follow::first_difference;
-use acc_lines::{Terminals, tell};
-use acc_options::{Options, options_of, parsed_words};
 use acc_programs::{emit_all, emit_script, write_random, write_rows};
 use acc_runs::{
     Ends, Mishap, Shown, Told, keep_apart, limits, options_for, read_expected, read_file, run_text,
-    tell_difference, tell_mishap, tell_sizes, threads, use_script,
+    tell_difference, tell_mishap, tell_sizes, use_script,
 };
 use acc_script::{MemorySink, Sink, Source, Status, ToWrite, read_all, write_all};
 use acc_suites::Tester;
+use acc_terminal::{Options, Terminals, options_of, parsed_words, tell};
 use acc_trials::FileStore;
 use clap::Error;
 use clap::error::ErrorKind;
@@ -300,7 +299,13 @@ fn drill_threads<R: Threads + Wait + Sync + AllocGlobal, O: Sink>(
     rounds: u64,
     out: &mut O,
 ) -> Result<Status, Fault> {
-    run_drill(rt, out, config, threads(options), rounds.clamp(1, 1_000))?;
+    run_drill(
+        rt,
+        out,
+        config,
+        options.thread_count(),
+        rounds.clamp(1, 1_000),
+    )?;
     Ok(Status::Clean)
 }
 

@@ -4,12 +4,12 @@ use crate::programs::write_page;
 use acc_base::Fault;
 use acc_emit::{CHECK, EmitFault, Language, MAKEFILE, Origin, Reason, emit};
 use acc_follow::Page;
-use acc_options::Options;
 use acc_runs::{
     Ends, Mishap, Told, find_column, limits, options_for, read_expected, read_file, scripts_of,
     tell_mishap,
 };
 use acc_script::{Sink, Source, Status, read_all, write_all};
+use acc_terminal::Options;
 use acc_trials::{FileFault, FileStore};
 use std::alloc::Global;
 use std::sync::Wait;

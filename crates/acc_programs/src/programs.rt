@@ -3,9 +3,9 @@
 
 use acc_base::{Config, Fault};
 use acc_follow::{Page, RowCounts, count_rows};
-use acc_options::Options;
 use acc_runs::{Ends, Mishap, find_column, limits, options_for, read_file};
 use acc_script::{Sink, Status, write_all};
+use acc_terminal::Options;
 use acc_trials::{FileStore, random_script};
 use std::sync::Wait;
 use std::thread::Threads;

@@ -11,5 +11,5 @@ pub use paths::scripts_of;
 pub use picture_files::Shown;
 pub use runs::{
     Ends, Told, find_column, keep_apart, limits, options_for, read_expected, read_file, run_text,
-    threads, use_script,
+    use_script,
 };

@@ -2,8 +2,7 @@
 
 use acc_base::Fault;
 use acc_follow::{Frame, Page, PictureSink, Stop, Unkept};
-use acc_lines::Keeper;
-use acc_options::statements;
+use acc_terminal::Keeper;
 use acc_trials::{FileFault, FileStore};
 use std::alloc::Global;
 use std::cell::Cell;
@@ -46,10 +45,6 @@ impl<D: FileStore> PictureSink for PictureFiles<'_, D> {
 impl<D: FileStore> Keeper for PictureFiles<'_, D> {
     fn file(&self) -> Option<&str> {
         self.file
-    }
-
-    fn help(&self) -> &str {
-        statements()
     }
 
     fn save(&self, name: &str, script: &[u8]) -> Result<(), &'static str> {

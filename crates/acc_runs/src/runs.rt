@@ -1,14 +1,11 @@
 //! How a script is run with the options that it has.
 
-ghost use Rattle.std.specs.Prelude.{◌≤◌};
-
 use crate::endings::{Mishap, put_sizes};
 use crate::picture_files::PictureFiles;
 use acc_base::{Config, Fault};
 use acc_follow::{Beside, Frame, Page, Setting, Stop, Unkept, warnings_of};
-use acc_lines::run_script;
-use acc_options::{DEFAULT_THREADS, Options, with_first_line};
 use acc_script::{MemorySource, Sink, Source, Status, ToWrite, read_all, write_all};
+use acc_terminal::{Options, run_script, with_first_line};
 use acc_trials::{FileStore, put_texts};
 use clap::error::ErrorKind;
 use std::alloc::Global;
@@ -120,7 +117,7 @@ fn run_drawn<'x, R: Threads + Wait + Sync + AllocGlobal, S: Source, O: Sink, E: 
     let config = limits(options)?;
     let setting = Setting {
         config,
-        parts: threads(options),
+        parts: options.thread_count(),
         views: options.views(),
     };
     let beside = Beside {
@@ -202,13 +199,6 @@ pub fn limits(options: Options<'_>) -> Result<Config, Fault> {
         Some(true) => config.with_full_trace(),
         _ => config,
     })
-}
-
-/// The number of threads. The parser allows no number but 1 to 64; the contract shows that to the prover.
-pub fn threads(options: Options<'_>) -> usize
-    ensures { (1 ≤ result) × (result ≤ 64) }
-{
-    options.threads.unwrap_or(DEFAULT_THREADS).clamp(1, 64) as usize
 }
 
 /// Reads a file, which has to be there.

@@ -1,8 +1,9 @@
 //! What the program does over sources, sinks and files in memory: where one of them fails, and where memory cannot grow.
 //! How scripts end at limits that no option gives.
 
-use acc_command::{Terminals, tool};
+use acc_command::tool;
 use acc_script::{MemorySink, MemorySource, Sink, Source};
+use acc_terminal::Terminals;
 use acc_trials::{FileFault, FileStore};
 use std::alloc::{AllocError, Global};
 use std::fmt::Debug;

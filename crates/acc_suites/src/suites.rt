@@ -2,9 +2,9 @@
 
 use acc_base::Fault;
 use acc_follow::{Page, warnings_of};
-use acc_options::Options;
 use acc_runs::{Ends, Mishap, Told, options_for, run_text, scripts_of, tell_mishap};
 use acc_script::{MemorySink, Sink, Status, write_all};
+use acc_terminal::Options;
 use acc_trials::{
     BAIL_OUT, FileFault, FileStore, Played, Report, Trial, blessed, compared, expectation,
     lines_of, output_name,

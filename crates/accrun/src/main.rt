@@ -5,9 +5,9 @@
 mod words;
 
 use acc_base::Fault;
-use acc_command::{FAULTED, Terminals, tell, tool};
+use acc_command::{FAULTED, tool};
 use acc_script::{FromRead, ToWrite};
-use acc_streams::{Errors, Output, are_wanted};
+use acc_terminal::{Errors, Output, Terminals, are_wanted, tell};
 use acc_trials::Disk;
 use std::cell::Cell;
 use std::io::{BufWriter, IsTerminal};

@@ -1,8 +1,9 @@
 //! The words of the command line.
 
 use acc_base::Fault;
-use acc_command::{FAULTED, tell};
+use acc_command::FAULTED;
 use acc_script::{Sink, write_all};
+use acc_terminal::tell;
 use std::alloc::AllocError;
 use std::env::{self, Env};
 use std::io;

@@ -4,8 +4,8 @@ use super::worked::{
     ATTACHED, BY_LINE, COPYIN, ENDED_BLOCK, FINALIZED, KERNELS, SMALL_DEVICE, TOLD,
 };
 use super::{Row, run_at, run_script, same};
-use acc_command::Terminals;
 use acc_script::{MemorySource, ToWrite};
+use acc_terminal::Terminals;
 use std::alloc::{AllocError, Global};
 use std::process::Abort;
 use std::sync::Wait;

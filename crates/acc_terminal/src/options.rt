@@ -1,8 +1,10 @@
 //! The command line.
 
+ghost use Rattle.std.specs.Prelude.{◌≤◌};
+
+use crate::manners::{Manner, Terminals};
 use acc_emit::Language;
 use acc_follow::Views;
-use acc_lines::{Manner, Terminals};
 use acc_trials::{Machine, bytes_of, first_words, options_in};
 use clap::builder::ValueParser;
 use clap::error::ErrorKind;
@@ -18,7 +20,7 @@ const DEFAULT_SIZE: u64 = 65_536;
 const DEFAULT_DEVICES: u64 = 1;
 
 /// The default of `--threads`, of `--jobs` too.
-pub const DEFAULT_THREADS: u64 = 1;
+const DEFAULT_THREADS: u64 = 1;
 
 /// The default of `--events`.
 const DEFAULT_EVENTS: u64 = 262_144;
@@ -305,6 +307,13 @@ impl<'a> Options<'a> {
     /// How many events the trace may have.
     pub fn event_limit(self) -> u64 {
         self.events.unwrap_or(DEFAULT_EVENTS)
+    }
+
+    /// The number of threads. The parser allows no number but 1 to 64; the contract shows that to the prover.
+    pub fn thread_count(self) -> usize
+        ensures { (1 ≤ result) × (result ≤ 64) }
+    {
+        self.threads.unwrap_or(DEFAULT_THREADS).clamp(1, 64) as usize
     }
 
     /// What is shown beside what the script prints.

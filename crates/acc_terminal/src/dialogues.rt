@@ -7,6 +7,7 @@ use crate::fault_lines::tell_fault;
 use crate::histories::{Entry, History, Mark};
 use crate::line_readers::LineReader;
 use crate::manners::{Keeper, Manner};
+use crate::options::statements;
 use crate::prompt_words::Word;
 use acc_base::{Fault, ScriptFault};
 use acc_follow::{Beside, Follower, RanLine, Setting, Stop, follow};
@@ -236,7 +237,7 @@ impl Dialogue {
                 Ok(())
             }
             Word::Help => {
-                say(follower.err, follower.pictures.help().as_bytes());
+                say(follower.err, statements().as_bytes());
                 Ok(())
             }
         }

@@ -37,13 +37,10 @@ impl Manner {
     }
 }
 
-/// Keeps the pictures of a script, and what is typed, and knows what is told of it.
+/// Keeps the pictures of a script, and what is typed, and knows its file.
 pub trait Keeper: PictureSink {
     /// The name of the script's file, which stands in front of its faults; `None` for standard input.
     fn file(&self) -> Option<&str>;
-
-    /// What a prompt tells to whoever asks for help.
-    fn help(&self) -> &str;
 
     /// Keeps a script that was typed, as a file of this name.
     ///

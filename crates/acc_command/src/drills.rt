@@ -4,7 +4,8 @@ ghost use Rattle.std.specs.Prelude.{◌≡◌, ◌<◌, ◌≤◌};
 
 use acc_base::{Config, Fault};
 use acc_runtime::{Blanks, Drilled, Limited, Open, Runtime, blanks, drill};
-use acc_script::{Sink, write_all};
+use acc_script::{Sink, Status, write_all};
+use acc_terminal::Options;
 use arrayvec::ArrayString;
 use std::fmt::{self, Write};
 use std::marker::Brand;
@@ -12,25 +13,23 @@ use std::sync::Wait;
 use std::sync::ledger::Ledger;
 use std::thread::Threads;
 
-/// Runs a drill of `threads` threads with `rounds` rounds each on a new runtime, and writes the line of what it left.
+/// Runs a drill with so many rounds in each thread on a new runtime, and writes the line of what it left.
 ///
 /// # Errors
 ///
 /// Those of [`Runtime::new`] and [`drill`]; [`Fault::Write`] where the line cannot be written.
 pub fn run_drill<R: Threads + Wait + Sync + AllocGlobal, O: Sink>(
     rt: &R,
-    out: &mut O,
+    options: Options<'_>,
     config: Config,
-    threads: usize,
     rounds: u64,
-) -> Result<(), Fault>
-    requires threads { (0 < threads) × (threads ≤ 64) }
-    requires rounds { (0 < rounds) × (rounds ≤ 1000) }
-{
+    out: &mut O,
+) -> Result<Status, Fault> {
+    let (threads, rounds) = (options.thread_count(), rounds.clamp(1, 1_000));
     let blanks = blanks(&config);
     let left = drilled::<Brand, Brand, Brand, R>(rt, config, blanks, threads, rounds)?;
     if write_left(out, left) {
-        Ok(())
+        Ok(Status::Clean)
     } else {
         Err(Fault::Write)
     }

@@ -1,15 +1,17 @@
 //! The program, over any source, any two sinks and any store of files.
 
 use crate::drills::run_drill;
-use acc_base::{Config, Fault};
-use acc_follow::first_difference;
-use acc_programs::{emit_all, emit_script, write_random, write_rows};
-use acc_runs::{
-    Ends, Mishap, Shown, Told, keep_apart, limits, options_for, read_expected, read_file, run_text,
-    tell_difference, tell_mishap, tell_sizes, use_script,
+use crate::emissions::{emit_all, emit_script};
+use crate::endings::{Mishap, tell_difference, tell_mishap, tell_sizes};
+use crate::picture_files::Shown;
+use crate::programs::{write_random, write_rows};
+use crate::runs::{
+    Ends, Told, keep_apart, limits, options_for, read_expected, read_file, run_text, use_script,
 };
+use crate::suites::Tester;
+use acc_base::Fault;
+use acc_follow::first_difference;
 use acc_script::{MemorySink, Sink, Source, Status, ToWrite, read_all, write_all};
-use acc_suites::Tester;
 use acc_terminal::{Options, Terminals, options_of, parsed_words, tell};
 use acc_trials::FileStore;
 use clap::Error;
@@ -155,7 +157,7 @@ fn carried_out<
     let config = limits(options)?;
     keep_apart(ends.files, options)?;
     if let Some(rounds) = options.drill {
-        return Ok(drill_threads(rt, options, config, rounds, ends.out)?);
+        return Ok(run_drill(rt, options, config, rounds, ends.out)?);
     }
     if let Some(seed) = options.random {
         return write_random(rt, config, seed, options.lines, ends.out);
@@ -290,23 +292,6 @@ fn agreement<R: AllocGlobal, E: Sink>(
             Status::Refused
         }
     }
-}
-
-fn drill_threads<R: Threads + Wait + Sync + AllocGlobal, O: Sink>(
-    rt: &R,
-    options: Options<'_>,
-    config: Config,
-    rounds: u64,
-    out: &mut O,
-) -> Result<Status, Fault> {
-    run_drill(
-        rt,
-        out,
-        config,
-        options.thread_count(),
-        rounds.clamp(1, 1_000),
-    )?;
-    Ok(Status::Clean)
 }
 
 /// Writes what the parser returned. A fault of the command line goes to `err`; help and the version go to `out`.

@@ -1,8 +1,10 @@
 //! Scripts as tests: those of files and folders are run, and compared with what they have to print.
 
+use crate::endings::{Mishap, tell_mishap};
+use crate::paths::scripts_of;
+use crate::runs::{Ends, Told, options_for, run_text};
 use acc_base::Fault;
 use acc_follow::{Page, warnings_of};
-use acc_runs::{Ends, Mishap, Told, options_for, run_text, scripts_of, tell_mishap};
 use acc_script::{MemorySink, Sink, Status, write_all};
 use acc_terminal::Options;
 use acc_trials::{

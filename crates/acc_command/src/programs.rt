@@ -1,9 +1,10 @@
 //! What is written in place of what a script prints: a script by chance, and which rows of the clause tables scripts
 //! reach.
 
+use crate::endings::Mishap;
+use crate::runs::{Ends, find_column, limits, options_for, read_file};
 use acc_base::{Config, Fault};
 use acc_follow::{Page, RowCounts, count_rows};
-use acc_runs::{Ends, Mishap, find_column, limits, options_for, read_file};
 use acc_script::{Sink, Status, write_all};
 use acc_terminal::Options;
 use acc_trials::{FileStore, random_script};

@@ -1,13 +1,12 @@
 //! Scripts that are written as programs.
 
+use crate::endings::{Mishap, tell_mishap};
+use crate::paths::scripts_of;
 use crate::programs::write_page;
+use crate::runs::{Ends, Told, find_column, limits, options_for, read_expected, read_file};
 use acc_base::Fault;
 use acc_emit::{CHECK, EmitFault, Language, MAKEFILE, Origin, Reason, emit};
 use acc_follow::Page;
-use acc_runs::{
-    Ends, Mishap, Told, find_column, limits, options_for, read_expected, read_file, scripts_of,
-    tell_mishap,
-};
 use acc_script::{Sink, Source, Status, read_all, write_all};
 use acc_terminal::Options;
 use acc_trials::{FileFault, FileStore};

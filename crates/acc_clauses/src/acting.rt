@@ -15,7 +15,6 @@ ghost use Rattle.acc_clauses.specs.Acts.{CanAct, CanCount, CanBear, CanMove, Can
 use crate::acted::Acted;
 use crate::environments::Environment;
 use crate::pointers::aim_on;
-use crate::rows::{gives_bytes, queue_of, section_of};
 use crate::transfers::{move_bytes, transfer_at};
 use acc_base::{Counter, Item, RegionClause, Section, Step, Task, Transfer};
 use acc_dev::Device;
@@ -87,11 +86,7 @@ fn fill_later(
     ensures filled { IsFilledLater queue item block (beside environment.old host.old) (beside environment.new host.new) }
 {
     if queue.is_some() && item.clause.copies_in() {
-        let section = section_of(Task::Enter {
-            counter: Counter::Dynamic,
-            item,
-            queue,
-        });
+        let section = item.section.named(item.clause.is_attach());
         let t = Transfer {
             block,
             offset: 0,
@@ -121,11 +116,7 @@ fn bear(
     requires marked { AreMarked (beside environment.old host.old) }
     ensures acted { IsActedBy (Enter counter item queue) (Born block place) (beside environment.old host.old) (beside environment.new host.new) }
 {
-    let section = section_of(Task::Enter {
-        counter,
-        item,
-        queue,
-    });
+    let section = item.section.named(item.clause.is_attach());
     let copied = is_copied_now(item.clause, queue);
     environment.device.laws();
     make_block(&mut environment.device, host, copied, section, item.clause);
@@ -144,9 +135,9 @@ fn give_bytes(environment: &mut Environment, host: &mut HostMem, task: &Task, bl
     requires marked { AreMarked (beside environment.old host.old) }
     ensures given { IsGivenBy task.now block (beside environment.old host.old) (beside environment.new host.new) }
 {
-    if gives_bytes(*task) {
+    if task.gives_bytes() {
         let t = transfer_at(&environment.present, task, block);
-        move_bytes(environment, host, queue_of(*task), t);
+        move_bytes(environment, host, task.queue(), t);
     }
 }
 
@@ -203,7 +194,7 @@ fn update(environment: &mut Environment, host: &mut HostMem, task: &Task, block:
     ensures acted { IsActedBy task.now (Moved block) (beside environment.old host.old) (beside environment.new host.new) }
 {
     let t = transfer_at(&environment.present, task, block);
-    move_bytes(environment, host, queue_of(*task), t);
+    move_bytes(environment, host, task.queue(), t);
 }
 
 /// Does the step of a task. Its range is not searched for where it stands at the place.

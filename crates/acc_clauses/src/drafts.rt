@@ -11,7 +11,6 @@ use crate::acted::Acted;
 use crate::outlines::Outline;
 use crate::pointers::pointers_of;
 use crate::recent::Recent;
-use crate::rows::section_of;
 use crate::slates::Slate;
 use crate::spans::add_birth;
 use acc_base::{Aim, Section, Step};
@@ -68,7 +67,7 @@ fn tally(
 {
     match x.did.step {
         Step::Born { place, .. } => {
-            let len = section_of(x.task).len;
+            let len = x.task.section().len;
             lens.push(len);
             add_birth(spans, (place, len));
         }
@@ -130,7 +129,7 @@ impl Draft {
     {
         self.places[self.acts.as_slice().len()] = place;
         self.recent
-            .note(section_of(x.task).start, place_left(x.did.step, place));
+            .note(x.task.section().start, place_left(x.did.step, place));
         tally(
             &mut self.lens,
             &mut self.spans,

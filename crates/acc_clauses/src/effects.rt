@@ -4,7 +4,7 @@ ghost use Rattle.std.specs.Prelude.{◌≡◌, ◌+◌, ◌<◌, ◌≤◌, ◌^
 ghost use Rattle.acc_clauses.specs.Overlays.{recount, are_zero, counters_by, counters_over, found_beside, found_by, found_over, tasks_in, dids_in, puts_by, puts_in};
 
 use crate::acted::Acted;
-use crate::rows::{moves, queue_of, section_of};
+use crate::rows::moves;
 use acc_base::{Counter, Counters, Found, Section, Step, Task};
 
 /// The counters of a range that a task counts or drops.
@@ -114,7 +114,7 @@ fn found_by(section: Section, found: Found, x: Acted) -> Found
     ensures { result ≡ found_by section found x.task x.did.step }
 {
     match x.did.step {
-        Step::Born { block, .. } => found_beside(section, section_of(x.task), block, found),
+        Step::Born { block, .. } => found_beside(section, x.task.section(), block, found),
         _ => found,
     }
 }
@@ -135,7 +135,7 @@ fn puts_by(q: u64, x: Acted) -> u64
     ensures value { result ≡ puts_by q x.task x.did.step }
     ensures most { result ≤ 1 }
 {
-    if queue_of(x.task) == Some(q) && moves(x.task, x.did.step) {
+    if x.task.queue() == Some(q) && moves(x.task, x.did.step) {
         1
     } else {
         0

@@ -20,7 +20,7 @@ use crate::drafts::Draft;
 use crate::effects::{are_zero, recount};
 use crate::lending::not_lent;
 use crate::readings::{counters_after, locate_after, number_after, place_after, queue_len_after};
-use crate::rows::{moves, pointer_of, queue_of, section_of};
+use crate::rows::{moves, pointer_of};
 use crate::sections::{POINTER_LEN, pointer_at};
 use crate::views::View;
 use acc_base::{
@@ -68,7 +68,7 @@ fn pointer_checked(view: &View<'_>, n: u64, pointer: Option<u64>) -> Result<(), 
 fn checked(view: &View<'_>, n: u64, task: Task) -> Result<(), Fault>
     ensures { result ≡ checked view.now.limits n task }
 {
-    in_host(view, n, section_of(task))?;
+    in_host(view, n, task.section())?;
     pointer_checked(view, n, pointer_of(task))
 }
 
@@ -172,7 +172,7 @@ fn enter(
     match located.found {
         Found::Empty => Ok(Step::Nothing),
         Found::Inside { block, .. } => counted(view, draft, n, counter, block, located.range),
-        Found::Absent => enter_absent(view, draft, n, item.clause, section_of(task)),
+        Found::Absent => enter_absent(view, draft, n, item.clause, task.section()),
         Found::Partly => Err(Fault::PartlyPresent { item: n }),
     }
 }
@@ -293,7 +293,7 @@ pub(crate) fn judge_row(
             item,
             queue,
         } => {
-            let located = locate_after(view, draft, section_of(task));
+            let located = locate_after(view, draft, task.section());
             let step = enter(view, draft, n, counter, item, queue, located)?;
             Ok((step, located.place))
         }
@@ -303,7 +303,7 @@ pub(crate) fn judge_row(
             item,
             queue,
         } => {
-            let located = locate_after(view, draft, section_of(task));
+            let located = locate_after(view, draft, task.section());
             let step = exit(view, draft, n, finalize, item, queue, located)?;
             Ok((step, located.place))
         }
@@ -312,7 +312,7 @@ pub(crate) fn judge_row(
             item,
             ..
         } => {
-            let located = locate_after(view, draft, section_of(task));
+            let located = locate_after(view, draft, task.section());
             let step = copy(view, n, if_present, item, located.found)?;
             Ok((step, located.place))
         }
@@ -327,7 +327,7 @@ fn room_for(view: &View<'_>, draft: &Draft, task: Task, step: Step) -> Result<()
     requires known { queue_named (queue_of task) ≡ Ok tt }
     ensures { let w = records_after draft.now view.now.state.records in result ≡ room_for view.now.limits.queue_cap (queue_of task) (transfer_of task step w.ranges) w.queues }
 {
-    let Some(q) = queue_of(task) else {
+    let Some(q) = task.queue() else {
         return Ok(());
     };
     if moves(task, step) && view.queue_cap() <= queue_len_after(view, draft, q) {
@@ -342,7 +342,7 @@ fn block_needed(task: Task, step: Step) -> Option<u64>
 {
     match step {
         Step::Dropped { block, .. } => Some(block),
-        Step::Moved { block } if queue_of(task).is_none() => Some(block),
+        Step::Moved { block } if task.queue().is_none() => Some(block),
         _ => None,
     }
 }

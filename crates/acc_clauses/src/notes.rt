@@ -2,34 +2,11 @@
 
 ghost use Rattle.std.specs.Prelude.{List, ◌≡◌, ◌≤◌, [], length, vec_capacity, option_to_list};
 ghost use Rattle.acc_base.specs.Judge.{tasks_with};
-ghost use Rattle.acc_base.specs.Walk.{block_counted, pointer_attached};
 ghost use Rattle.acc_clauses.specs.Overlays.{tasks_in, dids_in};
 ghost use Rattle.acc_clauses.specs.Planned.{holding_by, holdings_by};
 
 use crate::acted::Acted;
-use acc_base::{Aim, Counter, Directive, Holding, Step, Task};
-
-// The block that a step counted.
-fn block_counted(step: Step) -> Option<u64>
-    ensures { result ≡ block_counted step }
-{
-    match step {
-        Step::Counted { block } => Some(block),
-        Step::Born { block, .. } => Some(block),
-        _ => None,
-    }
-}
-
-// The pointer that was attached, and the block that holds it.
-fn pointer_attached(aim: Aim) -> Option<(u64, u64)>
-    ensures { result ≡ pointer_attached aim }
-{
-    match aim {
-        Aim::New { pointer, block, .. } => Some((pointer, block)),
-        Aim::Again { pointer, block } => Some((pointer, block)),
-        _ => None,
-    }
-}
+use acc_base::{Counter, Directive, Holding, Task};
 
 // What a task holds that enters an item of a region.
 fn holding_by(x: &Acted) -> Option<Holding>
@@ -42,8 +19,8 @@ fn holding_by(x: &Acted) -> Option<Holding>
             ..
         } => Some(Holding {
             item,
-            block: block_counted(x.did.step),
-            aim: pointer_attached(x.did.aim),
+            block: x.did.step.block_counted(),
+            aim: x.did.aim.pointer_attached(),
         }),
         _ => None,
     }

@@ -8,7 +8,6 @@ ghost use Rattle.acc_clauses.specs.Overlays.{found_over, counters_over};
 ghost use Rattle.acc_clauses.specs.Outlined.{IsOutlined};
 
 use crate::acted::Acted;
-use crate::rows::section_of;
 use acc_base::{Section, Step};
 
 /// How many marks there are. A block is marked at its number modulo this.
@@ -42,7 +41,7 @@ impl Outline {
     {
         match x.did.step {
             Step::Born { block, .. } => {
-                self.widen(section_of(x.task));
+                self.widen(x.task.section());
                 self.mark(block);
             }
             Step::Counted { block } => self.mark(block),

@@ -2,7 +2,6 @@
 
 ghost use Rattle.std.specs.Prelude.{ℕ, ◌≡◌, ◌<◌, ◌≤◌, ◌^◌, MatchResult, OnOk, length, get_or, Ok, Err};
 ghost use Rattle.acc_base.specs.declared.tasks.Task.{Task};
-ghost use Rattle.acc_base.specs.Walk.{enter_data_task};
 ghost use Rattle.std.specs.List.{AllByRecursion};
 ghost use Rattle.acc_base.specs.Acting.{judge_all};
 ghost use Rattle.acc_base.specs.Queues.{queue_named};
@@ -16,23 +15,7 @@ use crate::items::judge;
 use crate::lending::transfers_free;
 use crate::plans::Plan;
 use crate::views::View;
-use acc_base::{Counter, Directive, EnterClause, Fault, Holding, Item, QUEUE_COUNT, Task};
-
-// The task of an item of `enter data`.
-fn enter_data_task(item: Item<EnterClause>, queue: Option<u64>) -> Task
-    ensures { result ≡ enter_data_task queue item }
-{
-    let item = Item {
-        clause: item.clause.as_region(),
-        section: item.section,
-        pointer: item.pointer,
-    };
-    Task::Enter {
-        counter: Counter::Dynamic,
-        item,
-        queue,
-    }
-}
+use acc_base::{Counter, Directive, Fault, Holding, QUEUE_COUNT, Task};
 
 /// Judges the tasks of a directive, of which there are `count`, each as if those before it had acted. The region that it
 /// leaves holds these. A closure tells the task at a place, counted from 0. There is one for each kind of directive, so
@@ -97,7 +80,7 @@ fn judge_all(
         }
         Directive::EnterData { items, queue, .. } => {
             let (items, queue) = (items.as_slice(), *queue);
-            let task = |n: usize| enter_data_task(items[n], queue);
+            let task = |n: usize| Task::of_enter_data(items[n], queue);
             judge_each(view, directive, holdings, items.len(), task, draft)
         }
         Directive::ExitData {

@@ -12,7 +12,6 @@ ghost use Rattle.acc_clauses.specs.Acts.{CanTransfer, CanPut, CanMoveBytes, CanS
 
 use crate::copies::{copy_in, copy_out, start_of};
 use crate::environments::Environment;
-use crate::rows::{goes_out, section_of};
 use acc_base::{Task, Transfer};
 use acc_host::HostMem;
 use acc_present::Present;
@@ -22,14 +21,14 @@ pub(crate) fn transfer_at(present: &Present, task: &Task, block: u64) -> Transfe
     requires { HasRange present.now.table block }
     ensures { result ≡ transfer_at task.now block present.now.table.ranges }
 {
-    let section = section_of(*task);
+    let section = task.section();
     let start = start_of(present, block);
     let offset = section.start.saturating_sub(start);
     Transfer {
         block,
         offset,
         section,
-        out: goes_out(*task),
+        out: task.goes_out(),
     }
 }
 

@@ -18,8 +18,8 @@ returns-in-Born c =
     let acts = c.args.acts.now in
     let place = c.in-Born.place in
     let spans = c.add_birth.new.spans in
-    drafted_birth acts c.args.x c.in-Born.block place _ _ c.args.spans.now spans c.args.ended.now c.requires.draft c.requires.few c.in-Born.is (rw c.section_of-len.ensures at c.push.ensures.items)
-    (subst (λ (s : Section). AreSpans (births_of acts ++ (place, s.len) ∷ []) spans) c.section_of-len.ensures (c.add_birth.ensures.spans (births_of acts) c.requires.draft.spans_are))
+    drafted_birth acts c.args.x c.in-Born.block place _ _ c.args.spans.now spans c.args.ended.now c.requires.draft c.requires.few c.in-Born.is (rw c.section-len.ensures at c.push.ensures.items)
+    (subst (λ (s : Section). AreSpans (births_of acts ++ (place, s.len) ∷ []) spans) c.section-len.ensures (c.add_birth.ensures.spans (births_of acts) c.requires.draft.spans_are))
     c.add_birth.ensures.few
 
 pub returns-then-over : goal.returns-then-over

@@ -33,12 +33,25 @@ impl Placed {
 pub struct Copied {
     /// The section of host memory.
     pub section: Section,
+    /// The number of the device.
+    pub device: u64,
     /// The device address of its first byte.
     pub place: u64,
     /// True for a copy from the device to host memory, false for one to the device.
     pub out: bool,
     /// The queue into which it was put, or `None` where it was made at once.
     pub queue: Option<u64>,
+}
+
+impl Copied {
+    /// The least of a number and that of its queue, if it waits on a device.
+    fn least(self, device: u64, number: Option<u64>) -> Option<u64> {
+        match (self.queue, number) {
+            (Some(own), Some(number)) if self.device == device => Some(own.min(number)),
+            (Some(own), None) if self.device == device => Some(own),
+            _ => number,
+        }
+    }
 }
 
 /// A block: the number of its device, and its own number there.
@@ -48,14 +61,13 @@ type BlockKey = (u64, u64);
 /// no memory for some of it.
 #[derive(Drop)]
 pub struct Account {
-    alloc: Global,
     /// The device that is read and changed.
     pub device: u64,
     /// The range of each block, by the device and then the block's number, from 1 on.
-    blocks: Vec<Vec<Placed>>,
+    blocks: [Vec<Placed>; 4],
     pointers: BTreeMap<(BlockKey, u64), u64>,
-    /// The copies that wait, with their devices.
-    waiting: Vec<(u64, Copied)>,
+    /// The copies that wait.
+    waiting: Vec<Copied>,
     regions: Vec<usize>,
     wants: bool,
 }
@@ -64,9 +76,13 @@ impl Account {
     /// Returns the account of a table without events, which reads the first device.
     pub fn new(alloc: Global) -> Account {
         Account {
-            alloc,
             device: 0,
-            blocks: Vec::new(alloc),
+            blocks: [
+                Vec::new(alloc),
+                Vec::new(alloc),
+                Vec::new(alloc),
+                Vec::new(alloc),
+            ],
             pointers: BTreeMap::new(alloc),
             waiting: Vec::new(alloc),
             regions: Vec::new(alloc),
@@ -80,25 +96,36 @@ impl Account {
     }
 
     /// Keeps the range of the next block of the device, which no item has counted yet.
-    pub fn map(&mut self, placed: Placed) {
-        for _ in self.blocks.len()..=self.device as usize {
-            self.wants |= self.blocks.push(Vec::new(self.alloc)).is_err();
-        }
+    pub fn map(&mut self, section: Section, block: u64, place: u64) {
+        let range = Range {
+            section,
+            block,
+            structured: 0,
+            dynamic: 0,
+        };
         if let Some(blocks) = self.blocks.get_mut(self.device as usize) {
-            self.wants |= blocks.push(placed).is_err();
+            self.wants |= is_lost(blocks, Placed { range, place });
+        }
+    }
+
+    /// The ranges of the blocks of the device.
+    #[inline(always)]
+    fn here(&self) -> &[Placed] {
+        match self.blocks.get(self.device as usize) {
+            Some(blocks) => blocks,
+            None => &[],
         }
     }
 
     /// Returns the range of a block of the device, by the block's number.
     #[inline(always)]
     pub fn block(&self, number: u64) -> Option<Placed> {
-        let blocks = self.blocks.get(self.device as usize)?;
-        blocks.get(number.saturating_sub(1) as usize).copied()
+        self.here().get(number.saturating_sub(1) as usize).copied()
     }
 
-    /// Keeps and returns what an item leaves of the range of a block that it counts or drops.
+    /// Keeps and returns what an item leaves of the range of a block that its step names.
     #[inline(always)]
-    pub fn recount(&mut self, number: u64, task: Task) -> Option<Placed> {
+    pub fn recount(&mut self, number: u64, task: &Task) -> Option<Placed> {
         let blocks = self.blocks.get_mut(self.device as usize)?;
         let placed = blocks.get_mut(number.saturating_sub(1) as usize)?;
         placed.range = task.recounted(placed.range);
@@ -107,10 +134,12 @@ impl Account {
 
     /// Returns whether a section is inside a range that is mapped. It goes through all ranges.
     pub fn has(&self, section: Section) -> bool {
-        let Some(blocks) = self.blocks.get(self.device as usize) else {
-            return false;
-        };
-        blocks.iter().any(|placed| placed.has(section))
+        for placed in self.here() {
+            if placed.has(section) {
+                return true;
+            }
+        }
+        false
     }
 
     /// Returns how often a pointer is attached in a block, by its host address and the block's number (OpenACC 3.3,
@@ -128,25 +157,27 @@ impl Account {
 
     /// Puts a copy at the end of its queue (OpenACC 3.3, section 2.16).
     pub fn put(&mut self, copied: Copied) {
-        self.wants |= self.waiting.push((self.device, copied)).is_err();
+        self.wants |= is_lost(&mut self.waiting, copied);
     }
 
-    /// Takes the first copy out of a queue, if one waits there.
+    /// Takes the first copy out of a queue of the device, if one waits there.
     pub fn take(&mut self, queue: u64) -> Option<Copied> {
-        let (device, queue) = (self.device, Some(queue));
-        let is_in = |w: &(u64, Copied)| w.0 == device && w.1.queue == queue;
-        let nth = self.waiting.iter().position(is_in)?;
-        if nth < self.waiting.len() {
-            return Some(self.waiting.remove(nth).1);
+        for nth in 0..self.waiting.len() {
+            let copied = self.waiting[nth];
+            if copied.device == self.device && copied.queue == Some(queue) {
+                return Some(self.waiting.remove(nth));
+            }
         }
         None
     }
 
     /// Returns the least number of a queue of the device in which copies wait.
     pub fn first_queue(&self) -> Option<u64> {
-        let device = self.device;
-        let here = self.waiting.iter().filter(|w| w.0 == device);
-        here.filter_map(|w| w.1.queue).min()
+        let mut least = None;
+        for copied in &self.waiting {
+            least = copied.least(self.device, least);
+        }
+        least
     }
 
     /// Returns how many copies wait, on all devices.
@@ -156,11 +187,16 @@ impl Account {
 
     /// Keeps that a region is open, by the place of its entry in the trace.
     pub fn open(&mut self, at: usize) {
-        self.wants |= self.regions.push(at).is_err();
+        self.wants |= is_lost(&mut self.regions, at);
     }
 
     /// Drops the innermost region, and returns the place of its entry in the trace.
     pub fn close(&mut self) -> Option<usize> {
         self.regions.pop()
     }
+}
+
+/// Adds one to others; returns whether there was no memory for it.
+fn is_lost<T: Drop>(all: &mut Vec<T>, one: T) -> bool {
+    all.push(one).is_err()
 }

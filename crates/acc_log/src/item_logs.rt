@@ -3,69 +3,40 @@
 ghost use Rattle.std.specs.Prelude.{◌≤◌, length};
 
 use crate::accounts::{Copied, Placed};
-use crate::log_items::LogItem;
-use crate::log_lines::{
-    put_absent, put_empty, put_ended, put_item_copy, put_pointer, put_range, put_skipped,
-};
+use crate::log_lines::{Tail, put_empty, put_mark, put_pointer, put_tail};
 use crate::logs::Log;
-use acc_base::{Aim, Found, Holding, Range, Section, Step, Task};
+use crate::rows::{reach_item, reach_pointer};
+use acc_base::{Aim, Did, Found, Holding, Section, Step, Task};
 use acc_read::Names;
+use acc_script::Line;
+use acc_table::Table;
+
+/// An item of a directive, for every directive alike.
+#[derive(Clone, Copy)]
+pub struct LogItem<'a> {
+    /// The table that its event left.
+    pub table: &'a Table,
+    /// Its place in the directive, counted from 0.
+    pub place: usize,
+    /// What it asked.
+    pub task: Task,
+    /// What it did.
+    pub did: Did,
+}
 
 impl Log {
     /// Puts the lines of an item: its pointer, its copy, its mapping, in the order in which it did something to them.
-    #[inline(always)]
     pub(crate) fn tell_item(&mut self, names: &Names, item: &LogItem<'_>) {
         match item.task {
-            Task::Enter { .. } => self.tell_enter(names, item),
-            Task::ExitRegion { holding } => self.tell_holding(names, item, &holding),
-            Task::ExitData { .. } => {
+            Task::Enter { .. } => {
+                self.tell_step(names, item);
                 self.tell_aim(names, item);
-                self.tell_drop(names, item);
             }
-            Task::Move { .. } => self.tell_move(names, item),
-        }
-    }
-
-    fn tell_enter(&mut self, names: &Names, item: &LogItem<'_>) {
-        match item.did.step {
-            Step::Born { block, place } => self.tell_birth(names, item, block, place),
-            Step::Counted { block } => self.tell_counted(names, item, block),
-            _ => self.tell_nothing(names, item),
-        }
-        self.tell_aim(names, item);
-    }
-
-    fn tell_birth(&mut self, names: &Names, item: &LogItem<'_>, block: u64, place: u64) {
-        let range = Range {
-            section: item.task.section(),
-            block,
-            structured: 0,
-            dynamic: 0,
-        };
-        self.account.map(Placed { range, place });
-        self.totals.mapped = self.totals.mapped.saturating_add(1);
-        self.reach_item(&item.task, "absent");
-        if let Some(left) = self.account.recount(block, item.task) {
-            put_range(&mut self.page, names, &mut self.texts, item, "mapped", left);
-            self.tell_copy(names, item, left);
-        }
-    }
-
-    fn tell_counted(&mut self, names: &Names, item: &LogItem<'_>, block: u64) {
-        let Some(left) = self.account.recount(block, item.task) else {
-            return;
-        };
-        self.reach_item(&item.task, "inside");
-        put_range(
-            &mut self.page,
-            names,
-            &mut self.texts,
-            item,
-            "counted",
-            left,
-        );
-        if item.task.gets_bytes() {
-            put_skipped(&mut self.page, names, &self.texts, item, "present");
+            Task::ExitRegion { holding } => self.tell_holding(names, item, &holding),
+            _ => {
+                self.tell_aim(names, item);
+                self.tell_step(names, item);
+            }
         }
     }
 
@@ -74,80 +45,83 @@ impl Log {
         if holding.aim.is_some() {
             self.tell_aim(names, item);
             if matches!(item.did.aim, Aim::None) {
-                self.reach_pointer(&item.task, "gone");
+                reach_pointer(&mut self.rows, &item.task, "gone");
             }
         }
-        if holding.block.is_none() {
-            self.reach_item(&item.task, "nothing");
+        if holding.block.is_some() {
+            self.tell_step(names, item);
         } else {
-            self.tell_drop(names, item);
+            reach_item(&mut self.rows, &item.task, "nothing");
         }
     }
 
-    /// Puts the lines of an item that leaves: its copy, and its mapping, which ended or was counted once less.
-    #[inline(always)]
-    fn tell_drop(&mut self, names: &Names, item: &LogItem<'_>) {
-        let Step::Dropped { block, ended } = item.did.step else {
-            self.tell_nothing(names, item);
-            return;
-        };
-        let Some(left) = self.account.recount(block, item.task) else {
-            return;
-        };
-        self.reach_item(&item.task, way_out(item.task, ended));
-        if ended {
-            self.tell_copy(names, item, left);
-            self.totals.ended = self.totals.ended.saturating_add(1);
-            put_ended(&mut self.page, names, item, left);
-            return;
+    /// Puts what an item did to a mapping and to bytes.
+    fn tell_step(&mut self, names: &Names, item: &LogItem<'_>) {
+        match item.did.step {
+            Step::Nothing => self.tell_nothing(names, item),
+            Step::Born { block, place } => {
+                self.account.map(item.task.section(), block, place);
+                self.tell_left(names, item, block);
+            }
+            Step::Counted { block } | Step::Dropped { block, .. } | Step::Moved { block } => {
+                self.tell_left(names, item, block)
+            }
         }
-        if item.task.gives_bytes() {
-            put_skipped(&mut self.page, names, &self.texts, item, "held");
-        }
-        put_range(
-            &mut self.page,
-            names,
-            &mut self.texts,
-            item,
-            "dropped",
-            left,
-        );
     }
 
-    /// Puts the lines of an item of `update`.
-    fn tell_move(&mut self, names: &Names, item: &LogItem<'_>) {
-        let Step::Moved { block } = item.did.step else {
-            self.tell_nothing(names, item);
+    /// Puts the lines of an item's mapping, with the counters that it left, and of its copy.
+    fn tell_left(&mut self, names: &Names, item: &LogItem<'_>, block: u64) {
+        let (task, section) = (&item.task, item.task.section());
+        let Some(left) = self.account.recount(block, task) else {
             return;
         };
-        if let Some(found) = self.account.block(block) {
-            self.reach_item(&item.task, "inside");
-            self.tell_copy(names, item, found);
+        reach_item(&mut self.rows, task, way_of(task, item.did.step));
+        self.totals.count(item.did.step);
+        let nth = Some(item.place);
+        match item.did.step {
+            Step::Born { .. } => {
+                self.put_range(names, nth, "mapped", left);
+                self.tell_copy(names, item, left);
+            }
+            Step::Counted { .. } => {
+                self.put_range(names, nth, "counted", left);
+                if task.gets_bytes() {
+                    self.put(names, nth, "skipped in", section, None, Tail::Present);
+                }
+            }
+            Step::Dropped { ended: true, .. } => {
+                self.tell_copy(names, item, left);
+                let place = Some(left.place);
+                self.put(names, nth, "ended", left.range.section, place, Tail::None);
+            }
+            Step::Dropped { .. } => {
+                if task.gives_bytes() {
+                    self.put(names, nth, "skipped out", section, None, Tail::Held);
+                }
+                self.put_range(names, nth, "dropped", left);
+            }
+            _ => self.tell_copy(names, item, left),
         }
     }
 
     /// Puts the line of an item that did nothing. The section is empty or absent, or nothing of `enter data` counts it.
     /// An item of `attach` or `detach` names none, and gets no line.
     fn tell_nothing(&mut self, names: &Names, item: &LogItem<'_>) {
-        if item.task.names_pointer() {
+        let (task, section) = (&item.task, item.task.section());
+        if task.names_pointer() {
             return;
         }
-        self.reach_pointer(&item.task, "nothing");
-        let section = item.task.section();
+        reach_pointer(&mut self.rows, task, "nothing");
         if section.len == 0 {
-            self.reach_item(&item.task, "empty");
-            put_empty(&mut self.page, item);
-            return;
-        }
-        match self.found(item, section) {
-            Some(found) => {
-                self.reach_item(&item.task, "inside, uncounted");
-                put_range(&mut self.page, names, &mut self.texts, item, "kept", found);
-            }
-            None => {
-                self.reach_item(&item.task, "absent");
-                put_absent(&mut self.page, names, item, section);
-            }
+            reach_item(&mut self.rows, task, "empty");
+            put_empty(&mut self.page, item.place);
+        } else if let Some(found) = self.found(item, section) {
+            reach_item(&mut self.rows, task, "inside, uncounted");
+            self.put_range(names, Some(item.place), "kept", found);
+        } else {
+            reach_item(&mut self.rows, task, "absent");
+            let nth = Some(item.place);
+            self.put(names, nth, "absent", section, None, Tail::None);
         }
     }
 
@@ -161,61 +135,90 @@ impl Log {
 
     /// Puts the line of an item's copy, if its step has one: made at once, or put into its queue.
     fn tell_copy(&mut self, names: &Names, item: &LogItem<'_>, placed: Placed) {
-        if !item.task.copies(item.did.step) {
-            return;
-        }
         let section = item.task.section();
-        let copied = Copied {
-            section,
-            place: placed.place_of(section.start),
-            out: item.task.goes_out(),
-            queue: item.task.queue(),
-        };
-        match copied.queue {
-            Some(_) => self.account.put(copied),
-            None => self.totals.copied(copied.out, section.len),
+        if item.task.copies(item.did.step) {
+            let copied = Copied {
+                section,
+                device: self.account.device,
+                place: placed.place_of(section.start),
+                out: item.task.goes_out(),
+                queue: item.task.queue(),
+            };
+            self.put_copy(names, Some(item.place), copied, copied.queue.is_some());
         }
-        put_item_copy(&mut self.page, names, item, copied);
+    }
+
+    /// Puts the line of a copy that was put into its queue, or made.
+    pub(crate) fn put_copy(
+        &mut self,
+        names: &Names,
+        item: Option<usize>,
+        copied: Copied,
+        is_put: bool,
+    ) {
+        if is_put {
+            self.account.put(copied);
+        } else {
+            self.totals.copied(copied.out, copied.section.len);
+        }
+        let (word, tail) = (copy_word(is_put, copied.out), tail_of(copied.queue));
+        self.put(names, item, word, copied.section, Some(copied.place), tail);
+    }
+
+    /// Puts the line of a mapped range with its counters.
+    fn put_range(&mut self, names: &Names, item: Option<usize>, word: &str, placed: Placed)
+        requires short { length word.now ≤ 11 }
+    {
+        self.texts.note(names, placed);
+        let range = placed.range;
+        let tail = Tail::Counters(range.structured, range.dynamic);
+        self.put(names, item, word, range.section, Some(placed.place), tail);
+    }
+
+    /// Puts a line of a section: its word, behind the place of the item if there is one, and its addresses.
+    #[inline(always)]
+    pub(crate) fn put(
+        &mut self,
+        names: &Names,
+        item: Option<usize>,
+        word: &str,
+        section: Section,
+        place: Option<u64>,
+        tail: Tail,
+    )
+        requires short { length word.now ≤ 11 }
+    {
+        let mut line = Line::new();
+        self.texts.put_name(&mut line, names, section);
+        put_tail(&mut line, tail);
+        self.texts.put_front(&mut line, section, place);
+        put_mark(&mut line, item, word);
+        self.page.bytes(line.as_slice());
     }
 
     /// Puts what an item did to its pointer, and keeps how often that is attached now.
     #[inline(always)]
     fn tell_aim(&mut self, names: &Names, item: &LogItem<'_>) {
-        if !matches!(item.did.aim, Aim::None) || item.task.names_pointer() {
-            self.tell_pointer(names, item);
+        if let Some((pointer, block)) = aimed(item.did.aim) {
+            self.tell_pointer(names, item, pointer, block);
+        } else if item.task.names_pointer() {
+            self.tell_no_aim(names, item);
         }
     }
 
-    fn tell_pointer(&mut self, names: &Names, item: &LogItem<'_>) {
+    fn tell_pointer(&mut self, names: &Names, item: &LogItem<'_>, pointer: u64, block: u64) {
         let aim = item.did.aim;
-        let (pointer, block, target) = match aim {
-            Aim::None => {
-                self.tell_no_aim(names, item);
-                return;
-            }
-            Aim::New {
-                pointer,
-                block,
-                target,
-            } => (pointer, block, Some(target)),
-            Aim::Again { pointer, block }
-            | Aim::Less { pointer, block }
-            | Aim::Cleared { pointer, block } => (pointer, block, None),
-        };
         let was = self.account.attached(block, pointer);
-        let count = count_after(aim, was);
-        self.reach_pointer(&item.task, way_aimed(aim, was));
+        let (count, way) = left_by(aim, was);
+        reach_pointer(&mut self.rows, &item.task, way);
         self.account.attach(block, pointer, count);
-        let word = aim_word(aim);
-        put_pointer(
-            &mut self.page,
-            names,
-            item,
-            word,
-            pointer,
-            target,
-            Some(count),
-        );
+        let (word, target) = match aim {
+            Aim::New { target, .. } => ("attached", Some(target)),
+            Aim::Again { .. } => ("attached", None),
+            _ => ("detached", None),
+        };
+        let aimed = (pointer, target, Some(count));
+        put_pointer(&mut self.page, names, item.place, word, aimed);
     }
 
     /// Puts the line of a clause that is of pointers alone, where its item did nothing.
@@ -223,60 +226,83 @@ impl Log {
         let start = item.task.section().start;
         if self.rows.is_some() {
             let is_there = self.account.has(Section { start, len: 8 });
-            self.reach_pointer(&item.task, way_unaimed(item.task, is_there));
+            reach_pointer(
+                &mut self.rows,
+                &item.task,
+                way_unaimed(&item.task, is_there),
+            );
         }
-        put_pointer(&mut self.page, names, item, "unattached", start, None, None);
+        let aimed = (start, None, None);
+        put_pointer(&mut self.page, names, item.place, "unattached", aimed);
     }
 }
 
-/// What became of a mapping that an item counted down, as the rows name it.
-fn way_out(task: Task, ended: bool) -> &'static str {
-    match (task, ended) {
-        (Task::ExitRegion { .. }, true) => "ends",
-        (Task::ExitRegion { .. }, false) => "stays",
-        (_, true) => "inside, ends",
-        (_, false) => "inside, stays",
+/// The word of a copy that was put into a queue or made, out of the device or into it.
+fn copy_word(is_put: bool, out: bool) -> &'static str
+    ensures { length result.now ≤ 11 }
+{
+    match (is_put, out) {
+        (true, true) => "put out",
+        (true, false) => "put in",
+        (false, true) => "copied out",
+        (false, false) => "copied in",
     }
 }
 
-/// What became of a pointer that was attached so often, as the rows name it.
-fn way_aimed(aim: Aim, was: u64) -> &'static str {
-    match aim {
-        Aim::New { .. } if was > 0 => "another target",
-        Aim::New { .. } => "new",
-        Aim::Again { .. } => "again",
-        Aim::Less { .. } if was > 1 => "one of more",
-        Aim::Cleared { .. } if was > 1 => "several",
-        _ => "last",
+/// What a line says of the queue of a copy.
+fn tail_of(queue: Option<u64>) -> Tail {
+    match queue {
+        Some(queue) => Tail::Queue(queue),
+        None => Tail::None,
+    }
+}
+
+/// What became of a mapping that an item named, as the rows name it.
+fn way_of(task: &Task, step: Step) -> &'static str {
+    let is_region = matches!(task, Task::ExitRegion { .. });
+    match step {
+        Step::Born { .. } => "absent",
+        Step::Dropped { ended: true, .. } if is_region => "ends",
+        Step::Dropped { ended: true, .. } => "inside, ends",
+        Step::Dropped { .. } if is_region => "stays",
+        Step::Dropped { .. } => "inside, stays",
+        _ => "inside",
     }
 }
 
 /// Why nothing became of a pointer that is or is not in a mapped range, as the rows name it.
-fn way_unaimed(task: Task, is_there: bool) -> &'static str {
-    match (is_there, task.goes_out()) {
-        (false, _) => "no pointer",
-        (true, false) => "no target",
-        (true, true) => "unattached",
+fn way_unaimed(task: &Task, is_there: bool) -> &'static str {
+    if !is_there {
+        "no pointer"
+    } else if task.goes_out() {
+        "unattached"
+    } else {
+        "no target"
     }
 }
 
-/// How often a pointer is attached that was attached so often.
-fn count_after(aim: Aim, was: u64) -> u64 {
+/// The pointer that an item attached or detached, and its block.
+#[inline(always)]
+fn aimed(aim: Aim) -> Option<(u64, u64)> {
     match aim {
-        Aim::None => was,
-        Aim::New { .. } => 1,
-        Aim::Again { .. } => was.saturating_add(1),
-        Aim::Less { .. } => was.saturating_sub(1),
-        Aim::Cleared { .. } => 0,
+        Aim::None => None,
+        Aim::New { pointer, block, .. }
+        | Aim::Again { pointer, block }
+        | Aim::Less { pointer, block }
+        | Aim::Cleared { pointer, block } => Some((pointer, block)),
     }
 }
 
-/// The word of what became of a pointer.
-fn aim_word(aim: Aim) -> &'static str
-    ensures { length result.now ≤ 10 }
-{
+/// How often a pointer is attached that was attached so often, and what became of it, as the rows name it.
+fn left_by(aim: Aim, was: u64) -> (u64, &'static str) {
     match aim {
-        Aim::New { .. } | Aim::Again { .. } => "attached",
-        _ => "detached",
+        Aim::None => (was, "last"),
+        Aim::New { .. } if was > 0 => (1, "another target"),
+        Aim::New { .. } => (1, "new"),
+        Aim::Again { .. } => (was.saturating_add(1), "again"),
+        Aim::Less { .. } if was > 1 => (was.saturating_sub(1), "one of more"),
+        Aim::Less { .. } => (0, "last"),
+        Aim::Cleared { .. } if was > 1 => (0, "several"),
+        Aim::Cleared { .. } => (0, "last"),
     }
 }

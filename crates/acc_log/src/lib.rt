@@ -4,11 +4,9 @@
 
 mod accounts;
 mod item_logs;
-mod log_items;
 mod log_lines;
 mod logs;
 mod rows;
-mod texts;
 mod totals;
 
 pub use logs::Log;

@@ -2,14 +2,11 @@
 //! Bytes are copied in to the device and copied out to host memory, in the words of OpenACC.
 
 use crate::accounts::Account;
-use crate::log_items::LogItem;
-use crate::log_lines::{
-    put_copied, put_device, put_head, put_inner, put_loan, put_refused, put_region, put_written,
-};
-use crate::rows::{RowCounts, RuleName, directive_of, has_pointer, has_readonly, modifier_of};
-use crate::texts::Texts;
-use crate::totals::{Totals, put_total};
-use acc_base::{Event, Fault, Section, Task};
+use crate::item_logs::LogItem;
+use crate::log_lines::{Tail, Texts, put_head, put_inner, put_refused, put_region};
+use crate::rows::{RowCounts, has_readonly, reach, reach_item};
+use crate::totals::{REFUSED, Totals, WAITING};
+use acc_base::{Did, Event, Fault, Section, Task};
 use acc_read::{Names, Page, Statement};
 use acc_script::Effect;
 use acc_table::Table;
@@ -31,9 +28,7 @@ pub struct Log {
     /// How many events of the trace are in the log.
     told: usize,
     /// The section that the kernel that runs is lent, and its device address.
-    lent: Option<(Section, u64)>,
-    /// Whether the statement has the modifier `readonly`.
-    readonly: bool,
+    lent: Option<(Section, Option<u64>)>,
 }
 
 impl Log {
@@ -47,7 +42,6 @@ impl Log {
             totals: Totals::new(),
             told: 0,
             lent: None,
-            readonly: false,
         }
     }
 
@@ -66,9 +60,10 @@ impl Log {
         table: &Table,
         effect: Effect,
     ) -> Result<(), Fault> {
-        let trace = table.trace();
-        self.readonly = self.rows.is_some() && has_readonly(text);
-        if self.told < trace.len() || is_outcome(effect) {
+        if let Some(rows) = &mut self.rows {
+            rows.readonly = has_readonly(text);
+        }
+        if self.told < table.trace().len() || is_outcome(effect) {
             put_head(&mut self.page, number, text);
             self.tell_device(table);
             self.tell_events(names, table);
@@ -82,92 +77,44 @@ impl Log {
 
     /// Puts the last line: how much was done in all, and how many copies wait still.
     pub fn tell_total(&mut self) {
-        let waiting = self.account.waiting() as u64;
-        put_total(&mut self.page, &self.totals, waiting);
+        self.totals.add(WAITING, self.account.waiting() as u64);
+        self.totals.put(&mut self.page);
     }
 
     /// Counts the row of a statement that was refused.
     pub fn count_refused(&mut self, statement: &Statement<'_>, fault: Fault) {
-        let (place, outcome) = match fault {
-            Fault::PartlyPresent { item } => (item, "partly present"),
-            Fault::NotPresent { item } => (item, "absent"),
-            _ => {
-                self.reach("refused", fault.name());
-                return;
-            }
-        };
+        match fault {
+            Fault::PartlyPresent { item } => self.count_item(statement, item, "partly present"),
+            Fault::NotPresent { item } => self.count_item(statement, item, "absent"),
+            _ => reach(&mut self.rows, "refused", fault.name()),
+        }
+    }
+
+    /// Counts the row of the item of a place for which a statement was refused.
+    fn count_item(&mut self, statement: &Statement<'_>, place: u64, outcome: &'static str) {
         match statement {
             Statement::Direct(directive) => {
                 if let Some(task) = &directive.task(place as usize) {
-                    self.reach_item(task, outcome);
+                    reach_item(&mut self.rows, task, outcome);
                 }
             }
-            Statement::Kernel { section, .. } if section.len == 0 => self.reach("kernel", "empty"),
-            _ => self.reach("kernel", outcome),
-        }
-    }
-
-    /// Counts the row of what became of an item, where rows are counted.
-    #[inline(always)]
-    pub(crate) fn reach_item(&mut self, task: &Task, outcome: &'static str) {
-        if self.rows.is_some() {
-            self.count_item(task, outcome);
-        }
-    }
-
-    fn count_item(&mut self, task: &Task, outcome: &'static str) {
-        let (directive, clause, modifier) = (directive_of(task), task.word(), modifier_of(task));
-        let is_queued = task.queue().is_some();
-        if is_queued {
-            self.reach_clause((directive, clause, "async"), outcome);
-        }
-        if self.readonly && clause == "copyin" {
-            self.reach_clause((directive, clause, "readonly"), outcome);
-        } else if !is_queued || !modifier.is_empty() {
-            self.reach_clause((directive, clause, modifier), outcome);
-        }
-    }
-
-    /// Counts the row of what became of the pointer of an item, where rows are counted.
-    #[inline(always)]
-    pub(crate) fn reach_pointer(&mut self, task: &Task, outcome: &'static str) {
-        if self.rows.is_some() {
-            self.count_pointer(task, outcome);
-        }
-    }
-
-    fn count_pointer(&mut self, task: &Task, outcome: &'static str) {
-        let (directive, clause, modifier) = (directive_of(task), task.word(), modifier_of(task));
-        if task.names_pointer() {
-            self.reach_clause((directive, clause, modifier), outcome);
-        } else if has_pointer(task) {
-            let clause = match *task {
-                Task::ExitRegion { .. } => "",
-                _ => clause,
-            };
-            let is_final = modifier == "finalize";
-            let via = if is_final { "via finalize" } else { "via" };
-            self.reach_clause((directive, clause, via), outcome);
-        }
-    }
-
-    /// Counts the row of a directive without a clause.
-    fn reach(&mut self, directive: &'static str, outcome: &'static str) {
-        self.reach_clause((directive, "", ""), outcome);
-    }
-
-    fn reach_clause(&mut self, rule: RuleName, outcome: &'static str) {
-        if let Some(rows) = &mut self.rows {
-            rows.reach(rule, outcome);
+            Statement::Kernel { section, .. } if section.len == 0 => {
+                reach(&mut self.rows, "kernel", "empty")
+            }
+            _ => reach(&mut self.rows, "kernel", outcome),
         }
     }
 
     /// Puts the line of the device, where there are several. All events of a statement are on one device, so one line
-    /// is enough.
+    /// is enough. A write of the host is on no device here, though its event names the first.
     fn tell_device(&mut self, table: &Table) {
-        let device = table.trace().get(self.told).and_then(device_of);
-        if let (true, Some(device)) = (table.config().devices() > 1, device) {
-            put_device(&mut self.page, device);
+        match table.trace().get(self.told) {
+            None | Some(Event::HostWritten { .. }) => {}
+            Some(event) => {
+                if table.config().devices() > 1 {
+                    put_region(&mut self.page, "device ", event.device());
+                }
+            }
         }
     }
 
@@ -184,11 +131,11 @@ impl Log {
     fn put_outcome(&mut self, effect: Effect) {
         match effect {
             Effect::EmptyQueue => {
-                self.reach("step", "none");
+                reach(&mut self.rows, "step", "none");
                 put_inner(&mut self.page, "idle");
             }
             Effect::Refused(fault) => {
-                self.totals.refused = self.totals.refused.saturating_add(1);
+                self.totals.add(REFUSED, 1);
                 put_refused(&mut self.page, fault);
             }
             _ => {}
@@ -204,22 +151,12 @@ impl Log {
                 put_region(&mut self.page, "entered region ", *number);
             }
             Event::Left { number, .. } => {
-                self.tell_exit(names, table, event);
+                self.tell_exit(names, table, event.did());
                 put_region(&mut self.page, "exited region ", *number);
             }
-            Event::EnteredData { .. } | Event::ExitedData { .. } | Event::Updated { .. } => {
-                self.tell_items(names, table, event)
-            }
-            _ => self.tell_short(names, event),
-        }
-    }
-
-    /// Puts the lines of an event that names no item.
-    fn tell_short(&mut self, names: &Names, event: &Event) {
-        match event {
             Event::Waited { queue, count, .. } => self.tell_waited(names, *queue, *count),
             Event::Stepped { queue, .. } => {
-                self.reach("step", "some");
+                reach(&mut self.rows, "step", "some");
                 self.tell_made(names, *queue);
             }
             Event::HostWritten { addr, len, .. } => {
@@ -227,7 +164,7 @@ impl Log {
                     start: *addr,
                     len: *len,
                 };
-                put_written(&mut self.page, names, section);
+                self.put(names, None, "wrote", section, None, Tail::None);
             }
             Event::Lent {
                 section,
@@ -236,42 +173,46 @@ impl Log {
                 ..
             } => self.tell_lent(names, *section, *block, *serial),
             Event::Gathered { serial, .. } => self.tell_gathered(names, *serial),
-            _ => {}
+            _ => self.tell_items(names, table, event),
         }
     }
 
     /// Puts the lines of the items that an event names.
     fn tell_items(&mut self, names: &Names, table: &Table, event: &Event) {
-        for (place, did) in event.did().iter().enumerate() {
-            if let Some(task) = event.task(place) {
-                let did = *did;
-                let item = LogItem {
-                    table,
-                    place,
-                    task,
-                    did,
-                };
-                self.tell_item(names, &item);
-            }
+        let did = event.did();
+        for place in 0..did.len() {
+            self.tell_task(names, table, place, event.task(place), did.get(place));
         }
     }
 
     /// Puts the lines of the items of `end data`, the last one first.
-    fn tell_exit(&mut self, names: &Names, table: &Table, event: &Event) {
-        let Some(entry) = self.account.close().and_then(|at| table.trace().get(at)) else {
-            return;
-        };
-        for (place, did) in event.did().iter().enumerate().rev() {
-            if let Some(task) = entry.exit_task(place) {
-                let did = *did;
-                let item = LogItem {
-                    table,
-                    place,
-                    task,
-                    did,
-                };
-                self.tell_item(names, &item);
+    fn tell_exit(&mut self, names: &Names, table: &Table, did: &[Did]) {
+        let at = self.account.close().unwrap_or(usize::MAX);
+        if let Some(entry) = table.trace().get(at) {
+            for back in 1..=did.len() {
+                let place = did.len().saturating_sub(back);
+                self.tell_task(names, table, place, entry.exit_task(place), did.get(place));
             }
+        }
+    }
+
+    fn tell_task(
+        &mut self,
+        names: &Names,
+        table: &Table,
+        place: usize,
+        task: Option<Task>,
+        did: Option<&Did>,
+    ) {
+        if let (Some(task), Some(did)) = (task, did) {
+            let did = *did;
+            let item = LogItem {
+                table,
+                place,
+                task,
+                did,
+            };
+            self.tell_item(names, &item);
         }
     }
 
@@ -282,46 +223,52 @@ impl Log {
         } else {
             "wait"
         };
-        self.reach(directive, if count > 0 { "some" } else { "none" });
+        reach(
+            &mut self.rows,
+            directive,
+            if count > 0 { "some" } else { "none" },
+        );
         if count == 0 {
             put_inner(&mut self.page, "idle");
         }
         for _ in 0..count {
-            if let Some(queue) = queue.or(self.account.first_queue()) {
-                self.tell_made(names, queue);
-            }
+            self.tell_next(names, queue);
+        }
+    }
+
+    fn tell_next(&mut self, names: &Names, queue: Option<u64>) {
+        if let Some(queue) = queue.or(self.account.first_queue()) {
+            self.tell_made(names, queue);
         }
     }
 
     fn tell_made(&mut self, names: &Names, queue: u64) {
         if let Some(copied) = self.account.take(queue) {
-            self.totals.copied(copied.out, copied.section.len);
-            put_copied(&mut self.page, names, copied);
+            self.put_copy(names, None, copied, false);
         }
     }
 
     fn tell_lent(&mut self, names: &Names, section: Section, block: u64, serial: u64) {
         if let Some(found) = self.account.block(block) {
-            let place = found.place_of(section.start);
+            let place = Some(found.place_of(section.start));
             self.lent = Some((section, place));
-            self.reach("kernel", "inside");
-            put_loan(&mut self.page, names, "lent", section, place, serial);
+            reach(&mut self.rows, "kernel", "inside");
+            self.put(names, None, "lent", section, place, Tail::Serial(serial));
         }
     }
 
     fn tell_gathered(&mut self, names: &Names, serial: u64) {
         if let Some((section, place)) = self.lent {
             self.lent = None;
-            put_loan(&mut self.page, names, "gathered", section, place, serial);
+            self.put(
+                names,
+                None,
+                "gathered",
+                section,
+                place,
+                Tail::Serial(serial),
+            );
         }
-    }
-}
-
-/// The device of an event. A write of the host is on no device here, though its event names the first.
-fn device_of(event: &Event) -> Option<u64> {
-    match event {
-        Event::HostWritten { .. } => None,
-        _ => Some(event.device()),
     }
 }
 

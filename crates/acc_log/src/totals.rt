@@ -1,70 +1,70 @@
 //! How much was done in all.
 
 use crate::log_lines::MARK;
+use acc_base::Step;
 use acc_read::Page;
 
-/// How many mappings were made and ended, how many copies were made each way with their bytes, and how many statements
-/// were refused.
+/// What stands before each total, in the order of the last line of a log.
+const WORDS: [&str; 8] = [
+    " mapped ",
+    " ended ",
+    " copied in ",
+    " bytes ",
+    " copied out ",
+    " bytes ",
+    " waiting ",
+    " refused ",
+];
+
+/// The total of statements that were refused.
+pub const REFUSED: usize = 7;
+
+/// The total of copies that wait in queues.
+pub const WAITING: usize = 6;
+
+/// How many mappings were made and ended, how many copies were made each way with their bytes, how many copies wait, and
+/// how many statements were refused.
 #[derive(Clone, Copy)]
-pub struct Totals {
-    /// Mappings that were made.
-    pub mapped: u64,
-    /// Mappings that ended.
-    pub ended: u64,
-    /// Copies from host memory to the device.
-    pub copies_in: u64,
-    /// The bytes that they copied.
-    pub bytes_in: u64,
-    /// Copies from the device to host memory.
-    pub copies_out: u64,
-    /// The bytes that they copied.
-    pub bytes_out: u64,
-    /// Statements that were refused.
-    pub refused: u64,
-}
+pub struct Totals([u64; 8]);
 
 impl Totals {
     /// Returns totals of nothing done.
     pub fn new() -> Totals {
-        Totals {
-            mapped: 0,
-            ended: 0,
-            copies_in: 0,
-            bytes_in: 0,
-            copies_out: 0,
-            bytes_out: 0,
-            refused: 0,
+        Totals([0; 8])
+    }
+
+    /// Adds to the total of a number.
+    #[inline(always)]
+    pub fn add(&mut self, nth: usize, more: u64) {
+        if let Some(total) = self.0.get_mut(nth) {
+            *total = total.saturating_add(more);
+        }
+    }
+
+    /// Adds the mapping that a step made or ended, if it did.
+    pub fn count(&mut self, step: Step) {
+        match step {
+            Step::Born { .. } => self.add(0, 1),
+            Step::Dropped { ended: true, .. } => self.add(1, 1),
+            _ => {}
         }
     }
 
     /// Adds a copy of `len` bytes: from the device to host memory where `out`, and else the other way.
     pub fn copied(&mut self, out: bool, len: u64) {
-        if out {
-            self.copies_out = self.copies_out.saturating_add(1);
-            self.bytes_out = self.bytes_out.saturating_add(len);
-        } else {
-            self.copies_in = self.copies_in.saturating_add(1);
-            self.bytes_in = self.bytes_in.saturating_add(len);
-        }
+        let nth = if out { 4 } else { 2 };
+        self.add(nth, 1);
+        self.add(nth.saturating_add(1), len);
     }
-}
 
-/// Puts the last line of a log; `waiting` is how many copies wait in queues.
-pub fn put_total(page: &mut Page, totals: &Totals, waiting: u64) {
-    page.text(MARK);
-    page.text("total");
-    for (words, number) in [
-        (" mapped ", totals.mapped),
-        (" ended ", totals.ended),
-        (" copied in ", totals.copies_in),
-        (" bytes ", totals.bytes_in),
-        (" copied out ", totals.copies_out),
-        (" bytes ", totals.bytes_out),
-        (" waiting ", waiting),
-        (" refused ", totals.refused),
-    ] {
-        page.text(words);
-        page.number(number);
+    /// Puts the last line of a log.
+    pub fn put(&self, page: &mut Page) {
+        page.text(MARK);
+        page.text("total");
+        for (words, total) in WORDS.iter().zip(&self.0) {
+            page.text(words);
+            page.number(*total);
+        }
+        page.text("\n");
     }
-    page.text("\n");
 }

@@ -1,9 +1,9 @@
 //! Why a line is at fault.
 
 use crate::hints::{Finding, put_hint};
-use crate::readers::{Reader, front_of};
+use crate::readers::Reader;
 use crate::sources::{put_cause, put_note, put_source};
-use crate::tokens::{Token, is_mark, tokens_of};
+use crate::tokens::{front_of, is_mark};
 use crate::wanted::put_wanted;
 use acc_base::ScriptFault;
 use acc_read::{Arrays, Page, before_comment, is_text_byte, is_word_byte};
@@ -15,13 +15,14 @@ const SHOWN: usize = 40;
 /// How many bytes a line may have.
 const LONGEST: usize = 4_096;
 
-/// The column of what is wrong in a line at fault, in bytes from 1 on; 1 where there is no memory to find it.
+/// The column of what is wrong in a line at fault, in bytes from 1 on; of a place before it where there is no memory to
+/// find it.
 pub fn fault_column(alloc: Global, arrays: &Arrays, line: &[u8], kind: ScriptFault) -> u64 {
     let place = match kind {
         ScriptFault::TooLong => LONGEST,
         ScriptFault::Unclosed => 0,
         ScriptFault::NotText => text_len(line),
-        _ => token_place(Reader { alloc, arrays }, line, kind).unwrap_or(0),
+        _ => finding_of(Reader { alloc, arrays }, line, kind).place(),
     };
     (place as u64).saturating_add(1)
 }
@@ -36,10 +37,10 @@ fn text_len(line: &[u8]) -> usize {
     line.len()
 }
 
-fn token_place(reader: Reader<'_>, line: &[u8], kind: ScriptFault) -> Result<usize, AllocError> {
+fn finding_of<'a>(reader: Reader<'_>, line: &'a [u8], kind: ScriptFault) -> Finding<'a> {
     let text = before_comment(line);
-    let tokens = tokens_of(reader.alloc, text)?;
-    Ok(place_of(text, &tokens, reader.place(text, &tokens, kind)))
+    let nth = reader.place(text, kind);
+    Finding { text, nth, kind }
 }
 
 /// Puts why the line of a number is at fault: the line, with a mark at the first wrong place, and what stands there.
@@ -91,39 +92,12 @@ fn explain_token(
     line: &[u8],
     kind: ScriptFault,
 ) -> Result<(), AllocError> {
-    let text = before_comment(line);
-    let tokens = tokens_of(reader.alloc, text)?;
-    let finding = Finding {
-        text,
-        tokens: &tokens,
-        nth: reader.place(text, &tokens, kind),
-        kind,
-    };
-    explain_finding(page, reader, number, line, finding)
-}
-
-fn explain_finding(
-    page: &mut Page,
-    reader: Reader<'_>,
-    number: u64,
-    line: &[u8],
-    finding: Finding<'_>,
-) -> Result<(), AllocError> {
-    let place = place_of(finding.text, finding.tokens, finding.nth);
-    put_source(page, number, line, place);
-    put_kind(page, reader, finding)?;
+    let finding = finding_of(reader, line, kind);
+    put_source(page, number, line, finding.place());
+    let put = put_kind(page, reader, finding);
     page.text("\n");
-    add_hint(page, reader, number, finding);
-    Ok(())
-}
-
-/// Where the token of a number begins; where it is missing, the end of the last one.
-fn place_of(text: &[u8], tokens: &[Token], nth: usize) -> usize {
-    match (tokens.get(nth), tokens.last()) {
-        (Some(token), _) => token.start,
-        (None, Some(last)) => last.end,
-        (None, None) => text.len(),
-    }
+    put_hint(page, reader, number, finding);
+    put
 }
 
 fn put_found(page: &mut Page, found: &[u8]) {
@@ -144,38 +118,22 @@ fn put_found(page: &mut Page, found: &[u8]) {
 
 /// Puts what is wrong. For a token it puts what was found, and where its kind is wrong, what could stand there.
 fn put_kind(page: &mut Page, reader: Reader<'_>, finding: Finding<'_>) -> Result<(), AllocError> {
-    match finding.kind {
-        ScriptFault::NoOpenRegion => page.text("no data region is open here"),
-        ScriptFault::HostFull => page.text("the array would end behind host memory"),
-        _ => {
-            put_found(page, finding.found());
-            return put_why(page, reader, finding);
-        }
+    if !matches!(
+        finding.kind,
+        ScriptFault::NoOpenRegion | ScriptFault::HostFull
+    ) {
+        put_found(page, finding.found());
     }
+    let why = match finding.kind {
+        ScriptFault::NoOpenRegion => "no data region is open here",
+        ScriptFault::HostFull => "the array would end behind host memory",
+        ScriptFault::Number => ", which is out of bounds",
+        ScriptFault::UnknownName => ", which names no array",
+        ScriptFault::NameTaken => ", which names an array already",
+        _ => return put_wanted(page, reader, front_of(finding.text, finding.nth)),
+    };
+    page.text(why);
     Ok(())
-}
-
-/// Puts why what was found is wrong.
-fn put_why(page: &mut Page, reader: Reader<'_>, finding: Finding<'_>) -> Result<(), AllocError> {
-    match finding.kind {
-        ScriptFault::Number => page.text(", which is out of bounds"),
-        ScriptFault::UnknownName => page.text(", which names no array"),
-        ScriptFault::NameTaken => page.text(", which names an array already"),
-        _ => {
-            let front = front_of(finding.text, finding.tokens, finding.nth);
-            return put_wanted(page, reader, front);
-        }
-    }
-    Ok(())
-}
-
-fn add_hint(page: &mut Page, reader: Reader<'_>, number: u64, finding: Finding<'_>) {
-    let mut hint = Page::new(reader.alloc);
-    if put_hint(&mut hint, reader, finding) {
-        put_note(page, number);
-        page.bytes(hint.as_slice());
-        page.text("\n");
-    }
 }
 
 /// Puts which `data` are open where the script ends, by the numbers of their lines.

@@ -1,19 +1,17 @@
 //! What to write in place of what was found.
 
 use crate::readers::Reader;
-use crate::routines::{Advice, LISTS};
-use crate::tokens::{Token, nth_bytes};
+use crate::routines::LISTS;
+use crate::sources::{put_note, put_place};
+use crate::tokens::{nth_bytes, nth_token};
 use acc_base::ScriptFault;
 use acc_read::{Page, is_text};
-use std::fmt::Write;
 
-/// A line at fault, cut into tokens, with the number of the one that is wrong.
+/// A line at fault, with the number of the token that is wrong.
 #[derive(Clone, Copy)]
 pub struct Finding<'a> {
     /// What the line has before a comment.
     pub text: &'a [u8],
-    /// Its tokens.
-    pub tokens: &'a [Token],
     /// The number of the wrong token, from 0 on; or how many there are where one is missing.
     pub nth: usize,
     /// What is wrong.
@@ -23,64 +21,99 @@ pub struct Finding<'a> {
 impl<'a> Finding<'a> {
     /// The bytes of the token that is wrong; none where one is missing.
     pub fn found(self) -> &'a [u8] {
-        self.at(self.nth)
+        nth_bytes(self.text, self.nth)
     }
 
-    /// The bytes of the token of a number, from 0 on; none where there are fewer.
-    pub fn at(self, nth: usize) -> &'a [u8] {
-        nth_bytes(self.text, self.tokens, nth)
+    /// Where that token begins; where it is missing, the end of the last one.
+    pub fn place(self) -> usize {
+        nth_token(self.text, self.nth).start
     }
 
     /// The bytes of the token before the wrong one; none where that is the first.
-    pub fn before(self) -> &'a [u8] {
+    fn before(self) -> &'a [u8] {
         match self.nth.checked_sub(1) {
-            Some(nth) => self.at(nth),
+            Some(nth) => nth_bytes(self.text, nth),
             None => &[],
         }
     }
-}
 
-/// Puts what to write in place of what was found, where that is known; returns whether it is.
-pub fn put_hint(page: &mut Page, reader: Reader<'_>, finding: Finding<'_>) -> bool {
-    match finding.kind {
-        ScriptFault::Syntax => put_syntax_hint(page, finding),
-        ScriptFault::Number => put_number_hint(page, finding),
-        ScriptFault::UnknownName => put_unknown_hint(page, finding),
-        ScriptFault::NameTaken => put_taken_hint(page, reader, finding),
-        ScriptFault::HostFull => {
-            page.text("--host BYTES makes host memory larger");
-            true
-        }
-        ScriptFault::NoOpenRegion => {
-            page.text("data enters one, and end data exits from it");
-            true
-        }
-        ScriptFault::TooLong | ScriptFault::NotText | ScriptFault::Unclosed => false,
+    /// Whether the line begins with a word.
+    fn is_of(self, word: &str) -> bool {
+        is_text(nth_bytes(self.text, 0), word)
+    }
+
+    /// Whether the wrong token stands where `write` has its digits.
+    fn is_digits(self) -> bool {
+        self.is_of("write") && is_text(self.before(), "]")
     }
 }
 
-fn put_syntax_hint(page: &mut Page, finding: Finding<'_>) -> bool {
+/// What to write: words, bytes of the line, more words and more bytes.
+type Hint<'a> = (&'static str, &'a [u8], &'static str, &'a [u8]);
+
+/// Puts what to write in place of what was found, under the line of a number, where that is known.
+pub fn put_hint(page: &mut Page, reader: Reader<'_>, number: u64, finding: Finding<'_>) {
+    if let Some((words, bytes, more, last)) = hint_of(finding) {
+        put_note(page, number);
+        page.text(words);
+        page.bytes(bytes);
+        page.text(more);
+        page.bytes(last);
+        page.text("\n");
+    } else if matches!(finding.kind, ScriptFault::NameTaken) {
+        put_taken(page, reader, number, finding.found());
+    }
+}
+
+/// Puts the length of the array that has that name already.
+fn put_taken(page: &mut Page, reader: Reader<'_>, number: u64, name: &[u8]) {
+    if let Some(array) = reader.arrays.get(name) {
+        put_note(page, number);
+        page.text("a line before declares it, with ");
+        page.number(array.whole().len);
+        page.text(" bytes\n");
+    }
+}
+
+fn hint_of(finding: Finding<'_>) -> Option<Hint<'_>> {
+    match finding.kind {
+        ScriptFault::Syntax => syntax_hint(finding),
+        ScriptFault::Number => words(number_hint(finding)),
+        ScriptFault::UnknownName => Some(unknown_hint(finding.found())),
+        ScriptFault::HostFull => words("--host BYTES makes host memory larger"),
+        ScriptFault::NoOpenRegion => words("data enters one, and end data exits from it"),
+        _ => None,
+    }
+}
+
+/// A hint without bytes of the line.
+fn words(words: &'static str) -> Option<Hint<'static>> {
+    Some((words, &[], "", &[]))
+}
+
+fn syntax_hint(finding: Finding<'_>) -> Option<Hint<'_>> {
     if is_option_again(finding) {
-        page.text("an option stands once");
-        return true;
+        return words("an option stands once");
     }
     if let Some((first, second)) = advice_of(finding) {
-        page.text(first);
-        page.text(second);
-        return true;
+        return Some((first, &[], second, &[]));
     }
     match finding.found() {
-        b"[" if is_text(finding.at(0), "array") => put_array_hint(page, finding),
-        b"," if is_wait(finding.at(0)) => {
-            page.text("it names one queue: write a line for each");
-            true
+        b"[" if finding.is_of("array") => Some(array_hint(finding)),
+        b"," if finding.is_of("wait") || finding.is_of("step") => {
+            words("it names one queue: write a line for each")
         }
-        found if begins_with_0x(found) => put_digits_hint(page, finding, found),
+        found if found.starts_with(b"0x") || found.starts_with(b"0X") => {
+            if !finding.is_digits() {
+                return words("numbers are decimal");
+            }
+            let digits = found.get(2..).unwrap_or(&[]);
+            Some(("the digits stand without 0x: ", digits, "", &[]))
+        }
         found if has_capitals(found) => {
-            page.text("a name has lower-case letters, digits and '_', and begins with a letter");
-            true
+            words("a name has lower-case letters, digits and '_', and begins with a letter")
         }
-        _ => false,
+        _ => None,
     }
 }
 
@@ -99,96 +132,77 @@ fn advice_of(finding: Finding<'_>) -> Option<(&'static str, &'static str)> {
 }
 
 /// The advice that a list has for a word.
-fn advice_in(list: &[Advice], found: &[u8]) -> Option<&'static str> {
-    for (words, advice) in list {
-        if words.split(' ').any(|word| word.as_bytes() == found) {
-            return Some(*advice);
+fn advice_in(list: &'static str, found: &[u8]) -> Option<&'static str> {
+    for line in list.split('\n') {
+        let (words, advice) = line.split_once(": ").unwrap_or(("", ""));
+        if has_word(words, found) {
+            return Some(advice);
         }
     }
     None
 }
 
+/// Whether a word is one of some words with blanks between them.
+fn has_word(words: &str, found: &[u8]) -> bool {
+    for word in words.split(' ') {
+        if !found.is_empty() && word.as_bytes() == found {
+            return true;
+        }
+    }
+    false
+}
+
 /// Whether the wrong token is an option that stands in the line already.
 fn is_option_again(finding: Finding<'_>) -> bool {
     let found = finding.found();
-    let is_option = is_text(found, "finalize")
-        || is_text(found, "if_present")
-        || is_text(found, "async");
-    is_option && (0..finding.nth).any(|nth| finding.at(nth) == found)
-}
-
-fn is_wait(word: &[u8]) -> bool {
-    is_text(word, "wait") || is_text(word, "step")
-}
-
-fn begins_with_0x(word: &[u8]) -> bool {
-    word.starts_with(b"0x") || word.starts_with(b"0X")
+    if !has_word("finalize if_present async", found) {
+        return false;
+    }
+    for nth in 0..finding.nth {
+        if nth_bytes(finding.text, nth) == found {
+            return true;
+        }
+    }
+    false
 }
 
 fn has_capitals(word: &[u8]) -> bool {
-    word.iter().any(|b| b.is_ascii_uppercase())
-}
-
-/// Puts how to declare an array whose length stands in brackets.
-fn put_array_hint(page: &mut Page, finding: Finding<'_>) -> bool {
-    page.text("the length stands behind the name, in bytes: array ");
-    page.bytes(finding.before());
-    page.text(" ");
-    match finding.at(finding.nth.saturating_add(1)) {
-        [] | b"]" => page.text("BYTES"),
-        len => page.bytes(len),
+    for byte in word {
+        if byte.is_ascii_uppercase() {
+            return true;
+        }
     }
-    true
+    false
 }
 
-/// Puts how to write a word that begins with 0x: digits of `write` stand without it, and numbers are decimal.
-fn put_digits_hint(page: &mut Page, finding: Finding<'_>, found: &[u8]) -> bool {
-    if is_text(finding.at(0), "write") && is_text(finding.before(), "]") {
-        page.text("the digits stand without 0x: ");
-        page.bytes(found.get(2..).unwrap_or(&[]));
-    } else {
-        page.text("numbers are decimal");
-    }
-    true
+/// How to declare an array whose length stands in brackets.
+fn array_hint(finding: Finding<'_>) -> Hint<'_> {
+    let len = match nth_bytes(finding.text, finding.nth.saturating_add(1)) {
+        [] | b"]" => b"BYTES".as_slice(),
+        len => len,
+    };
+    let words = "the length stands behind the name, in bytes: array ";
+    (words, finding.before(), " ", len)
 }
 
-fn put_number_hint(page: &mut Page, finding: Finding<'_>) -> bool {
-    let first = finding.at(0);
-    page.text(if is_text(first, "kernel") && finding.nth == 2 {
+fn number_hint(finding: Finding<'_>) -> &'static str {
+    if finding.is_of("kernel") && finding.nth == 2 {
         "the number of a kernel is from 0 to 255"
-    } else if is_text(first, "array") {
+    } else if finding.is_of("array") {
         "the length of an array is from 1 to 4294967295"
-    } else if is_text(first, "write") && is_text(finding.before(), "]") {
+    } else if finding.is_digits() {
         "each byte has two digits, and one write has 64 bytes at most"
     } else {
         "a number is from 0 to 4294967295"
-    });
-    true
-}
-
-fn put_unknown_hint(page: &mut Page, finding: Finding<'_>) -> bool {
-    let found = finding.found();
-    if is_text(found, "zero") || is_text(found, "readonly") {
-        page.text("a modifier has a colon behind it: ");
-        page.bytes(found);
-        page.text(": REF");
-        return true;
     }
-    page.text("no line before declares it; that is done by: array ");
-    page.bytes(found);
-    page.text(" BYTES");
-    true
 }
 
-/// Puts the length of the array that has that name already.
-fn put_taken_hint(page: &mut Page, reader: Reader<'_>, finding: Finding<'_>) -> bool {
-    let Some(array) = reader.arrays.get(finding.found()) else {
-        return false;
-    };
-    page.text("a line before declares it, with ");
-    page.number(array.whole().len);
-    page.text(" bytes");
-    true
+fn unknown_hint(found: &[u8]) -> Hint<'_> {
+    if has_word("zero readonly", found) {
+        return ("a modifier has a colon behind it: ", found, ": REF", &[]);
+    }
+    let words = "no line before declares it; that is done by: array ";
+    (words, found, " BYTES", &[])
 }
 
 /// Whether a line begins with `#pragma acc`, as in C. In a script it is a comment.
@@ -205,10 +219,9 @@ pub fn is_pragma(line: &[u8]) -> bool {
 /// Puts a warning for such a line, by its number; behind its place in the script's file, if it has one.
 pub fn warn_of_pragma(page: &mut Page, file: Option<&str>, number: u64, line: &[u8]) {
     let blanks = line.len().saturating_sub(line.trim_ascii_start().len());
-    let column = blanks.saturating_add(1);
-    let _ = match file {
-        Some(name) => write!(page, "{name}:{number}:{column}: warning: this"),
-        None => write!(page, "accrun: line {number}"),
-    };
+    let column = blanks.saturating_add(1) as u64;
+    if put_place(page, file, number, Some(column)) {
+        page.text(": warning: this");
+    }
     page.text(" is a comment, since it begins with #: a directive stands without #pragma acc\n");
 }

@@ -1,7 +1,7 @@
 //! The reader of scripts, run on front parts of a line.
 
 use crate::sentences::SENTENCES;
-use crate::tokens::{Token, next_token};
+use crate::tokens::{Token, front_of, next_token};
 use acc_base::ScriptFault;
 use acc_read::{Arrays, Page, Trouble, line_at};
 use std::alloc::Global;
@@ -39,52 +39,51 @@ impl Reader<'_> {
 
     /// Returns whether some tail of a sentence makes a front part such a line.
     pub fn can_go_on(self, front: &[u8]) -> bool {
-        if self.fits(front, "") {
-            return true;
-        }
         for sentence in SENTENCES {
-            if self.fits_some(front, sentence) {
+            if self.next_fit(front, sentence, 0).is_some() {
                 return true;
             }
         }
-        false
+        self.fits(front, "")
     }
 
-    fn fits_some(self, front: &[u8], sentence: &str) -> bool {
-        let mut from = 0;
-        for _ in 0..sentence.len() {
-            let Some(token) = next_token(sentence.as_bytes(), from) else {
-                return false;
-            };
-            if self.fits(front, tail_of(sentence, token)) {
-                return true;
+    /// Returns the first token of a sentence, from a place on, whose tail makes a front part such a line.
+    pub fn next_fit(self, front: &[u8], sentence: &str, from: usize) -> Option<Token> {
+        let mut from = from;
+        for _ in from..sentence.len() {
+            let token = next_token(sentence.as_bytes(), from);
+            if token.end == from {
+                return None;
+            }
+            if self.fits(front, sentence.get(token.start..).unwrap_or("")) {
+                return Some(token);
             }
             from = token.end;
         }
-        false
+        None
     }
 
     /// Returns the number, from 0 on, of the token for which a text has this fault. Where a token is missing, it is the
     /// number of tokens.
-    pub fn place(self, text: &[u8], tokens: &[Token], kind: ScriptFault) -> usize {
+    pub fn place(self, text: &[u8], kind: ScriptFault) -> usize {
         match kind {
-            ScriptFault::Syntax => self.first_unfit(text, tokens),
+            ScriptFault::Syntax => self.first_unfit(text),
             ScriptFault::NoOpenRegion => 0,
-            _ => self.first_with(text, tokens, kind),
+            _ => self.first_with(text, kind),
         }
     }
 
     /// The first token with which a text can no more become a line. What stands behind such a token fits no better, so
     /// this is a search by halves.
-    fn first_unfit(self, text: &[u8], tokens: &[Token]) -> usize {
+    fn first_unfit(self, text: &[u8]) -> usize {
         let mut fit = 0usize;
-        let mut unfit = tokens.len().saturating_add(1);
-        for _ in 0..tokens.len() {
+        let mut unfit = token_count(text).saturating_add(1);
+        for _ in 0..text.len() {
             let middle = fit.midpoint(unfit);
             if middle <= fit {
                 break;
             }
-            if self.can_go_on(front_of(text, tokens, middle)) {
+            if self.can_go_on(front_of(text, middle)) {
                 fit = middle;
             } else {
                 unfit = middle;
@@ -93,25 +92,26 @@ impl Reader<'_> {
         unfit.saturating_sub(1)
     }
 
-    fn first_with(self, text: &[u8], tokens: &[Token], kind: ScriptFault) -> usize {
-        for nth in 0..tokens.len() {
-            let front = front_of(text, tokens, nth.saturating_add(1));
-            if self.fault(front) == Some(kind) {
-                return nth;
+    fn first_with(self, text: &[u8], kind: ScriptFault) -> usize {
+        let count = token_count(text);
+        for nth in 1..=count {
+            if self.fault(front_of(text, nth)) == Some(kind) {
+                return nth.saturating_sub(1);
             }
         }
-        tokens.len()
+        count
     }
 }
 
-/// The text up to the end of the first `count` tokens; none of it where there are fewer.
-pub fn front_of<'a>(text: &'a [u8], tokens: &[Token], count: usize) -> &'a [u8] {
-    let last = count.checked_sub(1).and_then(|nth| tokens.get(nth));
-    let end = last.map_or(0, |token| token.end);
-    text.get(..end).unwrap_or(&[])
-}
-
-/// A sentence from one of its tokens on.
-pub fn tail_of(sentence: &str, token: Token) -> &str {
-    sentence.get(token.start..).unwrap_or("")
+/// How many tokens a text has.
+fn token_count(text: &[u8]) -> usize {
+    let mut from = 0;
+    for nth in 0..text.len() {
+        let end = next_token(text, from).end;
+        if end == from {
+            return nth;
+        }
+        from = end;
+    }
+    text.len()
 }

@@ -1,20 +1,12 @@
 //! Why a statement was refused.
 
-use crate::sources::put_cause;
-use acc_base::{Directive, Fault, Found, Free, HOST_BASE, Item, List, QUEUE_COUNT, Section};
+use crate::sources::{put_cause, put_place};
+use acc_base::{Fault, Found, HOST_BASE, QUEUE_COUNT, Section, Task};
 use acc_read::{Names, Page, ScriptKernel, Statement};
 use acc_table::{Mapped, Place, Table};
-use std::fmt::Write;
 
 /// How many ranges that a section meets are shown at most.
 const TOLD: u64 = 8;
-
-/// What a device that is not there has free.
-const NONE_FREE: Free = Free {
-    largest: 0,
-    bytes: 0,
-    count: 0,
-};
 
 #[derive(Clone, Copy)]
 struct DeviceView<'a> {
@@ -46,11 +38,16 @@ pub fn explain_refusal(
 ) {
     let device = device_of(table, statement);
     let view = DeviceView { table, device };
-    put_place(page, file, number);
-    if let Some((nth, item)) = item_of(statement, fault) {
-        put_item(page, names, nth, item);
+    let has_file = put_place(page, file, number, None);
+    page.text(if has_file {
+        ": refused\n"
+    } else {
+        " is refused\n"
+    });
+    if let Some((nth, named)) = item_of(statement, fault) {
+        put_item(page, names, nth, named);
         if is_of_ranges(fault) {
-            put_meetings(page, view, names, statement, nth, item.section);
+            put_meetings(page, view, names, statement, nth, named.0);
         }
     }
     put_fault(page, view, fault);
@@ -65,13 +62,6 @@ fn device_of(table: &Table, statement: &Statement<'_>) -> u64 {
     }
 }
 
-fn put_place(page: &mut Page, file: Option<&str>, number: u64) {
-    let _ = match file {
-        Some(name) => writeln!(page, "{name}:{number}: refused"),
-        None => writeln!(page, "accrun: line {number} is refused"),
-    };
-}
-
 /// Whether a refusal depends on the mapped ranges that the item meets.
 fn is_of_ranges(fault: Fault) -> bool {
     matches!(
@@ -80,8 +70,11 @@ fn is_of_ranges(fault: Fault) -> bool {
     )
 }
 
-/// The item that a refusal names, by its place and without its clause.
-fn item_of(statement: &Statement<'_>, fault: Fault) -> Option<(u64, Item<()>)> {
+/// What an item names: a section, and the pointer to it, if there is one.
+type Named = (Section, Option<u64>);
+
+/// The item that a refusal names, by its place, and what it names.
+fn item_of(statement: &Statement<'_>, fault: Fault) -> Option<(u64, Named)> {
     let nth = match fault {
         Fault::OutOfHost { item }
         | Fault::Misaligned { item }
@@ -91,76 +84,44 @@ fn item_of(statement: &Statement<'_>, fault: Fault) -> Option<(u64, Item<()>)> {
         | Fault::DeviceFull { item, .. } => item,
         _ => return None,
     };
-    Some((nth, item_in(statement, nth as usize)?))
+    Some((nth, item_in(statement, nth)?))
 }
 
-fn item_in(statement: &Statement<'_>, nth: usize) -> Option<Item<()>> {
-    match statement {
-        Statement::Direct(directive) => item_by(directive, nth),
+fn item_in(statement: &Statement<'_>, nth: u64) -> Option<Named> {
+    let section = match statement {
+        Statement::Direct(directive) => return named_by(directive.task(nth as usize)?),
+        // Of a kernel's items 0 is what it changes, and 1 its source.
         Statement::Kernel {
-            kernel,
-            section,
+            kernel: ScriptKernel::Plus(source),
             ..
-        } => Some(section_alone(kernel_section(*kernel, *section, nth))),
-        Statement::Write { addr, bytes } => Some(section_alone(Section {
-            start: *addr,
-            len: bytes.len() as u64,
-        })),
-        Statement::Point { addr, .. } => Some(section_alone(Section {
-            start: *addr,
-            len: 8,
-        })),
-        Statement::Show(section) => Some(section_alone(*section)),
-        _ => None,
+        } if nth == 1 => *source,
+        Statement::Kernel { section, .. } => *section,
+        Statement::Write { addr, bytes } => section_of(*addr, bytes.len() as u64),
+        Statement::Point { addr, .. } => section_of(*addr, 8),
+        Statement::Show(section) => *section,
+        _ => return None,
+    };
+    Some((section, None))
+}
+
+fn section_of(start: u64, len: u64) -> Section {
+    Section { start, len }
+}
+
+fn named_by(task: Task) -> Option<Named> {
+    match task {
+        Task::Enter { item, .. } => Some((item.section, item.pointer)),
+        Task::ExitData { item, .. } => Some((item.section, item.pointer)),
+        Task::Move { item, .. } => Some((item.section, item.pointer)),
+        Task::ExitRegion { .. } => None,
     }
 }
 
-fn item_by(directive: &Directive, nth: usize) -> Option<Item<()>> {
-    match directive {
-        Directive::Enter { items, .. } => nth_of(items, nth),
-        Directive::EnterData { items, .. } => nth_of(items, nth),
-        Directive::ExitData { items, .. } => nth_of(items, nth),
-        Directive::Update { items, .. } => nth_of(items, nth),
-        _ => None,
-    }
-}
-
-fn nth_of<C: Copy>(items: &List<Item<C>>, nth: usize) -> Option<Item<()>> {
-    let Item {
-        section,
-        pointer,
-        ..
-    } = *items.as_slice().get(nth)?;
-    Some(Item {
-        clause: (),
-        section,
-        pointer,
-    })
-}
-
-fn section_alone(section: Section) -> Item<()> {
-    Item {
-        clause: (),
-        section,
-        pointer: None,
-    }
-}
-
-/// The section of a kernel's item: 0 is what it changes, and 1 its source.
-fn kernel_section(kernel: ScriptKernel, section: Section, nth: usize) -> Section {
-    match kernel {
-        ScriptKernel::Plus(source) if nth == 1 => source,
-        _ => section,
-    }
-}
-
-fn put_item(page: &mut Page, names: &Names, nth: u64, item: Item<()>) {
+fn put_item(page: &mut Page, names: &Names, nth: u64, named: Named) {
     put_cause(page);
-    page.text("item ");
-    page.number(nth);
-    page.text(" is ");
-    put_section(page, names, item.section);
-    if let Some(pointer) = item.pointer {
+    put_limit(page, "item ", nth, " is ");
+    put_section(page, names, named.0);
+    if let Some(pointer) = named.1 {
         page.text(" via the pointer ");
         put_byte(page, names, pointer);
     }
@@ -207,9 +168,7 @@ fn put_meetings(
     }
     if let Statement::Direct(directive) = statement {
         for other in 0..nth {
-            if let Some(item) = item_by(directive, other as usize) {
-                put_other(page, names, other, item.section, section);
-            }
+            put_other(page, names, other, directive.task(other as usize), section);
         }
     }
 }
@@ -257,9 +216,7 @@ fn first_from(view: DeviceView<'_>, section: Section) -> u64 {
 fn put_others(page: &mut Page, told: u64) {
     if told > TOLD {
         put_cause(page);
-        page.text("and ");
-        page.number(told.saturating_sub(TOLD));
-        page.text(" more\n");
+        put_limit(page, "and ", told.saturating_sub(TOLD), " more\n");
     }
 }
 
@@ -281,22 +238,25 @@ fn put_range(page: &mut Page, names: &Names, mapped: Mapped) {
     put_section(page, names, range_of(mapped));
     page.text(", at ");
     page.address(mapped.place);
-    page.text(", structured ");
-    page.number(mapped.structured);
-    page.text(", dynamic ");
+    put_limit(page, ", structured ", mapped.structured, ", dynamic ");
     page.number(mapped.dynamic);
     page.text(if mapped.lent { ", lent\n" } else { "\n" });
 }
 
 /// Puts an item of the same directive, before the refused one, that names some of the same bytes.
-fn put_other(page: &mut Page, names: &Names, other: u64, named: Section, section: Section) {
-    if meets(named, section) {
-        put_cause(page);
-        page.text("item ");
-        page.number(other);
-        page.text(" of the same directive acts first, on ");
-        put_section(page, names, named);
-        page.text("\n");
+fn put_other(page: &mut Page, names: &Names, other: u64, task: Option<Task>, section: Section) {
+    if let Some((named, _)) = task.and_then(named_by) {
+        if meets(named, section) {
+            put_cause(page);
+            put_limit(
+                page,
+                "item ",
+                other,
+                " of the same directive acts first, on ",
+            );
+            put_section(page, names, named);
+            page.text("\n");
+        }
     }
 }
 
@@ -304,34 +264,31 @@ fn put_fault(page: &mut Page, view: DeviceView<'_>, fault: Fault) {
     put_cause(page);
     match fault {
         Fault::OutOfHost { .. } => put_host(page, view.table),
+        Fault::DeviceFull { need, .. } => put_holes(page, view, need),
+        Fault::NoDevice { device } => put_devices(page, view.table, device),
+        Fault::QueueFull { q } => put_queue(page, view, q),
+        Fault::TooManyItems { n } => {
+            put_limit(page, "the directive has ", n, " items, and may have 64")
+        }
+        Fault::NoQueue { q } => put_limit(page, "there is no queue ", q, "; they are 0 to 15"),
+        Fault::NoAllowance { .. } => {
+            let behind = " data regions are open, and no more may be";
+            put_limit(page, "", view.table.regions(), behind)
+        }
+        Fault::TraceFull { len } => {
+            put_limit(
+                page,
+                "the trace has ",
+                len,
+                " events, and no room for one more",
+            )
+        }
         Fault::Misaligned { .. } => page.text("a pointer lies at a multiple of 8"),
         Fault::PartlyPresent { .. } => {
             page.text("some of its bytes are mapped, and no one range has all of them")
         }
         Fault::NotPresent { .. } => page.text("it has to be mapped here"),
         Fault::CounterFull { .. } => page.text("a counter is at its limit"),
-        Fault::DeviceFull { need, .. } => put_holes(page, view, need),
-        Fault::TooManyItems { n } => put_limit(
-            page,
-            "the directive has ",
-            n,
-            " items, and may have 64",
-        ),
-        Fault::NoDevice { device } => put_devices(page, view.table, device),
-        Fault::NoQueue { q } => put_limit(page, "there is no queue ", q, "; they are 0 to 15"),
-        Fault::QueueFull { q } => put_queue(page, view, q),
-        Fault::NoAllowance { .. } => put_limit(
-            page,
-            "",
-            view.table.regions(),
-            " data regions are open, and no more may be",
-        ),
-        Fault::TraceFull { len } => put_limit(
-            page,
-            "the trace has ",
-            len,
-            " events, and no room for one more",
-        ),
         _ => page.fault(fault),
     }
     page.text("\n");
@@ -348,11 +305,8 @@ fn put_host(page: &mut Page, table: &Table) {
     page.text("host memory has the addresses from ");
     page.address(HOST_BASE);
     page.text(" up to ");
-    page.address(
-        HOST_BASE
-            .saturating_add(table.config().host())
-            .saturating_sub(1),
-    );
+    let end = HOST_BASE.saturating_add(table.config().host());
+    page.address(end.saturating_sub(1));
 }
 
 fn put_devices(page: &mut Page, table: &Table, device: u64) {
@@ -367,24 +321,18 @@ fn put_devices(page: &mut Page, table: &Table, device: u64) {
 
 fn put_queue(page: &mut Page, view: DeviceView<'_>, q: u64) {
     if q < QUEUE_COUNT {
-        put_limit(
-            page,
-            "",
-            view.table.queue_len(view.device, q),
-            " copies wait in the queue, and no more may",
-        );
+        let len = view.table.queue_len(view.device, q);
+        put_limit(page, "", len, " copies wait in the queue, and no more may");
     }
 }
 
 fn put_holes(page: &mut Page, view: DeviceView<'_>, need: u64) {
-    let Free {
-        largest,
-        bytes,
-        count,
-    } = view.table.free(view.device).unwrap_or(NONE_FREE);
-    put_limit(page, "the block takes ", need, " bytes; before the line ");
-    put_limit(page, "the largest hole has ", largest, ", and ");
-    put_limit(page, "", bytes, " bytes are free in ");
-    put_limit(page, "", count, if count == 1 { " hole" } else { " holes" });
-    view.put_device(page);
+    if let Some(free) = view.table.free(view.device) {
+        put_limit(page, "the block takes ", need, " bytes; before the line ");
+        put_limit(page, "the largest hole has ", free.largest, ", and ");
+        put_limit(page, "", free.bytes, " bytes are free in ");
+        let holes = if free.count == 1 { " hole" } else { " holes" };
+        put_limit(page, "", free.count, holes);
+        view.put_device(page);
+    }
 }

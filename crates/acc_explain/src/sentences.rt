@@ -3,7 +3,7 @@
 /// One or more statements of each form, with the array `a`. Behind the front part of a line that can still become a
 /// statement, the tail of one of these makes it one. `0f` stands for hexadecimal digits, since it is no number and no
 /// name. An explanation lists what could stand at a place in their order.
-pub const SENTENCES: &[&str] = &[
+pub static SENTENCES: &[&str] = &[
     "array a 1",
     "write a[0] 0f",
     "point a[0] to a[0]",

@@ -30,6 +30,19 @@ pub fn put_note(page: &mut Page, number: u64) {
     put_gutter(page, number, " = ");
 }
 
+/// Begins a line that is for a line of a script: with its place in the script's file, if that has one. Returns whether it
+/// has.
+pub fn put_place(page: &mut Page, file: Option<&str>, line: u64, column: Option<u64>) -> bool {
+    page.text(file.unwrap_or("accrun: line "));
+    page.text(if file.is_some() { ":" } else { "" });
+    page.number(line);
+    if let (Some(_), Some(column)) = (file, column) {
+        page.text(":");
+        page.number(column);
+    }
+    file.is_some()
+}
+
 /// Begins a line that says more, under a line that shows what became of a statement.
 pub fn put_cause(page: &mut Page) {
     page.text("    = ");
@@ -37,15 +50,8 @@ pub fn put_cause(page: &mut Page) {
 
 /// Puts what stands before a line that is not itself part of the script.
 fn put_gutter(page: &mut Page, number: u64, mark: &str) {
-    let mut rest = number;
-    page.text("   ");
-    for _ in 0..20 {
-        rest /= 10;
-        if rest == 0 {
-            break;
-        }
-        page.text(" ");
-    }
+    let digits = number.checked_ilog10().unwrap_or(0) as usize;
+    put_blanks(page, digits.saturating_add(3));
     page.text(mark);
 }
 

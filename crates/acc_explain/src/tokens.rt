@@ -1,7 +1,6 @@
 //! The tokens of a statement, by their places in it.
 
 use acc_read::{is_blank, is_word_byte};
-use std::alloc::{AllocError, Global};
 
 /// Where a token stands in a text: from its first byte up to the one behind its last.
 #[derive(Clone, Copy)]
@@ -12,35 +11,19 @@ pub struct Token {
     pub end: usize,
 }
 
-/// The tokens of a text, from left to right. A character that is no token stands among them.
-///
-/// # Errors
-///
-/// [`AllocError`] where there is no memory.
-pub fn tokens_of(alloc: Global, text: &[u8]) -> Result<Vec<Token>, AllocError> {
-    let mut tokens = Vec::new(alloc);
-    let mut from = 0;
-    for _ in 0..text.len() {
-        let Some(token) = next_token(text, from) else {
-            break;
-        };
-        from = token.end;
-        tokens.push(token)?;
-    }
-    Ok(tokens)
-}
-
-/// The first token of a text from a place on, if it has one.
-pub fn next_token(text: &[u8], from: usize) -> Option<Token> {
+/// The first token of a text from a place on; an empty one at that place where there is none. A character that is no
+/// token counts as one.
+pub fn next_token(text: &[u8], from: usize) -> Token {
     for start in from..text.len() {
         if !is_blank(byte_at(text, start)) {
-            return Some(Token {
-                start,
-                end: word_end(text, start.saturating_add(1)),
-            });
+            let end = word_end(text, start.saturating_add(1));
+            return Token { start, end };
         }
     }
-    None
+    Token {
+        start: from,
+        end: from,
+    }
 }
 
 /// The end of the token that ends behind a place: that place, unless it stands inside a word.
@@ -58,7 +41,19 @@ fn word_end(text: &[u8], from: usize) -> usize {
 
 /// The byte at a place; a zero where there is none.
 fn byte_at(text: &[u8], place: usize) -> u8 {
-    text.get(place).copied().unwrap_or(0)
+    match text.get(place) {
+        Some(byte) => *byte,
+        None => 0,
+    }
+}
+
+/// The token of a number, from 0 on; an empty one behind the last where there are fewer.
+pub fn nth_token(text: &[u8], nth: usize) -> Token {
+    let mut token = next_token(text, 0);
+    for _ in 0..nth {
+        token = next_token(text, token.end);
+    }
+    token
 }
 
 /// The bytes of a token of the text; none where it is not of this text.
@@ -67,11 +62,17 @@ pub fn bytes_of(text: &[u8], token: Token) -> &[u8] {
 }
 
 /// The bytes of the token of a number, from 0 on; none where there are fewer.
-pub fn nth_bytes<'a>(text: &'a [u8], tokens: &[Token], nth: usize) -> &'a [u8] {
-    match tokens.get(nth) {
-        Some(token) => bytes_of(text, *token),
-        None => &[],
-    }
+pub fn nth_bytes(text: &[u8], nth: usize) -> &[u8] {
+    bytes_of(text, nth_token(text, nth))
+}
+
+/// The text up to the end of the token of a number, from 1 on; none of it for 0.
+pub fn front_of(text: &[u8], count: usize) -> &[u8] {
+    let end = match count.checked_sub(1) {
+        Some(nth) => nth_token(text, nth).end,
+        None => 0,
+    };
+    text.get(..end).unwrap_or(&[])
 }
 
 /// Whether a byte is a mark, which is a token alone.

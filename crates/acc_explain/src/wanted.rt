@@ -1,151 +1,151 @@
 //! What could stand at a place of a line.
 
-use crate::readers::{Reader, tail_of};
+use crate::readers::Reader;
 use crate::sentences::SENTENCES;
-use crate::tokens::{bytes_of, is_mark, next_token};
+use crate::tokens::{Token, bytes_of, is_mark};
 use acc_read::Page;
-use std::alloc::{AllocError, Global};
+use std::alloc::AllocError;
 
-/// A token, or kind of token, that could stand at a place.
-#[derive(Clone, Copy, PartialEq, Eq)]
-pub enum Wanted<'a> {
-    /// A name of an array.
+/// What a token is that could stand at a place.
+#[derive(Clone, Copy)]
+enum Kind {
     Name,
-    /// A decimal number.
-    Number,
-    /// Hexadecimal digits.
     Digits,
-    /// A keyword.
-    Word(&'a [u8]),
+    Word,
     /// A modifier of a clause, with the colon behind it.
-    Modifier(&'a [u8]),
+    Modifier,
     /// A mark, as a comma or a parenthesis.
-    Mark(&'a [u8]),
-    /// The end of the line.
-    End,
+    Mark,
+    /// A number, or the end of the line.
+    Other,
+}
+
+/// A token, or kind of token, that could stand at a place, with its word.
+#[derive(Clone, Copy)]
+struct Wanted {
+    kind: Kind,
+    word: &'static [u8],
+}
+
+/// All that could stand at a place, each once.
+#[derive(Drop)]
+struct AllWanted {
+    all: Vec<Wanted>,
+    has_name: bool,
+    has_digits: bool,
+    /// Whether there was no memory for some of it.
+    wants: bool,
 }
 
 /// Puts all that could stand behind a front part of a line, each once; nothing where nothing could.
 ///
 /// # Errors
 ///
-/// [`AllocError`] where there is no memory.
+/// [`AllocError`] where there is no memory. What found some is put.
 pub fn put_wanted(page: &mut Page, reader: Reader<'_>, front: &[u8]) -> Result<(), AllocError> {
-    let mut all = Vec::new(reader.alloc);
-    add_all(reader, front, &mut all)?;
-    keep_told(&mut all, front.last() == Some(&b'('));
-    put_all(page, &all);
-    Ok(())
-}
-
-fn add_all(
-    reader: Reader<'_>,
-    front: &[u8],
-    all: &mut Vec<Wanted<'static>>,
-) -> Result<(), AllocError> {
-    for sentence in SENTENCES {
-        add_wanted(reader, front, sentence, all)?;
-    }
-    if reader.fits(front, "") {
-        all.push(Wanted::End)?;
-    }
-    Ok(())
-}
-
-fn keep_told(all: &mut Vec<Wanted<'static>>, is_open: bool) {
-    let has_name = all.contains(&Wanted::Name);
-    let has_digits = all.contains(&Wanted::Digits);
-    all.retain(|wanted| is_told(*wanted, is_open, has_name, has_digits));
-}
-
-/// Adds the first token of each tail of a sentence that could stand there.
-fn add_wanted(
-    reader: Reader<'_>,
-    front: &[u8],
-    sentence: &'static str,
-    all: &mut Vec<Wanted<'static>>,
-) -> Result<(), AllocError> {
-    let mut from = 0;
-    for _ in 0..sentence.len() {
-        let Some(token) = next_token(sentence.as_bytes(), from) else {
-            break;
-        };
-        let tail = tail_of(sentence, token);
-        if reader.fits(front, tail) {
-            add(all, first_of(tail))?;
-        }
-        from = token.end;
-    }
-    Ok(())
-}
-
-fn add(all: &mut Vec<Wanted<'static>>, wanted: Wanted<'static>) -> Result<(), AllocError> {
-    if !all.contains(&wanted) {
-        all.push(wanted)?;
-    }
-    Ok(())
-}
-
-/// The token, or kind of token, that the first token of a tail stands for.
-fn first_of(tail: &'static str) -> Wanted<'static> {
-    let Some(token) = next_token(tail.as_bytes(), 0) else {
-        return Wanted::End;
+    let mut wanted = AllWanted {
+        all: Vec::new(reader.alloc),
+        has_name: false,
+        has_digits: false,
+        wants: false,
     };
-    match bytes_of(tail.as_bytes(), token) {
-        b"a" => Wanted::Name,
-        b"0" | b"1" => Wanted::Number,
-        b"0f" => Wanted::Digits,
-        word if word.first().is_some_and(|b| is_mark(*b)) => Wanted::Mark(word),
-        word if tail.as_bytes().get(token.end) == Some(&b':') => Wanted::Modifier(word),
-        word => Wanted::Word(word),
-    }
-}
-
-/// Whether it is shown. The reader takes any word for a name, so keywords seem to fit where a name does, and modifiers
-/// fit only behind a parenthesis. It takes numbers and names for digits too.
-fn is_told(wanted: Wanted<'_>, is_open: bool, has_name: bool, has_digits: bool) -> bool {
-    match wanted {
-        Wanted::Digits => true,
-        _ if has_digits => false,
-        Wanted::Word(_) => !has_name,
-        Wanted::Modifier(_) => is_open,
-        _ => true,
-    }
-}
-
-/// Puts all of them, with `or` before the last one.
-fn put_all(page: &mut Page, all: &[Wanted<'_>]) {
-    for (nth, wanted) in all.iter().enumerate() {
-        let left = all.len().saturating_sub(nth);
-        page.text(separator(nth, left));
-        put_one(page, *wanted);
-    }
-}
-
-fn separator(nth: usize, left: usize) -> &'static str {
-    if nth == 0 {
-        ", wanted "
-    } else if left == 1 {
-        " or "
+    wanted.gather(reader, front);
+    wanted.put(page, front.last() == Some(&b'('));
+    if wanted.wants {
+        Err(AllocError)
     } else {
-        ", "
+        Ok(())
     }
 }
 
-fn put_one(page: &mut Page, wanted: Wanted<'_>) {
-    match wanted {
-        Wanted::Name => page.text("a name"),
-        Wanted::Number => page.text("a number"),
-        Wanted::Digits => page.text("hexadecimal digits"),
-        Wanted::End => page.text("the end of the line"),
-        Wanted::Word(word) | Wanted::Mark(word) => put_quoted(page, word, ""),
-        Wanted::Modifier(word) => put_quoted(page, word, ":"),
+impl AllWanted {
+    fn gather(&mut self, reader: Reader<'_>, front: &[u8]) {
+        for sentence in SENTENCES {
+            self.gather_from(reader, front, sentence);
+        }
+        if reader.fits(front, "") {
+            self.add(Wanted {
+                kind: Kind::Other,
+                word: b"the end of the line",
+            });
+        }
+    }
+
+    /// Adds the first token of each tail of a sentence that could stand there.
+    fn gather_from(&mut self, reader: Reader<'_>, front: &[u8], sentence: &'static str) {
+        let mut from = 0;
+        for _ in 0..sentence.len() {
+            let Some(token) = reader.next_fit(front, sentence, from) else {
+                break;
+            };
+            self.add(wanted_at(sentence.as_bytes(), token));
+            from = token.end;
+        }
+    }
+
+    fn add(&mut self, wanted: Wanted) {
+        for other in &self.all {
+            if other.word == wanted.word {
+                return;
+            }
+        }
+        self.has_name |= matches!(wanted.kind, Kind::Name);
+        self.has_digits |= matches!(wanted.kind, Kind::Digits);
+        self.wants |= self.all.push(wanted).is_err();
+    }
+
+    /// Whether it is shown. The reader takes any word for a name, so keywords seem to fit where a name does, and
+    /// modifiers fit only behind a parenthesis. It takes numbers and names for digits too.
+    fn is_told(&self, kind: Kind, is_open: bool) -> bool {
+        match kind {
+            Kind::Digits => true,
+            _ if self.has_digits => false,
+            Kind::Word => !self.has_name,
+            Kind::Modifier => is_open,
+            _ => true,
+        }
+    }
+
+    /// Puts what is shown, with `or` before the last one.
+    fn put(&self, page: &mut Page, is_open: bool) {
+        let mut left = 0usize;
+        for wanted in &self.all {
+            left = left.saturating_add(usize::from(self.is_told(wanted.kind, is_open)));
+        }
+        let mut before = ", wanted ";
+        for wanted in &self.all {
+            if self.is_told(wanted.kind, is_open) {
+                put_one(page, before, *wanted);
+                left = left.saturating_sub(1);
+                before = if left == 1 { " or " } else { ", " };
+            }
+        }
     }
 }
 
-fn put_quoted(page: &mut Page, word: &[u8], mark: &str) {
-    page.text("'");
-    page.bytes(word);
+/// The token, or kind of token, that a token of a sentence stands for.
+fn wanted_at(sentence: &'static [u8], token: Token) -> Wanted {
+    let word = bytes_of(sentence, token);
+    let (kind, word) = match word {
+        b"a" => (Kind::Name, b"a name".as_slice()),
+        b"0" | b"1" => (Kind::Other, b"a number".as_slice()),
+        b"0f" => (Kind::Digits, b"hexadecimal digits".as_slice()),
+        [byte] if is_mark(*byte) => (Kind::Mark, word),
+        _ if sentence.get(token.end) == Some(&b':') => (Kind::Modifier, word),
+        _ => (Kind::Word, word),
+    };
+    Wanted { kind, word }
+}
+
+fn put_one(page: &mut Page, before: &str, wanted: Wanted) {
+    let (quote, mark) = match wanted.kind {
+        Kind::Word | Kind::Mark => ("'", ""),
+        Kind::Modifier => ("'", ":"),
+        _ => ("", ""),
+    };
+    page.text(before);
+    page.text(quote);
+    page.bytes(wanted.word);
     page.text(mark);
-    page.text("'");
+    page.text(quote);
 }

@@ -1,23 +1,17 @@
 //! What the author of a script may not mean, though no line is at fault for it.
 
-use crate::tokens::{Token, nth_bytes, tokens_of};
+use crate::sources::put_place;
+use crate::tokens::{Token, bytes_of, next_token, nth_bytes, nth_token};
 use acc_base::Fault;
 use acc_read::{Page, before_comment, is_text, next_line};
-use std::alloc::{AllocError, Global};
+use std::alloc::Global;
 use std::collections::BTreeMap;
-use std::fmt::Write;
-
-/// Where a warning is for: a line and a column, in bytes from 1 on.
-#[derive(Clone, Copy)]
-struct Place {
-    line: u64,
-    column: u64,
-}
 
 /// An array that a script declares.
 #[derive(Clone, Copy)]
 struct Declared {
-    place: Place,
+    line: u64,
+    token: Token,
     /// How many bytes it has.
     bytes: u64,
     is_used: bool,
@@ -33,6 +27,8 @@ struct Warner<'a> {
     has_long_sections: bool,
     /// Whether an array may be unused.
     has_unused_names: bool,
+    /// Whether there was no memory for some array.
+    wants: bool,
     warnings: Page,
 }
 
@@ -54,141 +50,151 @@ pub fn warnings_of<'a>(
         file,
         has_long_sections: false,
         has_unused_names: false,
+        wants: false,
         warnings: Page::new(alloc),
     };
-    warner.read(alloc, script)?;
+    warner.read(script);
     warner.end();
+    if warner.wants {
+        return Err(Fault::Memory);
+    }
     warner.warnings.whole()?;
     Ok(warner.warnings)
 }
 
 impl<'a> Warner<'a> {
-    fn read(&mut self, alloc: Global, script: &'a [u8]) -> Result<(), AllocError> {
+    fn read(&mut self, script: &'a [u8]) {
         let mut rest = script;
         for index in 0..script.len() {
             if rest.is_empty() {
                 break;
             }
             let (line, after) = next_line(rest);
-            self.read_line(alloc, index.saturating_add(1) as u64, line)?;
+            self.read_line(index.saturating_add(1) as u64, line);
             rest = after;
         }
-        Ok(())
     }
 
-    fn read_line(&mut self, alloc: Global, line: u64, text: &'a [u8]) -> Result<(), AllocError> {
+    fn read_line(&mut self, line: u64, text: &'a [u8]) {
         self.read_note(line, text);
         let text = before_comment(text);
-        let tokens = tokens_of(alloc, text)?;
-        if is_text(nth_bytes(text, &tokens, 0), "array") {
-            return self.declare(line, text, &tokens);
+        if is_text(nth_bytes(text, 0), "array") {
+            self.declare(line, text);
+        } else {
+            self.read_tokens(line, text);
         }
-        for nth in 0..tokens.len() {
-            self.note(line, text, &tokens, nth);
+    }
+
+    fn read_tokens(&mut self, line: u64, text: &'a [u8]) {
+        let mut from = 0;
+        for _ in 0..text.len() {
+            let token = next_token(text, from);
+            if token.end == from {
+                break;
+            }
+            self.note(line, text, token);
+            from = token.end;
         }
-        Ok(())
     }
 
     fn read_note(&mut self, line: u64, text: &[u8]) {
-        let place = Place { line, column: 1 };
         if line > 1 && text.starts_with(b"# options:") {
-            self.warn(place, b"'# options:' counts in the first line alone\n");
+            self.warn(line, 0, b"'# options:' counts in the first line alone\n");
         }
-        let Some(wants) = text.strip_prefix(b"# wants:".as_slice()) else {
-            return;
-        };
-        match wants.trim_ascii() {
+        if let Some(wants) = text.strip_prefix(b"# wants:".as_slice()) {
+            self.read_wants(line, wants.trim_ascii());
+        }
+    }
+
+    fn read_wants(&mut self, line: u64, wants: &[u8]) {
+        match wants {
             b"past-the-end" => self.has_long_sections = true,
             b"unused-names" => self.has_unused_names = true,
-            wants => {
-                self.warn(place, b"unknown '# wants: ");
+            _ => {
+                self.warn(line, 0, b"unknown '# wants: ");
                 self.warnings.bytes(wants);
                 self.warnings.text("'\n");
             }
         }
     }
 
-    fn declare(&mut self, line: u64, text: &'a [u8], tokens: &[Token]) -> Result<(), AllocError> {
-        if let Some(bytes) = number_at(text, tokens, 2) {
-            let name = nth_bytes(text, tokens, 1);
-            let is_used = self.arrays.contains_key(&name);
+    fn declare(&mut self, line: u64, text: &'a [u8]) {
+        let token = nth_token(text, 1);
+        if let Some(bytes) = number_in(text, next_token(text, token.end)) {
+            let name = bytes_of(text, token);
             let array = Declared {
-                place: place_of(line, tokens, 1),
+                line,
+                token,
                 bytes,
-                is_used,
+                is_used: self.arrays.contains_key(&name),
             };
-            self.arrays.insert(name, array)?;
+            self.wants |= self.arrays.insert(name, array).is_err();
         }
-        Ok(())
     }
 
-    /// Notes that a line uses an array, if that is what the token of a number names.
-    fn note(&mut self, line: u64, text: &'a [u8], tokens: &[Token], nth: usize) {
-        let name = nth_bytes(text, tokens, nth);
-        let Some(array) = self.arrays.get_mut(&name) else {
-            return;
-        };
-        array.is_used = true;
-        let bytes = array.bytes;
-        match section_at(text, tokens, nth) {
-            Some((from, len)) if bytes < from.saturating_add(len) && !self.has_long_sections => {
-                self.warn(place_of(line, tokens, nth), name);
-                let _ = writeln!(
-                    self.warnings,
-                    "[{from}:{len}] reaches past its {bytes} bytes"
-                );
+    /// Notes that a line uses an array, if that is what a token names.
+    fn note(&mut self, line: u64, text: &'a [u8], token: Token) {
+        let name = bytes_of(text, token);
+        if let Some(array) = self.arrays.get_mut(&name) {
+            array.is_used = true;
+            let bytes = array.bytes;
+            let (from, len) = section_at(text, token).unwrap_or((0, 0));
+            if bytes < from.saturating_add(len) && !self.has_long_sections {
+                self.warn(line, token.start, name);
+                put_section(&mut self.warnings, from, len, bytes);
             }
-            _ => {}
         }
     }
 
     fn end(&mut self) {
         for (name, array) in &self.arrays {
             if !array.is_used && !self.has_unused_names {
-                put_warning(&mut self.warnings, self.file, array.place, name);
+                put_warning(
+                    &mut self.warnings,
+                    self.file,
+                    array.line,
+                    array.token.start,
+                    name,
+                );
                 self.warnings.text(" is never used\n");
             }
         }
     }
 
-    fn warn(&mut self, place: Place, text: &[u8]) {
-        put_warning(&mut self.warnings, self.file, place, text);
+    /// Begins a warning of a place of a line.
+    fn warn(&mut self, line: u64, place: usize, text: &[u8]) {
+        put_warning(&mut self.warnings, self.file, line, place, text);
     }
 }
 
-/// Begins a warning of a place.
-fn put_warning(page: &mut Page, file: Option<&str>, place: Place, text: &[u8]) {
-    let Place { line, column } = place;
-    let _ = match file {
-        Some(name) => write!(page, "{name}:{line}:{column}: warning: "),
-        None => write!(page, "accrun: line {line}: warning: "),
-    };
+fn put_warning(page: &mut Page, file: Option<&str>, line: u64, place: usize, text: &[u8]) {
+    put_place(page, file, line, Some((place as u64).saturating_add(1)));
+    page.text(": warning: ");
     page.bytes(text);
 }
 
-/// Where the token of a number stands.
-fn place_of(line: u64, tokens: &[Token], nth: usize) -> Place {
-    let start = tokens.get(nth).map_or(0, |token| token.start);
-    Place {
-        line,
-        column: (start as u64).saturating_add(1),
-    }
+fn put_section(page: &mut Page, from: u64, len: u64, bytes: u64) {
+    page.text("[");
+    page.number(from);
+    page.text(":");
+    page.number(len);
+    page.text("] reaches past its ");
+    page.number(bytes);
+    page.text(" bytes\n");
 }
 
 /// The offset and the length of a section, in bytes, that stand in brackets behind a token.
-fn section_at(text: &[u8], tokens: &[Token], nth: usize) -> Option<(u64, u64)> {
-    let bracket = nth_bytes(text, tokens, nth.saturating_add(1));
-    let colon = nth_bytes(text, tokens, nth.saturating_add(3));
-    if !is_text(bracket, "[") || !is_text(colon, ":") {
+fn section_at(text: &[u8], token: Token) -> Option<(u64, u64)> {
+    let bracket = next_token(text, token.end);
+    let from = next_token(text, bracket.end);
+    let colon = next_token(text, from.end);
+    if !is_text(bytes_of(text, bracket), "[") || !is_text(bytes_of(text, colon), ":") {
         return None;
     }
-    let from = number_at(text, tokens, nth.saturating_add(2))?;
-    Some((from, number_at(text, tokens, nth.saturating_add(4))?))
+    let len = number_in(text, next_token(text, colon.end))?;
+    Some((number_in(text, from)?, len))
 }
 
-fn number_at(text: &[u8], tokens: &[Token], nth: usize) -> Option<u64> {
-    str::from_utf8(nth_bytes(text, tokens, nth))
-        .ok()?
-        .parse()
-        .ok()
+fn number_in(text: &[u8], token: Token) -> Option<u64> {
+    str::from_utf8(bytes_of(text, token)).ok()?.parse().ok()
 }

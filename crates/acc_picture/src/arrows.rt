@@ -21,7 +21,7 @@ struct Arrow {
 /// to one row share an arrow. What the pointers of a lent block hold is not known.
 pub fn put_arrows(page: &mut Page, table: &Table, names: &Names, scene: &DevicePicture) {
     let (mut from, mut to) = (usize::MAX, usize::MAX);
-    for attached in &scene.attached {
+    for attached in &scene.attached.all {
         if let Some(arrow) = arrow_of(table, scene, *attached) {
             if arrow.from != from || arrow.to != to {
                 put_arrow(page, names, arrow);
@@ -36,8 +36,8 @@ fn arrow_of(table: &Table, scene: &DevicePicture, attached: Attachment) -> Optio
     let place = table.device_address(scene.device, attached.pointer)?;
     let target = target_of(table, scene.device, attached.pointer)?;
     Some(Arrow {
-        from: last_from(&scene.rows, place)?,
-        to: last_from(&scene.rows, target)?,
+        from: last_from(&scene.rows.all, place)?,
+        to: last_from(&scene.rows.all, target)?,
         attached,
         target,
     })

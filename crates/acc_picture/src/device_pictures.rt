@@ -2,6 +2,7 @@
 
 use crate::device_rows::{DeviceRow, device_row};
 use crate::gathering::{Part, Stretch, add_attached, add_parts, add_stretches};
+use crate::lists::List;
 use crate::marks::{Strip, add_device_strips, add_host_strips};
 use crate::places::{LINE_PITCH, MARGIN, group_size, last_from, row_y};
 use crate::queues::{QueueLine, add_queues};
@@ -9,7 +10,7 @@ use acc_base::Attachment;
 use acc_read::Names;
 use acc_stale::Known;
 use acc_table::Table;
-use std::alloc::{AllocError, Global};
+use std::alloc::Global;
 
 /// What a device has.
 #[derive(Drop)]
@@ -17,98 +18,102 @@ pub struct DevicePicture {
     /// The number of the device.
     pub device: u64,
     /// Mapped ranges and other bytes of arrays, by rising host address.
-    pub parts: Vec<Part>,
+    pub parts: List<Part>,
     /// Its blocks and holes, by rising device address.
-    pub stretches: Vec<Stretch>,
+    pub stretches: List<Stretch>,
     /// The rows of these.
-    pub rows: Vec<DeviceRow>,
+    pub rows: List<DeviceRow>,
     /// Its attached pointers.
-    pub attached: Vec<Attachment>,
+    pub attached: List<Attachment>,
     /// Its queues that are not empty.
-    pub queues: Vec<QueueLine>,
-    /// Bytes that are behind or unfilled, where these are known.
-    pub strips: Option<Vec<Strip>>,
+    pub queues: List<QueueLine>,
+    /// Whether it is known which bytes are behind or unfilled.
+    pub is_known: bool,
+    /// Bytes that are behind or unfilled.
+    pub strips: List<Strip>,
 }
 
 impl DevicePicture {
-    /// What a device of a table has.
-    ///
-    /// # Errors
-    ///
-    /// Where memory is wanting.
+    /// What a device of a table has. Where it is known which bytes are behind or unfilled, these are added.
     pub fn new(
         alloc: Global,
         table: &Table,
         names: &Names,
+        known: Option<&Known>,
         device: u64,
-    ) -> Result<DevicePicture, AllocError> {
+    ) -> DevicePicture {
         let mut scene = DevicePicture {
             device,
-            parts: Vec::new(alloc),
-            stretches: Vec::new(alloc),
-            rows: Vec::new(alloc),
-            attached: Vec::new(alloc),
-            queues: Vec::new(alloc),
-            strips: None,
+            parts: List::new(alloc),
+            stretches: List::new(alloc),
+            rows: List::new(alloc),
+            attached: List::new(alloc),
+            queues: List::new(alloc),
+            is_known: known.is_some(),
+            strips: List::new(alloc),
         };
-        scene.gather(alloc, table, names)?;
-        Ok(scene)
+        scene.gather(alloc, table, names);
+        scene.mark(known);
+        scene
     }
 
-    fn gather(&mut self, alloc: Global, table: &Table, names: &Names) -> Result<(), AllocError> {
-        let device = self.device;
-        add_parts(table, names, device, &mut self.parts)?;
-        add_stretches(alloc, table, device, &self.parts, &mut self.stretches)?;
-        add_rows(&self.stretches, &mut self.rows)?;
-        add_attached(table, device, &self.parts, &mut self.attached)?;
-        add_queues(alloc, table, device, &mut self.queues)?;
-        attach_all(&mut self.rows, table, device, &self.attached);
-        Ok(())
+    fn gather(&mut self, alloc: Global, table: &Table, names: &Names) {
+        add_parts(table, names, self.device, &mut self.parts);
+        add_stretches(
+            alloc,
+            table,
+            self.device,
+            &self.parts.all,
+            &mut self.stretches,
+        );
+        self.add_rows();
+        self.attach(table);
+        add_queues(alloc, table, self.device, &mut self.queues);
     }
 
-    /// Adds the bytes that are behind or unfilled.
-    ///
-    /// # Errors
-    ///
-    /// Where memory is wanting.
-    pub fn mark(&mut self, alloc: Global, known: &Known) -> Result<(), AllocError> {
-        let mut strips = Vec::new(alloc);
-        add_host_strips(known, &self.parts, &mut strips)?;
-        add_device_strips(known, self.device, &self.stretches, &mut strips)?;
-        self.strips = Some(strips);
-        Ok(())
+    fn mark(&mut self, known: Option<&Known>) {
+        if let Some(known) = known {
+            add_host_strips(known, &self.parts.all, &mut self.strips);
+            add_device_strips(known, self.device, &self.stretches.all, &mut self.strips);
+        }
+    }
+
+    fn add_rows(&mut self) {
+        let stretches = &self.stretches.all;
+        for group in stretches.chunks(group_size(stretches.len())) {
+            if let Some(row) = device_row(group) {
+                self.rows.add(row);
+            }
+        }
+    }
+
+    fn attach(&mut self, table: &Table) {
+        for part in &self.parts.all {
+            add_attached(table, self.device, *part, &mut self.attached);
+        }
+        for attached in &self.attached.all {
+            let place = table.device_address(self.device, attached.pointer);
+            attach(&mut self.rows.all, place, *attached);
+        }
+    }
+
+    /// Whether there was no memory for some of it.
+    pub fn wants(&self) -> bool {
+        let host = self.parts.wants | self.strips.wants | self.queues.wants;
+        host | self.stretches.wants | self.rows.wants | self.attached.wants
     }
 
     /// The lower edge of its rows, in pixels.
     pub fn foot(&self) -> u64 {
-        let count = self.parts.len();
+        let count = self.parts.all.len();
         let host = count.div_ceil(group_size(count));
-        row_y(host.max(self.rows.len()))
+        row_y(host.max(self.rows.all.len()))
     }
 
     /// The height of its picture, in pixels.
     pub fn height(&self) -> u64 {
-        let lines = LINE_PITCH.saturating_mul(self.queues.len() as u64);
+        let lines = LINE_PITCH.saturating_mul(self.queues.all.len() as u64);
         self.foot().saturating_add(lines).saturating_add(MARGIN)
-    }
-}
-
-fn add_rows(stretches: &[Stretch], rows: &mut Vec<DeviceRow>) -> Result<(), AllocError> {
-    for group in stretches.chunks(group_size(stretches.len())) {
-        if let Some(row) = device_row(group) {
-            rows.push(row)?;
-        }
-    }
-    Ok(())
-}
-
-fn attach_all(rows: &mut [DeviceRow], table: &Table, device: u64, all: &[Attachment]) {
-    for attached in all {
-        attach(
-            rows,
-            table.device_address(device, attached.pointer),
-            *attached,
-        );
     }
 }
 

@@ -1,11 +1,11 @@
 //! What a table has in host memory and on one device.
 
-use crate::births::add_births;
+use crate::lists::List;
 use crate::places::Addressed;
-use acc_base::{Attachment, HOST_BASE, Section};
+use acc_base::{Attachment, Did, Event, HOST_BASE, Section, Step};
 use acc_read::Names;
 use acc_table::{Mapped, Place, Table};
-use std::alloc::{AllocError, Global};
+use std::alloc::Global;
 use std::collections::BTreeMap;
 
 /// Bytes of host memory that lie side by side: a mapped range, or bytes of an array that are not mapped.
@@ -73,16 +73,7 @@ pub struct Stretch {
 }
 
 /// Adds the mapped ranges of a device, and the bytes of arrays between them and behind them, by rising host address.
-///
-/// # Errors
-///
-/// Where memory is wanting.
-pub fn add_parts(
-    table: &Table,
-    names: &Names,
-    device: u64,
-    parts: &mut Vec<Part>,
-) -> Result<(), AllocError> {
+pub fn add_parts(table: &Table, names: &Names, device: u64, parts: &mut List<Part>) {
     let mut from = HOST_BASE;
     let mut near = Place::default();
     for _ in 0..u64::MAX {
@@ -94,10 +85,9 @@ pub fn add_parts(
         let Some(part) = part_at(names, from, next) else {
             break;
         };
-        parts.push(part)?;
+        parts.add(part);
         from = end_of(part.section);
     }
-    Ok(())
 }
 
 /// The host address behind a section.
@@ -108,20 +98,17 @@ pub fn end_of(section: Section) -> u64 {
 /// What comes next from an address on, where this is the next mapped range.
 fn part_at(names: &Names, from: u64, next: Option<Mapped>) -> Option<Part> {
     let limit = next.map_or(u64::MAX, |mapped| mapped.start);
-    let mapped = match unmapped_at(names, from, limit) {
-        Some(section) => {
-            return Some(Part {
-                section,
-                mapped: None,
-            });
-        }
-        None => next?,
+    if let Some(section) = unmapped_at(names, from, limit) {
+        let mapped = None;
+        return Some(Part { section, mapped });
+    }
+    let mapped = next?;
+    let section = Section {
+        start: mapped.start,
+        len: mapped.len,
     };
     Some(Part {
-        section: Section {
-            start: mapped.start,
-            len: mapped.len,
-        },
+        section,
         mapped: next,
     })
 }
@@ -135,144 +122,128 @@ fn unmapped_at(names: &Names, from: u64, limit: u64) -> Option<Section> {
     (0 < len).then_some(Section { start, len })
 }
 
-/// Adds the blocks and holes of a device, by rising device address.
-///
-/// # Errors
-///
-/// Where memory is wanting.
+/// Stretches of a device by their places. At each place the last one stays.
+#[derive(Drop)]
+pub struct Stretches {
+    by_place: BTreeMap<u64, Stretch>,
+    /// Whether there was no memory for some of them.
+    wants: bool,
+}
+
+/// Adds the blocks and holes of a device, by rising device address. Births come first: what is there now goes over those
+/// at the same places.
 pub fn add_stretches(
     alloc: Global,
     table: &Table,
     device: u64,
     parts: &[Part],
-    stretches: &mut Vec<Stretch>,
-) -> Result<(), AllocError> {
-    let mut by_place = BTreeMap::new(alloc);
-    place_all(table, device, parts, &mut by_place)?;
-    add_placed(&by_place, stretches)
+    stretches: &mut List<Stretch>,
+) {
+    let mut found = Stretches {
+        by_place: BTreeMap::new(alloc),
+        wants: false,
+    };
+    found.gather(table, device, parts);
+    found.list(stretches);
 }
 
-fn add_placed(
-    by_place: &BTreeMap<u64, Stretch>,
-    stretches: &mut Vec<Stretch>,
-) -> Result<(), AllocError> {
-    for (_, stretch) in by_place.iter() {
-        if stretch.size > 0 {
-            stretches.push(*stretch)?;
+impl Stretches {
+    fn gather(&mut self, table: &Table, device: u64, parts: &[Part]) {
+        self.add_births(table, device);
+        for part in parts {
+            self.add_block(*part);
+        }
+        self.add_ended(table, device);
+        self.add_holes(table, device);
+    }
+
+    fn add(&mut self, place: u64, size: u64, kind: StretchKind, section: Option<Section>) {
+        let stretch = Stretch {
+            place,
+            size,
+            kind,
+            section,
+        };
+        self.wants |= self.by_place.insert(place, stretch).is_err();
+    }
+
+    /// Adds a stretch of no size for each block that was made since the base of the table.
+    fn add_births(&mut self, table: &Table, device: u64) {
+        for event in table.trace() {
+            if event.device() == device {
+                self.add_born(event, event.did());
+            }
         }
     }
-    Ok(())
-}
 
-/// Births come first: what is there now goes over those at the same places.
-fn place_all(
-    table: &Table,
-    device: u64,
-    parts: &[Part],
-    by_place: &mut BTreeMap<u64, Stretch>,
-) -> Result<(), AllocError> {
-    add_births(table, device, by_place)?;
-    for part in parts {
-        add_block(*part, by_place)?;
+    fn add_born(&mut self, event: &Event, did: &[Did]) {
+        for (nth, did) in did.iter().enumerate() {
+            if let (Step::Born { place, .. }, Some(task)) = (did.step, event.task(nth)) {
+                self.add(place, 0, StretchKind::Ended(0), Some(task.section()));
+            }
+        }
     }
-    add_ended(table, device, by_place)?;
-    add_holes(table, device, by_place)
-}
 
-fn add_block(part: Part, by_place: &mut BTreeMap<u64, Stretch>) -> Result<(), AllocError> {
-    let Some(mapped) = part.mapped else {
-        return Ok(());
-    };
-    let stretch = Stretch {
-        place: mapped.place,
-        size: mapped.len.div_ceil(16).saturating_mul(16),
-        kind: part.kind(),
-        section: Some(part.section),
-    };
-    by_place.insert(mapped.place, stretch)?;
-    Ok(())
-}
-
-fn add_ended(
-    table: &Table,
-    device: u64,
-    by_place: &mut BTreeMap<u64, Stretch>,
-) -> Result<(), AllocError> {
-    let mut from = 0;
-    for _ in 0..u64::MAX {
-        let Some(ended) = table.ended(device, from) else {
-            break;
-        };
-        let stretch = Stretch {
-            place: ended.place,
-            size: ended.size,
-            kind: StretchKind::Ended(ended.pins),
-            section: section_at(by_place, ended.place),
-        };
-        by_place.insert(ended.place, stretch)?;
-        from = ended.place.saturating_add(1);
+    fn add_block(&mut self, part: Part) {
+        if let Some(mapped) = part.mapped {
+            let size = mapped.len.div_ceil(16).saturating_mul(16);
+            self.add(mapped.place, size, part.kind(), Some(part.section));
+        }
     }
-    Ok(())
-}
 
-fn section_at(by_place: &BTreeMap<u64, Stretch>, place: u64) -> Option<Section> {
-    by_place.get(&place)?.section
-}
-
-fn add_holes(
-    table: &Table,
-    device: u64,
-    by_place: &mut BTreeMap<u64, Stretch>,
-) -> Result<(), AllocError> {
-    let mut from = 0;
-    for _ in 0..u64::MAX {
-        let Some(hole) = table.hole(device, from) else {
-            break;
-        };
-        let stretch = Stretch {
-            place: hole.place,
-            size: hole.size,
-            kind: StretchKind::Hole,
-            section: None,
-        };
-        by_place.insert(hole.place, stretch)?;
-        from = hole.place.saturating_add(1);
+    fn add_ended(&mut self, table: &Table, device: u64) {
+        let mut from = 0;
+        for _ in 0..u64::MAX {
+            let Some(ended) = table.ended(device, from) else {
+                break;
+            };
+            let section = self.section_at(ended.place);
+            self.add(
+                ended.place,
+                ended.size,
+                StretchKind::Ended(ended.pins),
+                section,
+            );
+            from = ended.place.saturating_add(1);
+        }
     }
-    Ok(())
-}
 
-/// Adds the attached pointers of the parts, by rising host address (OpenACC 3.3, section 2.6.8).
-///
-/// # Errors
-///
-/// Where memory is wanting.
-pub fn add_attached(
-    table: &Table,
-    device: u64,
-    parts: &[Part],
-    attached: &mut Vec<Attachment>,
-) -> Result<(), AllocError> {
-    for part in parts {
-        attached_in(table, device, part.section, attached)?;
+    fn section_at(&self, place: u64) -> Option<Section> {
+        self.by_place.get(&place)?.section
     }
-    Ok(())
+
+    fn add_holes(&mut self, table: &Table, device: u64) {
+        let mut from = 0;
+        for _ in 0..u64::MAX {
+            let Some(hole) = table.hole(device, from) else {
+                break;
+            };
+            self.add(hole.place, hole.size, StretchKind::Hole, None);
+            from = hole.place.saturating_add(1);
+        }
+    }
+
+    /// Adds those that have a size to a list, by rising place.
+    fn list(&self, all: &mut List<Stretch>) {
+        all.wants |= self.wants;
+        for (_, stretch) in self.by_place.iter() {
+            if stretch.size > 0 {
+                all.add(*stretch);
+            }
+        }
+    }
 }
 
-fn attached_in(
-    table: &Table,
-    device: u64,
-    section: Section,
-    attached: &mut Vec<Attachment>,
-) -> Result<(), AllocError> {
-    let end = end_of(section);
-    let mut start = section.start;
+/// Adds the attached pointers of a part, by rising host address (OpenACC 3.3, section 2.6.8).
+pub fn add_attached(table: &Table, device: u64, part: Part, attached: &mut List<Attachment>) {
+    let end = end_of(part.section);
+    let mut start = part.section.start;
     for _ in 0..u64::MAX {
         let len = end.saturating_sub(start);
         let Some(next) = table.next_attached(device, Section { start, len }) else {
             break;
         };
-        attached.push(next)?;
+        attached.add(next);
         start = next.pointer.saturating_add(1);
     }
-    Ok(())
 }

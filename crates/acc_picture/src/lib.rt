@@ -7,12 +7,12 @@
 
 mod arrows;
 mod bars;
-mod births;
 mod device_pictures;
 mod device_rows;
 mod gathering;
 mod host_rows;
 mod links;
+mod lists;
 mod marks;
 mod pictures;
 mod places;

@@ -13,7 +13,7 @@ pub fn put_links(page: &mut Page, scene: &DevicePicture, parts: &[Part], nth: us
     let mut count = 0;
     for part in parts {
         let to = match part.mapped {
-            Some(mapped) => last_from(&scene.rows, mapped.place),
+            Some(mapped) => last_from(&scene.rows.all, mapped.place),
             None => None,
         };
         if to != last {
@@ -46,7 +46,7 @@ fn put_between(page: &mut Page, class: &str, nth: usize, to: usize) {
 
 /// Puts a line to each block whose mapping has ended, from the host bytes that were mapped to it.
 pub fn put_kept(page: &mut Page, scene: &DevicePicture) {
-    for stretch in &scene.stretches {
+    for stretch in &scene.stretches.all {
         if matches!(stretch.kind, StretchKind::Ended(_)) {
             put_kept_line(page, scene, *stretch);
         }
@@ -54,10 +54,11 @@ pub fn put_kept(page: &mut Page, scene: &DevicePicture) {
 }
 
 fn put_kept_line(page: &mut Page, scene: &DevicePicture, stretch: Stretch) {
-    let (Some(section), Some(to)) = (stretch.section, last_from(&scene.rows, stretch.place)) else {
+    let (Some(section), Some(to)) = (stretch.section, last_from(&scene.rows.all, stretch.place))
+    else {
         return;
     };
-    if let Some(nth) = last_from(&scene.parts, section.start) {
-        put_between(page, "kept", nth / group_size(scene.parts.len()), to);
+    if let Some(nth) = last_from(&scene.parts.all, section.start) {
+        put_between(page, "kept", nth / group_size(scene.parts.all.len()), to);
     }
 }

@@ -1,13 +1,13 @@
 //! Bytes that are behind, or that nothing filled, as strips in the rows.
 
 use crate::gathering::{Part, Stretch, StretchKind, end_of};
+use crate::lists::List;
 use crate::places::{ROW_HEIGHT, device_area, group_size, host_area};
 use crate::shapes::{Area, Point, close_group, put_box, put_text};
 use crate::styles::MARK_STYLE;
 use acc_base::Section;
 use acc_read::Page;
 use acc_stale::{Known, Mark, Placed, Run};
-use std::alloc::AllocError;
 
 /// How high a strip is, in pixels.
 const HEIGHT: u64 = 4;
@@ -47,13 +47,7 @@ impl Row {
     }
 
     /// Adds the strips of a section in host memory, or as a block has it.
-    fn add(
-        self,
-        known: &Known,
-        block: Option<Placed>,
-        section: Section,
-        strips: &mut Vec<Strip>,
-    ) -> Result<(), AllocError> {
+    fn add(self, known: &Known, block: Option<Placed>, section: Section, strips: &mut List<Strip>) {
         let first = block.map_or(section.start, |block| block.place);
         let mut rest = section;
         for _ in 0..section.len {
@@ -67,10 +61,33 @@ impl Row {
             let start = rest.start.saturating_add(run.at as u64);
             let offset = start.saturating_sub(section.start);
             let strip = self.strip(first.saturating_add(offset), run.len as u64, run.mark);
-            add(strip, strips)?;
+            add(strip, strips);
             rest = behind(section, start, run);
         }
-        Ok(())
+    }
+
+    fn add_parts(self, known: &Known, parts: &[Part], strips: &mut List<Strip>) {
+        for part in parts {
+            self.add(known, None, part.section, strips);
+        }
+    }
+
+    /// Adds the strips of those blocks that are mapped.
+    fn add_blocks(self, known: &Known, device: u64, all: &[Stretch], strips: &mut List<Strip>) {
+        for stretch in all {
+            if let (Some(section), StretchKind::Mapped | StretchKind::Lent) = (
+                stretch.section,
+                stretch.kind,
+            ) {
+                let placed = Placed {
+                    device,
+                    block: 0,
+                    start: section.start,
+                    place: stretch.place,
+                };
+                self.add(known, Some(placed), section, strips);
+            }
+        }
     }
 
     /// The strip of so many addresses, at least one pixel wide.
@@ -97,103 +114,33 @@ fn class_of(mark: Mark) -> &'static str {
 }
 
 /// Adds the strips of host memory.
-///
-/// # Errors
-///
-/// Where memory is wanting.
-pub fn add_host_strips(
-    known: &Known,
-    parts: &[Part],
-    strips: &mut Vec<Strip>,
-) -> Result<(), AllocError> {
+pub fn add_host_strips(known: &Known, parts: &[Part], strips: &mut List<Strip>) {
     for (nth, group) in parts.chunks(group_size(parts.len())).enumerate() {
-        if let Some(row) = host_row(group, nth) {
-            add_host_group(row, known, group, strips)?;
+        if let (Some(first), Some(last)) = (group.first(), group.last()) {
+            let (start, end) = (first.section.start, end_of(last.section));
+            let area = host_area(nth);
+            Row { area, start, end }.add_parts(known, group, strips);
         }
     }
-    Ok(())
-}
-
-/// The row of a number, of some parts of host memory, if there are any.
-fn host_row(group: &[Part], nth: usize) -> Option<Row> {
-    Some(Row {
-        area: host_area(nth),
-        start: group.first()?.section.start,
-        end: end_of(group.last()?.section),
-    })
-}
-
-fn add_host_group(
-    row: Row,
-    known: &Known,
-    group: &[Part],
-    strips: &mut Vec<Strip>,
-) -> Result<(), AllocError> {
-    for part in group {
-        row.add(known, None, part.section, strips)?;
-    }
-    Ok(())
 }
 
 /// Adds the strips of a device.
-///
-/// # Errors
-///
-/// Where memory is wanting.
-pub fn add_device_strips(
-    known: &Known,
-    device: u64,
-    stretches: &[Stretch],
-    strips: &mut Vec<Strip>,
-) -> Result<(), AllocError> {
-    for (nth, group) in stretches.chunks(group_size(stretches.len())).enumerate() {
-        if let Some(row) = device_row(group, nth) {
-            add_device_group(row, known, device, group, strips)?;
+pub fn add_device_strips(known: &Known, device: u64, all: &[Stretch], strips: &mut List<Strip>) {
+    for (nth, group) in all.chunks(group_size(all.len())).enumerate() {
+        if let (Some(first), Some(last)) = (group.first(), group.last()) {
+            let (start, end) = (first.place, last.place.saturating_add(last.size));
+            let area = device_area(nth);
+            Row { area, start, end }.add_blocks(known, device, group, strips);
         }
     }
-    Ok(())
-}
-
-/// The row of a number, of some blocks and holes, if there are any.
-fn device_row(group: &[Stretch], nth: usize) -> Option<Row> {
-    let (first, last) = (group.first()?, group.last()?);
-    Some(Row {
-        area: device_area(nth),
-        start: first.place,
-        end: last.place.saturating_add(last.size),
-    })
-}
-
-fn add_device_group(
-    row: Row,
-    known: &Known,
-    device: u64,
-    group: &[Stretch],
-    strips: &mut Vec<Strip>,
-) -> Result<(), AllocError> {
-    for stretch in group {
-        if let (Some(section), StretchKind::Mapped | StretchKind::Lent) = (
-            stretch.section,
-            stretch.kind,
-        ) {
-            let placed = Placed {
-                device,
-                block: 0,
-                start: section.start,
-                place: stretch.place,
-            };
-            row.add(known, Some(placed), section, strips)?;
-        }
-    }
-    Ok(())
 }
 
 /// Adds a strip, unless the one before covers it.
-fn add(strip: Strip, strips: &mut Vec<Strip>) -> Result<(), AllocError> {
-    if !strips.last().map_or(false, |last| last.covers(strip)) {
-        strips.push(strip)?;
+fn add(strip: Strip, strips: &mut List<Strip>) {
+    match strips.all.last() {
+        Some(last) if last.covers(strip) => {}
+        _ => strips.add(strip),
     }
-    Ok(())
 }
 
 impl Strip {

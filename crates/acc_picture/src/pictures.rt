@@ -6,6 +6,7 @@ use crate::device_pictures::DevicePicture;
 use crate::gathering::Part;
 use crate::host_rows::host_row;
 use crate::links::{put_kept, put_links};
+use crate::lists::List;
 use crate::marks::put_strips;
 use crate::places::{
     ATTACHED, DEVICE_ADDRESS, DEVICE_BYTES, DEVICE_X, DYNAMIC, HOST_ADDRESS, HOST_BYTES, HOST_X,
@@ -52,27 +53,23 @@ pub fn put_picture(
     known: Option<&Known>,
     caption: Caption<'_>,
 ) -> Result<(), AllocError> {
-    let mut scenes = Vec::new(alloc);
-    add_scenes(alloc, table, names, known, &mut scenes)?;
-    put_scenes(page, alloc, table, names, caption, &scenes);
+    let mut scenes = List::new(alloc);
+    for device in 0..table.config().devices() {
+        add_scene(
+            &mut scenes,
+            DevicePicture::new(alloc, table, names, known, device),
+        );
+    }
+    if scenes.wants {
+        return Err(AllocError);
+    }
+    put_scenes(page, alloc, table, names, caption, &scenes.all);
     Ok(())
 }
 
-fn add_scenes(
-    alloc: Global,
-    table: &Table,
-    names: &Names,
-    known: Option<&Known>,
-    scenes: &mut Vec<DevicePicture>,
-) -> Result<(), AllocError> {
-    for device in 0..table.config().devices() {
-        let mut scene = DevicePicture::new(alloc, table, names, device)?;
-        if let Some(known) = known {
-            scene.mark(alloc, known)?;
-        }
-        scenes.push(scene)?;
-    }
-    Ok(())
+fn add_scene(scenes: &mut List<DevicePicture>, scene: DevicePicture) {
+    scenes.wants |= scene.wants();
+    scenes.add(scene);
 }
 
 fn put_scenes(
@@ -112,16 +109,16 @@ fn put_scene(
     put_heads(page, DEVICE_X, &DEVICE_HEADS);
     put_host_rows(page, alloc, names, scene);
     put_device_rows(page, alloc, names, scene);
-    if let Some(strips) = &scene.strips {
-        put_strips(page, scene.device, strips);
+    if scene.is_known {
+        put_strips(page, scene.device, &scene.strips.all);
     }
     put_kept(page, scene);
-    put_queues(page, alloc, names, &scene.queues, scene.foot());
+    put_queues(page, alloc, names, &scene.queues.all, scene.foot());
     put_arrows(page, table, names, scene);
 }
 
 fn put_device_rows(page: &mut Page, alloc: Global, names: &Names, scene: &DevicePicture) {
-    for (nth, row) in scene.rows.iter().enumerate() {
+    for (nth, row) in scene.rows.all.iter().enumerate() {
         row.put(page, alloc, names, nth);
     }
 }
@@ -211,8 +208,14 @@ fn put_sums(page: &mut Page, table: &Table, device: u64) {
 
 fn put_bars(page: &mut Page, table: &Table, scene: &DevicePicture) {
     let config = table.config();
-    put_host_bar(page, 50, config.host(), &scene.parts);
-    put_device_bar(page, 72, config.device(), scene.device, &scene.stretches);
+    put_host_bar(page, 50, config.host(), &scene.parts.all);
+    put_device_bar(
+        page,
+        72,
+        config.device(),
+        scene.device,
+        &scene.stretches.all,
+    );
 }
 
 /// The heads of the columns of host memory, and how far they stand from the left edge of its rows.
@@ -241,7 +244,7 @@ fn put_heads(page: &mut Page, x: u64, heads: &[(&str, u64)]) {
 }
 
 fn put_host_rows(page: &mut Page, alloc: Global, names: &Names, scene: &DevicePicture) {
-    let parts = &scene.parts;
+    let parts = &scene.parts.all;
     for (nth, group) in parts.chunks(group_size(parts.len())).enumerate() {
         put_host_row(page, alloc, names, scene, group, nth);
     }

@@ -1,14 +1,13 @@
 //! The copies that wait in the queues of a device.
 
+use crate::lists::List;
 use crate::places::{LINE_PITCH, MARGIN};
 use crate::shapes::{Point, close_text, open_text};
 use crate::short_names::put_short_name;
-use acc_base::{
-    Did, EnterClause, Event, ExitClause, Item, QUEUE_COUNT, Section, Step, UpdateClause,
-};
+use acc_base::{Did, Event, QUEUE_COUNT, Section};
 use acc_read::{Names, Page};
 use acc_table::Table;
-use std::alloc::{AllocError, Global};
+use std::alloc::Global;
 
 /// A copy that was put into a queue.
 #[derive(Clone, Copy)]
@@ -25,120 +24,49 @@ pub struct QueueLine {
     /// How many copies wait.
     len: u64,
     /// All copies that were put into it since the base of the table; the last of them wait.
-    copies: Vec<Queued>,
+    copies: List<Queued>,
 }
 
 /// How many copies of a queue are named at most.
 const COPY_LIMIT: usize = 3;
 
 /// Adds the queues of a device that are not empty, by rising number (OpenACC 3.3, section 2.16).
-///
-/// # Errors
-///
-/// Where memory is wanting.
-pub fn add_queues(
-    alloc: Global,
-    table: &Table,
-    device: u64,
-    queues: &mut Vec<QueueLine>,
-) -> Result<(), AllocError> {
+pub fn add_queues(alloc: Global, table: &Table, device: u64, queues: &mut List<QueueLine>) {
     for number in 0..QUEUE_COUNT {
         let len = table.queue_len(device, number);
         if len > 0 {
-            queues.push(QueueLine {
+            let copies = copies_of(alloc, table, device, number);
+            queues.wants |= copies.wants;
+            queues.add(QueueLine {
                 number,
                 len,
-                copies: Vec::new(alloc),
-            })?;
+                copies,
+            });
         }
     }
-    add_all(table, device, queues)
 }
 
-fn add_all(table: &Table, device: u64, queues: &mut [QueueLine]) -> Result<(), AllocError> {
-    for queue in queues {
-        add_copies(table, device, queue.number, &mut queue.copies)?;
-    }
-    Ok(())
-}
-
-fn add_copies(
-    table: &Table,
-    device: u64,
-    number: u64,
-    copies: &mut Vec<Queued>,
-) -> Result<(), AllocError> {
+fn copies_of(alloc: Global, table: &Table, device: u64, number: u64) -> List<Queued> {
+    let mut copies = List::new(alloc);
     for event in table.trace() {
         if event.device() == device {
-            add_event(event, number, copies)?;
+            add_copies(event, event.did(), number, &mut copies);
         }
     }
-    Ok(())
+    copies
 }
 
-fn add_event(event: &Event, number: u64, copies: &mut Vec<Queued>) -> Result<(), AllocError> {
-    let into = Some(number);
-    match event {
-        Event::EnteredData { items, queue, .. } if *queue == into => {
-            add_made(items.as_slice(), event.did(), copies)
+/// Adds the copies that the items of an event put into a queue.
+fn add_copies(event: &Event, did: &[Did], number: u64, copies: &mut List<Queued>) {
+    for (nth, did) in did.iter().enumerate() {
+        if let Some(task) = event.task(nth) {
+            if task.queue() == Some(number) && task.copies(did.step) {
+                copies.add(Queued {
+                    section: task.section(),
+                    out: task.goes_out(),
+                });
+            }
         }
-        Event::ExitedData { items, queue, .. } if *queue == into => {
-            add_made(items.as_slice(), event.did(), copies)
-        }
-        Event::Updated { items, queue, .. } if *queue == into => {
-            add_made(items.as_slice(), event.did(), copies)
-        }
-        _ => Ok(()),
-    }
-}
-
-/// Adds the copies that the items of an event made.
-fn add_made<C: CopyingClause>(
-    items: &[Item<C>],
-    did: &[Did],
-    copies: &mut Vec<Queued>,
-) -> Result<(), AllocError> {
-    for nth in 0..items.len() {
-        if let Some(queued) = queued_by(items.get(nth), did.get(nth)) {
-            copies.push(queued)?;
-        }
-    }
-    Ok(())
-}
-
-/// The copy that an item made, if it made one.
-fn queued_by<C: CopyingClause>(item: Option<&Item<C>>, did: Option<&Did>) -> Option<Queued> {
-    let (Some(item), Some(did)) = (item, did) else {
-        return None;
-    };
-    let out = item.clause.copies_out_by(did.step)?;
-    let section = item.section;
-    Some(Queued { section, out })
-}
-
-/// A clause whose copies may be put into a queue.
-trait CopyingClause: Copy {
-    /// Whether the copy that it makes by a step is one to host memory; `None` where it makes none.
-    fn copies_out_by(self, step: Step) -> Option<bool>;
-}
-
-impl CopyingClause for EnterClause {
-    fn copies_out_by(self, step: Step) -> Option<bool> {
-        let is_made = self.as_region().copies_in() && matches!(step, Step::Born { .. });
-        is_made.then_some(false)
-    }
-}
-
-impl CopyingClause for ExitClause {
-    fn copies_out_by(self, step: Step) -> Option<bool> {
-        let is_made = self.copies_out() && matches!(step, Step::Dropped { ended: true, .. });
-        is_made.then_some(true)
-    }
-}
-
-impl CopyingClause for UpdateClause {
-    fn copies_out_by(self, step: Step) -> Option<bool> {
-        matches!(step, Step::Moved { .. }).then_some(self.copies_out())
     }
 }
 
@@ -176,8 +104,8 @@ impl QueueLine {
 
     fn waiting(&self) -> &[Queued] {
         let len = usize::try_from(self.len).unwrap_or(usize::MAX);
-        let made = self.copies.len().saturating_sub(len);
-        self.copies.get(made..).unwrap_or(&[])
+        let made = self.copies.all.len().saturating_sub(len);
+        self.copies.all.get(made..).unwrap_or(&[])
     }
 }
 

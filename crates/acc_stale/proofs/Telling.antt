@@ -31,7 +31,7 @@ use Rattle.acc_stale.specs.Events.{placed_in, pointers_of}
 use Rattle.acc_stale.specs.Told.{IsThere, StartsIn, IsStepTold}
 use Rattle.acc_stale.specs.Accounts.{ToldBlock, told_at, attached_at, HasSameBlocks, IsChanged, is_in, waiting_in}
 use Rattle.acc_stale.specs.Follows.{IsBlockTold, IsRangeTold, AreBlocksTold, FollowsDevice, IsStepFit}
-use Rattle.acc_stale.specs.Tells.{placed_at, held_new, placed_by, IsStepKept, attached_of, waiting_after, LeavesOthers}
+use Rattle.acc_stale.specs.Tells.{placed_at, held_new, placed_by, IsStepKept, attached_by, waiting_after, LeavesOthers}
 use Rattle.acc_stale.proofs.Followed.{AreKept, still_told, same_kept, recount_kept, ended_kept, born_told}
 
 -- ---- a block that is mapped
@@ -70,43 +70,38 @@ mapped_told l d k a s follows sound some = go (range_of k s.records.ranges) refl
 pub placed_told : (d k : ℕ) (a : Account) (s : State) → IsTelling d k a s → placed_at d k a ≡ Some (placed_in d k s)
 placed_told d k a s telling = ap (option_map (λ (t : ToldBlock). t.held.placed)) telling.is ∙ ap Some telling.placed
 
-attached_told : (d k : ℕ) (a b : Account) (s : State) → HasSameBlocks a b → IsTelling d k a s → attached_at d k b ≡ pointers_of k s.records.attached
-attached_told d k a b s same telling = ap (λ (o : Option ToldBlock). unwrap_or (option_map (λ (t : ToldBlock). t.attached) o) []) (same d k ∙ telling.is) ∙ telling.attached
+attached_told : (d k : ℕ) (a : Account) (s : State) → IsTelling d k a s → attached_at d k a ≡ pointers_of k s.records.attached
+attached_told d k a s telling = ap (λ (o : Option ToldBlock). unwrap_or (option_map (λ (t : ToldBlock). t.attached) o) []) telling.is ∙ telling.attached
 
 -- ---- the step of an item is told
 
-there_told : (d k : ℕ) (a b : Account) (s : State) (block : Option Placed) (attached : List Attachment) (P : Option Placed → Type 0) → block ≡ placed_at d k a → IsTelling d k a s → P (Some (placed_in d k s)) → P block
-there_told d k a b s block attached P is telling h = subst P (sym (is ∙ placed_told d k a s telling)) h
+there_told : (d k : ℕ) (a : Account) (s : State) (block : Option Placed) (P : Option Placed → Type 0) → block ≡ placed_at d k a → IsTelling d k a s → P (Some (placed_in d k s)) → P block
+there_told d k a s block P is telling h = subst P (sym (is ∙ placed_told d k a s telling)) h
 
-step_there : (d k : ℕ) (a b : Account) (s : State) (block : Option Placed) (attached : List Attachment) → block ≡ placed_at d k a → attached ≡ attached_of block b → HasSameBlocks a b → IsTelling d k a s → IsThere (placed_in d k s) k attached s
-step_there d k a b s block attached is own same telling = record {
-  placed = refl;
-  pointers = own ∙ ap (λ o. attached_of o b) (is ∙ placed_told d k a s telling) ∙ attached_told d k a b s same telling;
-}
+step_there : (d k : ℕ) (a : Account) (s : State) (attached : List Attachment) → attached ≡ attached_at d k a → IsTelling d k a s → IsThere (placed_in d k s) k attached s
+step_there d k a s attached own telling = record { placed = refl; pointers = own ∙ attached_told d k a s telling }
 
-pub step_told : (l : Limits) (d line : ℕ) (task : Task) (step : Step) (a b : Account) (s : State) (block : Option Placed) (attached : List Attachment) → block ≡ placed_by d (section_of task) step a → IsStepKept d (section_of task) line step a b → attached ≡ attached_of block b
+pub step_told : (l : Limits) (d : ℕ) (task : Task) (step : Step) (a : Account) (s : State) (block : Option Placed) (attached : List Attachment) → block ≡ placed_by d (section_of task) step a → attached ≡ attached_by d step a
     → FollowsDevice d a s.records → AreRecordsSound l s.records → IsStepFit step s.records → IsStepTold d block task step attached s
-step_told l d line task Nothing a b s block attached is kept own follows sound fit = subst (λ o. IsStepTold d o task Nothing attached s) (sym is) tt
-step_told l d line task (Counted k) a b s block attached is kept own follows sound fit = subst (λ o. IsStepTold d o task (Counted k) attached s) (sym is) tt
-step_told l d line task (Born k place) a b s block attached is kept own follows sound fit =
-    let none : attached_at d k b ≡ [] = ap (λ (o : Option ToldBlock). unwrap_or (option_map (λ (t : ToldBlock). t.attached) o) []) kept.here in
-    subst (λ o. IsStepTold d o task (Born k place) attached s) (sym is) (refl, (refl, own ∙ ap (λ o. attached_of o b) is ∙ none))
-step_told l d line task (Dropped k true) a b s block attached is kept own follows sound fit =
+step_told l d task Nothing a s block attached is own follows sound fit = subst (λ o. IsStepTold d o task Nothing attached s) (sym is) tt
+step_told l d task (Counted k) a s block attached is own follows sound fit = subst (λ o. IsStepTold d o task (Counted k) attached s) (sym is) tt
+step_told l d task (Born k place) a s block attached is own follows sound fit = subst (λ o. IsStepTold d o task (Born k place) attached s) (sym is) (refl, (refl, own))
+step_told l d task (Dropped k true) a s block attached is own follows sound fit =
     let telling : IsTelling d k a s = mapped_told l d k a s follows sound fit in
-    there_told d k a b s block attached (λ o. IsStepTold d o task (Dropped k true) attached s) is telling (refl, step_there d k a b s block attached is own kept.0 telling)
-step_told l d line task (Dropped k false) a b s block attached is kept own follows sound fit = subst (λ o. IsStepTold d o task (Dropped k false) attached s) (sym is) tt
-step_told l d line task (Moved k) a b s block attached is kept own follows sound fit =
+    there_told d k a s block (λ o. IsStepTold d o task (Dropped k true) attached s) is telling (refl, step_there d k a s attached own telling)
+step_told l d task (Dropped k false) a s block attached is own follows sound fit = subst (λ o. IsStepTold d o task (Dropped k false) attached s) (sym is) tt
+step_told l d task (Moved k) a s block attached is own follows sound fit =
     let telling : IsTelling d k a s = mapped_told l d k a s follows sound fit in
-    there_told d k a b s block attached (λ o. IsStepTold d o task (Moved k) attached s) is telling (refl, step_there d k a b s block attached is own kept.0 telling)
+    there_told d k a s block (λ o. IsStepTold d o task (Moved k) attached s) is telling (refl, step_there d k a s attached own telling)
 
 -- its range begins there
 pub starts_told : (l : Limits) (d : ℕ) (section : Section) (step : Step) (a : Account) (s : State) (block : Option Placed) → block ≡ placed_by d section step a → FollowsDevice d a s.records → AreRecordsSound l s.records → IsStepFit step s.records → StartsIn block step s.records.ranges
 starts_told l d section Nothing a s block is follows sound fit = subst (λ o. StartsIn o Nothing s.records.ranges) (sym is) tt
 starts_told l d section (Counted k) a s block is follows sound fit = subst (λ o. StartsIn o (Counted k) s.records.ranges) (sym is) tt
 starts_told l d section (Born k place) a s block is follows sound fit = subst (λ o. StartsIn o (Born k place) s.records.ranges) (sym is) tt
-starts_told l d section (Dropped k true) a s block is follows sound fit = there_told d k a a s block [] (λ o. StartsIn o (Dropped k true) s.records.ranges) is (mapped_told l d k a s follows sound fit) refl
+starts_told l d section (Dropped k true) a s block is follows sound fit = there_told d k a s block (λ o. StartsIn o (Dropped k true) s.records.ranges) is (mapped_told l d k a s follows sound fit) refl
 starts_told l d section (Dropped k false) a s block is follows sound fit = subst (λ o. StartsIn o (Dropped k false) s.records.ranges) (sym is) tt
-starts_told l d section (Moved k) a s block is follows sound fit = there_told d k a a s block [] (λ o. StartsIn o (Moved k) s.records.ranges) is (mapped_told l d k a s follows sound fit) refl
+starts_told l d section (Moved k) a s block is follows sound fit = there_told d k a s block (λ o. StartsIn o (Moved k) s.records.ranges) is (mapped_told l d k a s follows sound fit) refl
 
 -- ---- the account follows what the step leaves
 

@@ -8,6 +8,7 @@ use Rattle.acc_base.specs.declared.tasks.Task.{Task}
 use Rattle.acc_base.specs.declared.transfers.Transfer.{Transfer}
 use Rattle.acc_base.specs.Attachments.{with_count}
 use Rattle.acc_stale.specs.declared.accounts.Held.{Held}
+use Rattle.acc_stale.specs.declared.accounts.Told.{Told}
 use Rattle.acc_stale.specs.declared.accounts.Waiting.{Waiting}
 use Rattle.acc_stale.specs.declared.accounts.Block.{Block}
 use Rattle.acc_stale.specs.declared.accounts.Account.{Account}
@@ -29,6 +30,10 @@ counted block e = record { block = block; pointer = e.0; count = e.1 }
 
 abbrev pub told_of : ℕ → Block → ToldBlock
 told_of block b = record { held = b.held; attached = map (counted block) b.pointers.entries }
+
+-- the same, as it is handed out
+abbrev pub told_block : Told → ToldBlock
+told_block t = record { held = t.held; attached = t.attached.items }
 
 -- what an account says of a block of a device
 abbrev pub told_at : ℕ → ℕ → Account → Option ToldBlock

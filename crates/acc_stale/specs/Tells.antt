@@ -53,9 +53,11 @@ abbrev pub IsStepKept : ℕ → Section → ℕ → Step → Account → Account
 IsStepKept d section line (Born block place) old new = IsChanged d block (Some (record { held = held_new d section line block place; attached = [] })) old new
 IsStepKept d section line _ old new = HasSameBlocks old new × (new.waiting ≡ old.waiting)
 
-abbrev pub attached_of : Option Placed → Account → List Attachment
-attached_of None a = []
-attached_of (Some p) a = attached_at p.device p.block a
+-- the attached pointers of the block of a step; a new one has none
+abbrev pub attached_by : ℕ → Step → Account → List Attachment
+attached_by d (Dropped block true) a = attached_at d block a
+attached_by d (Moved block) a = attached_at d block a
+attached_by d _ a = []
 
 -- the transfers that wait, with one more where there is a queue
 abbrev pub waiting_after : ℕ → Option ℕ → Option Transfer → List Waiting → List Waiting

@@ -1,11 +1,11 @@
 //! What the events of a table say of its blocks, pointers, queues and regions, as far as the marks have to be told it.
 
-ghost use Rattle.std.specs.Prelude.{◌≡◌, ℕ, ◌&&◌, ◌==◌, ◌++◌, ◌∷◌, [], Option, Some, None, OnOk, IfOk, option_map, length, filter};
+ghost use Rattle.std.specs.Prelude.{◌≡◌, ℕ, ◌&&◌, ◌==◌, ◌++◌, ◌∷◌, [], Option, Some, None, OnOk, IfOk, option_map, length, filter, map};
 ghost use Rattle.std.specs.List.{find, position};
 ghost use Rattle.acc_base.specs.Attachments.{count_at};
 ghost use Rattle.acc_base.specs.Devices.{new_whole};
 ghost use Rattle.acc_stale.specs.Follows.{FollowsWhole};
-ghost use Rattle.acc_stale.specs.Accounts.{is_in, without_first, told_at, attached_at, IsChanged, IsRecounted, HasSameBlocks, undone_at, IsRegionChanged};
+ghost use Rattle.acc_stale.specs.Accounts.{is_in, without_first, counted, told_block, told_at, attached_at, IsChanged, IsRecounted, HasSameBlocks, undone_at, IsRegionChanged};
 
 use crate::known::Placed;
 use acc_base::{Attachment, Section, Task, Transfer};
@@ -32,6 +32,15 @@ pub struct Waiting {
     pub queue: u64,
     /// The transfer.
     pub transfer: Transfer,
+}
+
+/// A block, and its attached pointers.
+#[derive(Drop)]
+pub struct Told {
+    /// The block.
+    pub held: Held,
+    /// Its pointers, by rising address.
+    pub attached: Vec<Attachment>,
 }
 
 /// A block, and how often its pointers are attached.
@@ -99,6 +108,23 @@ impl Account {
         }
     }
 
+    /// The same, and its attached pointers.
+    ///
+    /// # Errors
+    ///
+    /// `AllocError` alone.
+    pub fn told(&self, device: u64, block: u64) -> Result<Option<Told>, AllocError>
+        ensures { IfOk result (λ told. option_map told_block told ≡ told_at device block self.now) }
+    {
+        let Some(found) = self.blocks.get(&(device, block)) else {
+            return Ok(None);
+        };
+        Ok(Some(Told {
+            held: found.held,
+            attached: listed(self.alloc, block, &found.pointers)?,
+        }))
+    }
+
     // ---- pointers
 
     /// How often a pointer in a block is attached.
@@ -137,17 +163,10 @@ impl Account {
     pub fn attached(&self, device: u64, block: u64) -> Result<Vec<Attachment>, AllocError>
         ensures ok { IfOk result (λ attached. attached.items ≡ attached_at device block self.now) }
     {
-        let mut attached = Vec::new(self.alloc);
-        if let Some(found) = self.blocks.get(&(device, block)) {
-            for (pointer, count) in &found.pointers {
-                attached.push(Attachment {
-                    block,
-                    pointer: *pointer,
-                    count: *count,
-                })?;
-            }
+        match self.blocks.get(&(device, block)) {
+            Some(found) => listed(self.alloc, block, &found.pointers),
+            None => Ok(Vec::new(self.alloc)),
         }
-        Ok(attached)
     }
 
     // ---- queues
@@ -224,6 +243,25 @@ impl Account {
     {
         self.regions.remove(&(device, number))
     }
+}
+
+/// The attached pointers of a block, by rising address.
+fn listed(
+    alloc: Global,
+    block: u64,
+    pointers: &BTreeMap<u64, u64>,
+) -> Result<Vec<Attachment>, AllocError>
+    ensures { IfOk result (λ attached. attached.items ≡ map (counted block) pointers.now.entries) }
+{
+    let mut attached = Vec::new(alloc);
+    for (pointer, count) in pointers {
+        attached.push(Attachment {
+            block,
+            pointer: *pointer,
+            count: *count,
+        })?;
+    }
+    Ok(attached)
 }
 
 /// Whether an address is one of a section.

@@ -12,7 +12,7 @@ mod tellings;
 mod trackers;
 mod writes;
 
-pub use accounts::{Account, Held, has_address};
+pub use accounts::{Account, Held, Told, has_address};
 pub use items::{Holder, ItemDone, Watch};
 pub use known::{Known, Placed};
 pub use marks::{Mark, Run};

@@ -10,10 +10,10 @@ ghost use Rattle.acc_base.specs.Accounts.{AreRecordsSound};
 ghost use Rattle.acc_base.specs.Acting.{judge_task, act_state};
 ghost use Rattle.acc_base.specs.Steps.{act_step, records_aimed};
 ghost use Rattle.acc_base.specs.Transfers.{transfer_of};
-ghost use Rattle.acc_stale.specs.Accounts.{HasSameBlocks};
+ghost use Rattle.acc_stale.specs.Accounts.{HasSameBlocks, attached_at};
 ghost use Rattle.acc_stale.specs.Follows.{FollowsDevice, IsStepFit, IsAimFit};
 ghost use Rattle.acc_stale.specs.Told.{before_step, IsStepTold, IsAimTold, IsItemTold};
-ghost use Rattle.acc_stale.specs.Tells.{placed_by, IsStepKept, attached_of, waiting_after, pointer_held, count_left, placed_at, ended_at, IsMadeTold, LeavesOthers};
+ghost use Rattle.acc_stale.specs.Tells.{placed_by, IsStepKept, attached_by, waiting_after, pointer_held, count_left, placed_at, ended_at, IsMadeTold, LeavesOthers};
 
 use crate::accounts::{Account, Held, Waiting};
 use crate::items::{Holder, ItemDone, enters};
@@ -99,8 +99,7 @@ impl Account {
         ensures others { OnOk result (LeavesOthers device self.old self.new) }
         ensures regions { self.new.regions ≡ self.old.regions }
     {
-        let block = self.place(device, task.section(), step, line)?;
-        let attached = self.attached_in(block)?;
+        let (block, attached) = self.place(device, task.section(), step, line)?;
         let transfer = transfer_in(block, task, step);
         self.keep(device, task.queue(), transfer)?;
         Ok(StepTold {
@@ -120,15 +119,17 @@ impl Account {
         }
     }
 
-    /// Where the block lies whose bytes a step touches. A new one is kept, which is mapped for this section.
+    /// Where the block lies whose bytes a step touches, and its attached pointers. A new one is kept, which is mapped for
+    /// this section.
     fn place(
         &mut self,
         device: u64,
         section: Section,
         step: Step,
         line: u64,
-    ) -> Result<Option<Placed>, AllocError>
-        ensures told { IfOk result (λ placed. placed ≡ placed_by device section step self.old) }
+    ) -> Result<(Option<Placed>, Vec<Attachment>), AllocError>
+        ensures told { IfOk result (λ told. told.0 ≡ placed_by device section step self.old) }
+        ensures attached { IfOk result (λ told. told.1.items ≡ attached_by device step self.old) }
         ensures kept { OnOk result (IsStepKept device section line step self.old self.new) }
         ensures regions { self.new.regions ≡ self.old.regions }
     {
@@ -145,11 +146,26 @@ impl Account {
                     section,
                     line,
                 })?;
-                Ok(Some(placed))
+                Ok((Some(placed), Vec::new(self.alloc())))
             }
-            Step::Dropped { block, ended: true } => Ok(self.placed(device, block)),
-            Step::Moved { block } => Ok(self.placed(device, block)),
-            _ => Ok(None),
+            Step::Dropped { block, ended: true } => self.there(device, block),
+            Step::Moved { block } => self.there(device, block),
+            _ => Ok((None, Vec::new(self.alloc()))),
+        }
+    }
+
+    /// Where a block of a device lies, and its attached pointers.
+    fn there(
+        &self,
+        device: u64,
+        block: u64,
+    ) -> Result<(Option<Placed>, Vec<Attachment>), AllocError>
+        ensures placed { IfOk result (λ told. told.0 ≡ placed_at device block self.now) }
+        ensures attached { IfOk result (λ told. told.1.items ≡ attached_at device block self.now) }
+    {
+        match self.told(device, block)? {
+            Some(told) => Ok((Some(told.held.placed), told.attached)),
+            None => Ok((None, Vec::new(self.alloc()))),
         }
     }
 
@@ -160,16 +176,6 @@ impl Account {
         match self.block(device, block) {
             Some(held) => Some(held.placed),
             None => None,
-        }
-    }
-
-    /// The attached pointers of a block, if there is one.
-    fn attached_in(&self, block: Option<Placed>) -> Result<Vec<Attachment>, AllocError>
-        ensures { IfOk result (λ attached. attached.items ≡ attached_of block self.now) }
-    {
-        match block {
-            Some(placed) => self.attached(placed.device, placed.block),
-            None => Ok(Vec::new(self.alloc())),
         }
     }
 

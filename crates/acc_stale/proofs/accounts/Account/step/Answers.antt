@@ -7,7 +7,7 @@ use Rattle.acc_stale.proofs.accounts.Account.step.Goals as goal
 
 pub returns-clause-told : goal.returns-clause-told
 returns-clause-told c l s follows sound fit =
-    step_told l c.args.device c.args.line c.args.task c.args.step c.args.self.now c.place.new.self s c.in_ok-block.block c.in_ok-attached.attached.items (c.in_ok-block.ensures.told ∙ ap (λ x. placed_by c.args.device x c.args.step c.args.self.now) c.section.ensures) (rw (← c.section.ensures) c.in_ok-block.ensures.kept) c.in_ok-attached.ensures follows sound fit
+    step_told l c.args.device c.args.task c.args.step c.args.self.now s c.in_ok-block.block c.in_ok-block.attached.items (c.in_ok-block.ensures.told ∙ ap (λ x. placed_by c.args.device x c.args.step c.args.self.now) c.section.ensures) c.in_ok-block.ensures.attached follows sound fit
 
 pub returns-clause-transfer : goal.returns-clause-transfer
 returns-clause-transfer c l s follows sound fit =

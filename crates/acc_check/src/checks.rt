@@ -6,7 +6,7 @@ use crate::looks::{Looks, part_of};
 use acc_base::{Config, Directive, Fault, Found, Item, Section, UpdateClause};
 use acc_read::{Names, Page, ScriptKernel, Statement};
 use acc_stale::{Held, Known, Mark, Placed, Run, Tracker};
-use acc_table::Table;
+use acc_table::{Place, Table};
 use std::alloc::Global;
 
 /// A kernel that is about to run.
@@ -167,6 +167,20 @@ impl Check {
         shown: Option<Section>,
     ) -> Result<(), Fault> {
         self.looks.line = line.number;
+        if self.seen < table.trace().len() {
+            self.see_events(table)?;
+        }
+        if let Some(section) = shown {
+            self.find_in_host(table, section, 0)?;
+        }
+        if !self.looks.findings.is_empty() {
+            self.put_findings(page, names, line);
+        }
+        Ok(())
+    }
+
+    /// Tells what each event did that is new.
+    fn see_events(&mut self, table: &Table) -> Result<(), Fault> {
         let trace = table.trace();
         for at in self.seen..trace.len() {
             if let Some(event) = trace.get(at) {
@@ -175,38 +189,23 @@ impl Check {
         }
         self.seen = trace.len();
         self.looks.sift_drops(&self.tracker.known);
-        if let Some(section) = shown {
-            self.find_in_host(table, section, 0)?;
-        }
+        Ok(())
+    }
+
+    /// Puts what was found in a line.
+    fn put_findings(&mut self, page: &mut Page, names: &Names, line: Line<'_>) {
         for finding in self.looks.findings.iter() {
             put_finding(page, names, line, self.telling.json, *finding);
         }
         self.count = self.count.saturating_add(self.looks.findings.len() as u64);
         self.looks.findings.clear();
-        Ok(())
     }
 
     /// Puts what is mapped still at the end, and what was dropped or copied in vain, where all is told.
     pub fn end(&mut self, page: &mut Page, names: &Names, file: Option<&str>, table: &Table) {
         let json = self.telling.json;
         for device in 0..table.config().devices() {
-            let mut from = 0;
-            for _ in 0..=table.events() {
-                let Some(range) = table.mapped(device, from) else {
-                    break;
-                };
-                let section = Section {
-                    start: range.start,
-                    len: range.len,
-                };
-                let line = match self.placed(table, device, section) {
-                    Some(held) => held.line,
-                    None => 0,
-                };
-                put_leak(page, names, Origin::line(file, line, json), range);
-                self.count = self.count.saturating_add(1);
-                from = range.start.saturating_add(range.len);
-            }
+            self.put_leaks(page, names, file, table, device);
         }
         for held in self.looks.drops.iter() {
             put_drop(
@@ -224,6 +223,41 @@ impl Check {
                 self.needless,
             );
             self.count = self.count.saturating_add(1);
+        }
+    }
+
+    /// Puts what is mapped still on a device.
+    fn put_leaks(
+        &mut self,
+        page: &mut Page,
+        names: &Names,
+        file: Option<&str>,
+        table: &Table,
+        device: u64,
+    ) {
+        let mut from = 0;
+        let mut near = Place::default();
+        for _ in 0..=table.events() {
+            let Some((range, place)) = table.mapped_near(device, from, near) else {
+                break;
+            };
+            near = place;
+            let section = Section {
+                start: range.start,
+                len: range.len,
+            };
+            let line = match self.placed(table, device, section) {
+                Some(held) => held.line,
+                None => 0,
+            };
+            put_leak(
+                page,
+                names,
+                Origin::line(file, line, self.telling.json),
+                range,
+            );
+            self.count = self.count.saturating_add(1);
+            from = range.start.saturating_add(range.len);
         }
     }
 

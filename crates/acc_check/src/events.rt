@@ -3,8 +3,8 @@
 use crate::checks::Check;
 use crate::histories::{Deed, Done};
 use acc_base::{Event, Fault, Found, Section};
-use acc_stale::{Part, Placed};
-use acc_table::Table;
+use acc_stale::Part;
+use acc_table::{Place, Table};
 
 impl Check {
     /// Tells what an event did.
@@ -29,90 +29,95 @@ impl Check {
     fn see_write(&mut self, table: &Table, section: Section) -> Result<(), Fault> {
         let mut parts = Vec::new(self.alloc);
         for device in 0..table.config().devices() {
-            let mut rest = section;
-            for _ in 0..section.len {
-                let Some((placed, part)) = self.mapped_part(table, device, rest) else {
-                    break;
-                };
-                if let Some(part) = self.part(table, placed, part)? {
-                    parts.push(part)?;
+            match table.find(device, section) {
+                Found::Inside { block, .. } => {
+                    self.add_part(&mut parts, table, device, block, section)?;
                 }
-                rest = behind(section, part);
+                Found::Partly => self.add_parts(&mut parts, table, device, section)?,
+                Found::Empty | Found::Absent => {}
             }
         }
         self.tracker.known.wrote(section, &parts)?;
         self.looks.note(0, Deed::HostWrote, section)
     }
 
-    /// The first part of a section that is in a mapped range of a device.
-    fn mapped_part(
+    /// Adds what each range of a device has of what the host wrote, by rising address.
+    fn add_parts<'a>(
         &self,
-        table: &Table,
+        parts: &mut Vec<Part<'a>>,
+        table: &'a Table,
         device: u64,
         section: Section,
-    ) -> Option<(Placed, Section)> {
-        let first = Section {
-            start: section.start,
-            len: section.len.min(1),
-        };
-        let start = match table.find(device, first) {
-            Found::Inside { .. } => section.start,
-            _ => table.mapped(device, section.start)?.start,
-        };
-        let room = section.len.checked_sub(start.checked_sub(section.start)?)?;
-        let at = Section {
-            start,
-            len: room.min(1),
-        };
-        let Found::Inside { block, .. } = table.find(device, at) else {
-            return None;
-        };
-        let placed = self.tracker.account.block(device, block)?.placed;
-        let range = table.mapped(device, placed.start)?;
-        let left = range.len.checked_sub(start.checked_sub(range.start)?)?;
-        let section = Section {
-            start,
-            len: room.min(left),
-        };
-        Some((placed, section))
+    ) -> Result<(), Fault> {
+        let mut rest = section;
+        if let Some(block) = first_block(table, device, rest) {
+            rest = self.add_part(parts, table, device, block, rest)?;
+        }
+        let mut near = Place::default();
+        for _ in 0..section.len {
+            let Some((range, place)) = table.mapped_near(device, rest.start, near) else {
+                break;
+            };
+            near = place;
+            let Some(next) = from_address(rest, range.start) else {
+                break;
+            };
+            let Some(block) = first_block(table, device, next) else {
+                break;
+            };
+            rest = self.add_part(parts, table, device, block, next)?;
+        }
+        Ok(())
     }
 
-    /// What a block has of what the host wrote, unless it is lent.
-    fn part<'a>(
+    /// Adds what a block has of what the host wrote, unless it is lent. The section begins in its range; what lies behind
+    /// that is returned.
+    fn add_part<'a>(
         &self,
+        parts: &mut Vec<Part<'a>>,
         table: &'a Table,
-        block: Placed,
+        device: u64,
+        block: u64,
         section: Section,
-    ) -> Result<Option<Part<'a>>, Fault> {
-        let (Some(written), Some(own)) = (
-            table.host_read(section),
-            table.device_read(block.device, section),
-        ) else {
-            return Ok(None);
+    ) -> Result<Section, Fault> {
+        let Some(told) = self.tracker.account.told(device, block)? else {
+            return Ok(Section { len: 0, ..section });
         };
-        Ok(Some(Part {
-            block,
-            section,
-            attached: self.tracker.account.attached(block.device, block.block)?,
-            written,
-            own,
-        }))
+        let range = told.held.section;
+        let end = range.start.saturating_add(range.len);
+        let part = Section {
+            start: section.start,
+            len: section.len.min(end.saturating_sub(section.start)),
+        };
+        if let (Some(written), Some(own)) = (
+            table.host_read(part),
+            table.device_read(device, part),
+        ) {
+            parts.push(Part {
+                block: told.held.placed,
+                section: part,
+                attached: told.attached,
+                written,
+                own,
+            })?;
+        }
+        Ok(behind(section, part))
     }
 
     /// Tells what a kernel left, whose block is back.
     fn see_kernel(&mut self, table: &Table, device: u64, block: u64) -> Result<(), Fault> {
-        let (Some(kernel), Some(held)) = (
+        let (Some(kernel), Some(told)) = (
             self.kernel.take(),
-            self.tracker.account.block(device, block),
+            self.tracker.account.told(device, block)?,
         ) else {
             return Ok(());
         };
-        let (placed, section) = (held.placed, kernel.section);
+        let (placed, section) = (told.held.placed, kernel.section);
         let after = table.device_read(device, section);
         let (Some(after), Some(own)) = (after, table.host_read(section)) else {
             return Ok(());
         };
-        let attached = self.tracker.account.attached(device, block)?;
+        let attached = told.attached;
         let found = kernel.before.as_deref();
         self.tracker
             .known
@@ -131,6 +136,24 @@ impl Check {
         }
         Ok(())
     }
+}
+
+/// The block of a device that has the first byte of a section, if there is one.
+fn first_block(table: &Table, device: u64, section: Section) -> Option<u64> {
+    let first = Section {
+        start: section.start,
+        len: section.len.min(1),
+    };
+    match table.find(device, first) {
+        Found::Inside { block, .. } => Some(block),
+        _ => None,
+    }
+}
+
+/// What of a section lies from an address on; `None` where none does, or that is before it.
+fn from_address(section: Section, start: u64) -> Option<Section> {
+    let len = section.len.checked_sub(start.checked_sub(section.start)?)?;
+    Some(Section { start, len })
 }
 
 /// What of a section lies behind a part of it.

@@ -6,7 +6,6 @@ use crate::objects::{open_object, put_field, put_note_fields, put_section_fields
 use acc_base::Section;
 use acc_read::{Names, Page, before_comment, is_word_byte};
 use acc_table::Mapped;
-use std::fmt::Write;
 
 /// What is wrong with bytes that are read.
 #[derive(Clone, Copy)]
@@ -242,11 +241,20 @@ fn put_counter(page: &mut Page, origin: Origin<'_>, name: &str, count: u64) {
 }
 
 fn put_place(page: &mut Page, origin: Origin<'_>) {
-    let (line, column) = (origin.line, origin.column);
-    let _ = match origin.file {
-        Some(name) => write!(page, "{name}:{line}:{column}: "),
-        None => write!(page, "accrun: line {line}: "),
-    };
+    match origin.file {
+        Some(name) => {
+            page.text(name);
+            page.text(":");
+            page.number(origin.line);
+            page.text(":");
+            page.number(origin.column);
+        }
+        None => {
+            page.text("accrun: line ");
+            page.number(origin.line);
+        }
+    }
+    page.text(": ");
 }
 
 /// Puts a section as scripts name it; by its addresses where no array has all of it.

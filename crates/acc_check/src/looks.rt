@@ -144,8 +144,10 @@ impl Watch for Looks {
         step: Step,
         ends: Option<Held>,
     ) -> Result<(), Fault> {
-        let line = self.line;
-        self.ends = ends.map(|held| Held { line, ..held });
+        if self.all {
+            let line = self.line;
+            self.ends = ends.map(|held| Held { line, ..held });
+        }
         match ends {
             Some(held) => self.note(device, Deed::Ended, held.section),
             None => self.note_kept(device, task, step),
@@ -153,6 +155,9 @@ impl Watch for Looks {
     }
 
     fn before_step(&mut self, known: &Known, item: &ItemDone) -> Result<(), Fault> {
+        if !self.all {
+            return Ok(());
+        }
         if let Some(held) = self.ends {
             self.note_drop(known, held)?;
         }

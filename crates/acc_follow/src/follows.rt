@@ -352,17 +352,24 @@ impl<E: Sink, G: PictureSink> Follower<'_, E, G> {
     /// Lets the check that is asked for see a statement before it runs. It begins with the first one.
     fn check_before(&mut self, statement: &Statement<'_>, session: &Session) -> Result<(), Fault> {
         if self.check.is_none() {
-            let config = session.table.config();
-            let telling = Telling {
-                all: self.views.check_all,
-                json: self.views.json,
-            };
-            self.check = Some(Check::new(self.alloc, config, telling)?);
+            self.begin_check(session)?;
         }
         match &mut self.check {
             Some(check) => check.before(statement, &session.table),
             None => Ok(()),
         }
+    }
+
+    /// Begins the check.
+    #[inline(never)]
+    fn begin_check(&mut self, session: &Session) -> Result<(), Fault> {
+        let telling = Telling {
+            all: self.views.check_all,
+            json: self.views.json,
+        };
+        let config = session.table.config();
+        self.check = Some(Check::new(self.alloc, config, telling)?);
+        Ok(())
     }
 
     /// Puts what a line read that is stale.

@@ -43,43 +43,21 @@ pub fn one_item_at<'a, C: Copy>(
 ) -> Result<(Item<C>, &'a [u8]), ScriptFault>
     ensures { Reads (λ x. (x.0, x.1.now)) result (one_item_at kind clause arrays.now text.now) }
 {
-    match kind {
-        ItemKind::Sections => {
-            let (section, rest) = section_at(arrays, text)?;
-            let pointer = None;
-            Ok((
-                Item {
-                    clause,
-                    section,
-                    pointer,
-                },
-                rest,
-            ))
-        }
-        ItemKind::Items => {
-            let (section, rest) = section_at(arrays, text)?;
-            let (pointer, rest) = aim_at(arrays, rest)?;
-            Ok((
-                Item {
-                    clause,
-                    section,
-                    pointer,
-                },
-                rest,
-            ))
-        }
+    let (section, rest) = match kind {
+        ItemKind::Sections | ItemKind::Items => section_at(arrays, text)?,
         ItemKind::Pointers => {
             let (start, rest) = address_at(arrays, text)?;
-            let section = Section { start, len: 8 };
-            let pointer = None;
-            Ok((
-                Item {
-                    clause,
-                    section,
-                    pointer,
-                },
-                rest,
-            ))
+            (Section { start, len: 8 }, rest)
         }
-    }
+    };
+    let (pointer, rest) = match kind {
+        ItemKind::Items => aim_at(arrays, rest)?,
+        ItemKind::Sections | ItemKind::Pointers => (None, rest),
+    };
+    let item = Item {
+        clause,
+        section,
+        pointer,
+    };
+    Ok((item, rest))
 }

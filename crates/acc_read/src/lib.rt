@@ -30,7 +30,7 @@ pub use items::ItemKind;
 pub use kernels::ScriptKernel;
 pub use lines::next_line;
 pub use names::{Names, Spot};
-pub use pages::Page;
+pub use pages::{Page, make_room};
 pub use statements::{Statement, before_comment, is_text_byte, line_at, statement_text};
 pub use tokens::{is_blank, is_text, is_word_byte};
 pub use troubles::Trouble;

@@ -4,13 +4,6 @@ use crate::arrays::Array;
 use crate::pages::Page;
 use acc_base::Section;
 use std::alloc::{AllocError, Global};
-use std::collections::BTreeMap;
-
-#[derive(Drop)]
-struct NamedArray {
-    name: Vec<u8>,
-    array: Array,
-}
 
 /// Where a host address lies: in an array, this many bytes behind its start.
 #[derive(Clone, Copy)]
@@ -46,36 +39,46 @@ impl Spot<'_> {
     }
 }
 
-/// The arrays that a script has declared, by their first addresses.
+/// The arrays that a script has declared, by rising addresses.
 #[derive(Drop)]
 pub struct Names {
-    all: BTreeMap<u32, NamedArray>,
+    arrays: Vec<Array>,
+    // The name of each.
+    names: Vec<Vec<u8>>,
 }
 
 impl Names {
     /// Returns names of no array yet.
     pub fn new(alloc: Global) -> Names {
         Names {
-            all: BTreeMap::new(alloc),
+            arrays: Vec::new(alloc),
+            names: Vec::new(alloc),
         }
     }
 
-    /// Adds an array under its first address.
+    /// Adds an array, which lies behind the others.
     ///
     /// # Errors
     ///
     /// [`AllocError`] where there is no memory. Nothing is added then.
     pub fn insert(&mut self, alloc: Global, name: &[u8], array: Array) -> Result<(), AllocError> {
-        let name = Vec::from_slice(alloc, name)?;
-        self.all.insert(array.start, NamedArray { name, array })?;
-        Ok(())
+        self.arrays.reserve(1)?;
+        self.names.push(Vec::from_slice(alloc, name)?)?;
+        Ok(self.arrays.push(array)?)
     }
 
     /// Returns where a host address lies; `None` where no array has it.
     pub fn spot(&self, address: u64) -> Option<Spot<'_>> {
-        let address = u32::try_from(address).ok()?;
-        let (_, named) = self.all.range(..=address).next_back()?;
-        spot_in(named, u64::from(address))
+        let begun = |array: &Array| u64::from(array.start) <= address;
+        let place = self.arrays.partition_point(begun).checked_sub(1)?;
+        let (name, array) = (self.names.get(place)?, *self.arrays.get(place)?);
+        let offset = address.checked_sub(u64::from(array.start))?;
+        let is_inside = address < u64::from(array.end);
+        is_inside.then_some(Spot {
+            name,
+            array,
+            offset,
+        })
     }
 
     /// Returns where a section begins; `None` where it is empty or does not lie in one array.
@@ -84,16 +87,4 @@ impl Names {
         let room = u64::from(spot.array.end).saturating_sub(section.start);
         (0 < section.len && section.len <= room).then_some(spot)
     }
-}
-
-fn spot_in(named: &NamedArray, address: u64) -> Option<Spot<'_>> {
-    let array = named.array;
-    if address < u64::from(array.start) || u64::from(array.end) <= address {
-        return None;
-    }
-    Some(Spot {
-        name: &named.name,
-        array,
-        offset: address - u64::from(array.start),
-    })
 }

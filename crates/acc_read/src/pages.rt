@@ -1,5 +1,7 @@
 //! A text that is made in memory before any of it is written.
 
+ghost use Rattle.std.specs.Prelude.{◌≡◌};
+
 use acc_base::Fault;
 use std::alloc::Global;
 use std::fmt::{self, Write};
@@ -27,9 +29,8 @@ impl Page {
 
     /// Adds bytes. Where there is no memory for them they are left out, and [`Page::whole`] fails from then on.
     pub fn bytes(&mut self, bytes: &[u8]) {
-        if self.bytes.extend_from_slice(bytes).is_err() {
-            self.wants = true;
-        }
+        make_room(&mut self.bytes, bytes.len());
+        self.wants |= self.bytes.extend_from_slice(bytes).is_err();
     }
 
     /// Adds a number in decimal digits.
@@ -82,6 +83,17 @@ impl Page {
             return Err(Fault::Memory);
         }
         Ok(&self.bytes)
+    }
+}
+
+/// Makes room for so many bytes more and for others behind them, so that a long text is seldom moved. Where there is no
+/// memory for so much, nothing changes.
+#[inline(always)]
+pub fn make_room(bytes: &mut Vec<u8>, count: usize)
+    ensures { bytes.new.items ≡ bytes.old.items }
+{
+    if bytes.capacity() - bytes.len() < count {
+        let _ = bytes.reserve(bytes.len().saturating_add(count).saturating_mul(3));
     }
 }
 

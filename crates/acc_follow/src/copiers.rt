@@ -8,6 +8,51 @@ use acc_script::{Effect, MemorySink, Session, Sink, Status, Watcher, write_all};
 use acc_table::Table;
 use std::alloc::Global;
 
+/// A sink in memory, whose bytes are copied behind each line.
+pub trait InMemory: Sink {
+    /// Returns the bytes that it took so far.
+    fn printed(&self) -> &[u8];
+}
+
+impl InMemory for MemorySink {
+    fn printed(&self) -> &[u8] {
+        self.as_slice()
+    }
+}
+
+/// What a run prints in memory, but for its reports where they are shown as JSON.
+#[derive(Drop)]
+pub struct Printed {
+    sink: MemorySink,
+    takes_reports: bool,
+}
+
+impl Printed {
+    /// Nothing yet, to be shown with these views.
+    pub fn new(alloc: Global, views: Views) -> Printed {
+        Printed {
+            sink: MemorySink::new(alloc),
+            takes_reports: !views.json,
+        }
+    }
+}
+
+impl Sink for Printed {
+    fn write(&mut self, piece: &[u8]) -> Option<usize> {
+        self.sink.write(piece)
+    }
+
+    fn takes_reports(&self) -> bool {
+        self.takes_reports
+    }
+}
+
+impl InMemory for Printed {
+    fn printed(&self) -> &[u8] {
+        self.sink.as_slice()
+    }
+}
+
 /// Copies what a run prints into memory to another sink, behind each line, for a watcher of that sink.
 #[derive(Drop)]
 pub struct Copier<'a, O, X> {
@@ -89,22 +134,23 @@ impl<O: Sink, X: Watcher<O>> Copier<'_, O, X> {
     }
 }
 
-impl<O: Sink, X: Watcher<O>> Watcher<MemorySink> for Copier<'_, O, X> {
+impl<W: InMemory, O: Sink, X: Watcher<O>> Watcher<W> for Copier<'_, O, X> {
     fn before(&mut self, number: u64, line: &[u8], statement: &Statement<'_>, session: &Session) {
         self.watcher.before(number, line, statement, session);
     }
 
+    #[tactic(auto, using(acc_script::proofs::Fronts::took_nothing))]
     fn after(
         &mut self,
         number: u64,
         line: &[u8],
         session: &Session,
         effect: Effect,
-        writer: &mut MemorySink,
+        writer: &mut W,
     ) {
         if self.failed.is_none() {
             self.failed = self
-                .copy(number, line, &session.table, effect, writer.as_slice())
+                .copy(number, line, &session.table, effect, writer.printed())
                 .err();
         }
         if self.failed.is_none() {

@@ -3,7 +3,7 @@
 ghost use Rattle.std.specs.Prelude.{◌≤◌, []};
 ghost use Rattle.acc_script.specs.Told.{Took};
 
-use crate::copiers::Copier;
+use crate::copiers::{Copier, Printed};
 use crate::picture_sinks::{Frame, PictureSink, Stop};
 use crate::ran_lines::{RanLine, picture_of};
 use crate::timelines::Timeline;
@@ -13,7 +13,7 @@ use acc_explain::fault_column;
 use acc_log::Log;
 use acc_picture::Caption;
 use acc_read::{Names, Page, Statement};
-use acc_script::{Effect, MemorySink, Session, Sink, Source, Status, Watcher, run, write_all};
+use acc_script::{Effect, Session, Sink, Source, Status, Watcher, run, write_all};
 use std::alloc::Global;
 use std::sync::Wait;
 use std::thread::Threads;
@@ -140,7 +140,7 @@ fn run_copied<R: Threads + Wait + Sync + AllocGlobal, S: Source, O: Sink, X: Wat
 ) -> Result<Status, Fault>
     requires { (1 ≤ setting.parts) × (setting.parts ≤ 64) }
 {
-    let mut printed = MemorySink::new(rt.alloc());
+    let mut printed = Printed::new(rt.alloc(), setting.views);
     let mut copier = Copier::new(rt.alloc(), setting.views, out, watcher, lines);
     let ending = run(
         rt,

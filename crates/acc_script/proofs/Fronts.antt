@@ -68,5 +68,9 @@ pub took_nothing : (a : Option Taken) → Took a a []
 took_nothing None = tt
 took_nothing (Some a) = (sym (append-nil a.bytes), refl)
 
+-- of a sink whose bytes are not known nothing is claimed
+pub took_untold : (a : Option Taken) (bytes : List ℕ) → a ≡ None → Took a a bytes
+took_untold a bytes e = rw e tt
+
 -- a text that was written in parts
 pub ruleset writing_laws = (wrote_then, Took_then, front_more, front_then)

@@ -4,6 +4,7 @@ ghost use Rattle.std.specs.Prelude.{◌≡◌, ◌≤◌, ◌+◌, ◌-◌, ◌+
 ghost use Rattle.acc_script.specs.Told.{after_read, after_write, nothing_given, nothing_taken};
 
 use crate::{Sink, Source};
+use acc_read::make_room;
 use std::alloc::Global;
 use std::marker::Model;
 
@@ -120,6 +121,7 @@ impl Sink for MemorySink {
         ensures tells { self.new ≡ after_write self.old result piece.now }
         ensures all { IfSome result (λ n. n ≡ length piece.now) }
     {
+        make_room(&mut self.bytes, piece.len());
         if self.bytes.extend_from_slice(piece).is_err() {
             self.failures = self.failures.wrapping_add(1);
             return None;

@@ -1,6 +1,6 @@
 //! Where a script comes from, and where its output goes.
 
-ghost use Rattle.std.specs.Prelude.{◌≤◌, [], length, Option, None, IfSome};
+ghost use Rattle.std.specs.Prelude.{◌≡◌, ◌≤◌, [], false, length, Option, None, IfSome};
 ghost use Rattle.acc_script.specs.Told.{Given, Taken, Took, after_read, after_write, Becomes};
 
 pub mod memory;
@@ -34,6 +34,14 @@ pub trait Sink {
     fn write(&mut self, piece: &[u8]) -> Option<usize>
         ensures bound { IfSome result (λ n. n ≤ length piece.now) }
         ensures tells { Becomes (told self.old) (told self.new) (λ t. after_write t result piece.now) };
+
+    /// Whether it takes reports. All other text is written to it, whatever it takes. A sink whose bytes contracts know
+    /// takes them.
+    fn takes_reports(&self) -> bool
+        ensures { result ≡ false → told self.now ≡ None }
+    {
+        true
+    }
 
     /// Flushes what it kept back, if it keeps anything back; returns whether that succeeded. This is no write: what it
     /// took stays, and so does the number of failures.

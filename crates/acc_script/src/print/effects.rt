@@ -49,7 +49,7 @@ impl Effect {
 
 /// Writes what the line of a number has to print; false where the sink failed.
 #[inline(always)]
-#[tactic(auto, using(crate::proofs::Fronts::took_nothing))]
+#[tactic(auto, using(crate::proofs::Fronts::took_nothing, crate::proofs::Fronts::took_untold))]
 pub fn write_effect<W: Sink>(writer: &mut W, number: u64, table: &Table, effect: Effect) -> bool
     ensures { Wrote (W.told writer.old) (W.told writer.new) (effect_text number table.now effect) result }
 {
@@ -63,6 +63,6 @@ pub fn write_effect<W: Sink>(writer: &mut W, number: u64, table: &Table, effect:
         }
         Effect::Presence(present) => write_presence(writer, present),
         Effect::Place(place) => write_place(writer, place),
-        Effect::Reported => write_report(table, writer),
+        Effect::Reported => !writer.takes_reports() || write_report(table, writer),
     }
 }

@@ -33,10 +33,11 @@ impl Log {
                 self.tell_aim(names, item);
             }
             Task::ExitRegion { holding } => self.tell_holding(names, item, &holding),
-            _ => {
+            Task::ExitData { .. } => {
                 self.tell_aim(names, item);
                 self.tell_step(names, item);
             }
+            Task::Move { .. } => self.tell_step(names, item),
         }
     }
 
@@ -63,7 +64,13 @@ impl Log {
                 self.account.map(item.task.section(), block, place);
                 self.tell_left(names, item, block);
             }
-            Step::Counted { block } | Step::Dropped { block, .. } | Step::Moved { block } => {
+            Step::Moved { block } => {
+                if let Some(found) = self.account.block(block) {
+                    reach_item(&mut self.rows, &item.task, "inside");
+                    self.tell_copy(names, item, found);
+                }
+            }
+            Step::Counted { block } | Step::Dropped { block, .. } => {
                 self.tell_left(names, item, block)
             }
         }
@@ -100,7 +107,7 @@ impl Log {
                 }
                 self.put_range(names, nth, "dropped", left);
             }
-            _ => self.tell_copy(names, item, left),
+            _ => {}
         }
     }
 

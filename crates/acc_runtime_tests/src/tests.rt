@@ -1,11 +1,10 @@
-//! Scenes on new runtimes, parts of a kernel, and the example of `acc_runtime`. A test with `growth` in its name passes
-//! also where one growth of memory, or one start of a thread, is refused.
+//! Scenes on new runtimes, and parts of a kernel. A test with `growth` in its name passes also where one growth of
+//! memory, or one start of a thread, is refused.
 
 use std::fmt::Debug;
 use std::process::Abort;
 
 mod actors;
-mod callers;
 mod drills;
 mod example;
 mod gates;

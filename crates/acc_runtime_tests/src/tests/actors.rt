@@ -175,13 +175,6 @@ impl<'a, Regions: Limited, Tickets: Ledger, Events: Ledger, R: Abort + Wait + Al
         }
     }
 
-    /// Compares what the caller has left and made.
-    pub fn must_have(&self, allowance: u64, tickets: u64, made: u64) {
-        let caller = &self.caller;
-        let found = (caller.allowance(), caller.tickets(), caller.made());
-        same(self.rt, found, (allowance, tickets, made));
-    }
-
     fn make(&mut self, deed: Deed) -> Result<u64, Fault> {
         let (rt, runtime) = (self.rt, self.runtime);
         match deed {

@@ -1,13 +1,8 @@
 //! The life of an array, in calls that follow one another.
 
-use crate::tests::actors::{Actor, Asked, Deed, Row};
+use crate::tests::actors::{Asked, Deed, Row};
 use crate::tests::scenes::{Scene, play_each};
 use acc_base::{Fault, RegionClause, UpdateClause};
-use acc_runtime::Limited;
-use std::process::Abort;
-use std::sync::Wait;
-use std::sync::ledger::Ledger;
-use std::test::Fail;
 
 /// A life from the first mapping to the end of the last, in 13 events. Ten are folded on the way: six while the block
 /// is lent, and three while a copy waits.
@@ -36,29 +31,13 @@ const LIFE: [Row; 22] = [
     (Deed::Rebase, Ok(3)),
 ];
 
-impl<Regions: Limited, Tickets: Ledger, Events: Ledger, R: Abort + Wait + AllocGlobal> Actor<
-    '_,
-    Regions,
-    Tickets,
-    Events,
-    R,
-> {
-    /// Lives the whole life, and has all regions again.
-    pub fn live(&mut self) {
-        self.make_rows(&LIFE);
-        self.must_have(64, 87, 13);
-    }
-}
-
 #[test]
-fn calls_follow_one_another(rt: HostRuntime) -> Result<(), Fail> {
-    play_each(&rt, &[Scene::Life], false)?;
-    Ok(())
+fn calls_follow_one_another(rt: HostRuntime) -> Result<(), Fault> {
+    play_each(&rt, &[Scene::Life(&LIFE)], false)
 }
 
 /// Each call that memory is refused for changes nothing, and is accepted when it is made once more.
 #[test]
-fn a_refused_growth_changes_no_runtime(rt: HostRuntime) -> Result<(), Fail> {
-    play_each(&rt, &[Scene::Life], true)?;
-    Ok(())
+fn a_refused_growth_changes_no_runtime(rt: HostRuntime) -> Result<(), Fault> {
+    play_each(&rt, &[Scene::Life(&LIFE)], true)
 }

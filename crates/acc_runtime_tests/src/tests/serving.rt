@@ -1,55 +1,62 @@
-//! A worker that receives which queues to serve, and two that meet.
+//! A worker that receives which queues to serve.
 
 use crate::tests::actors::{Actor, Deed, Row};
 use crate::tests::gates::{Meeting, Watch};
 use crate::tests::same;
 use crate::tests::scenes::{Scene, play_each};
 use acc_base::{Fault, UpdateClause};
-use acc_runtime::{Caller, Limited, Served, serve};
-use crossbeam_channel::{Receiver, unbounded};
+use acc_runtime::{Limited, Served, serve};
+use crossbeam_channel::{Receiver, Sender, unbounded};
 use std::alloc::Global;
 use std::process::Abort;
 use std::rt::Clock;
 use std::sync::Wait;
+use std::sync::atomic::AtomicU64;
 use std::sync::ledger::Ledger;
-use std::test::Fail;
-use std::thread::{Threads, join};
 
-/// What a worker receives and does where the array is mapped, and a copy of it waits in queue 3.
+/// What a worker does and receives.
 #[derive(Clone, Copy)]
 pub struct Service {
-    /// The words, in order.
-    words: &'static [u64],
-    /// How many events there are when the gate is called, before and after each word.
-    events: &'static [u64],
-    /// How many steps the worker made, and how often one was refused.
-    served: Served,
+    /// The calls that it makes before it serves.
+    pub rows: &'static [Row],
+    /// The words that it receives, in order.
+    pub words: &'static [u64],
+    /// How many events there were since the call before, when the gate is called before and after each word.
+    pub events: &'static [u64],
+    /// How many steps it makes, and how often one is refused.
+    pub served: Served,
+    /// The calls behind that.
+    pub behind: &'static [Row],
 }
 
+/// The array is mapped, and a copy of it is put into queue 3.
+const PUT: [Row; 2] = [
+    (Deed::EnterData, Ok(0)),
+    (Deed::Update(UpdateClause::ToSelf, Some(3)), Ok(0)),
+];
+
+/// What is left of the copy is made behind.
 const SERVICES: [Scene; 2] = [
     Scene::Serve(Service {
+        rows: &PUT,
         words: &[],
         events: &[],
         served: Served {
             steps: 0,
             refusals: 0,
         },
+        behind: &[(Deed::Wait(Some(3)), Ok(1))],
     }),
     Scene::Serve(Service {
+        rows: &PUT,
         words: &[3, 3, 16],
-        events: &[2, 3, 3, 3, 3, 3],
+        events: &[2, 1, 0, 0, 0, 0],
         served: Served {
             steps: 1,
             refusals: 1,
         },
+        behind: &[(Deed::Wait(Some(3)), Ok(0))],
     }),
-];
-
-/// The array is mapped, and a copy of it is put into queue 3. Both events are folded, so the next one needs memory.
-const PUT: [Row; 3] = [
-    (Deed::EnterData, Ok(0)),
-    (Deed::Update(UpdateClause::ToSelf, Some(3)), Ok(0)),
-    (Deed::Rebase, Ok(2)),
 ];
 
 /// A channel in which these words wait, and which is closed behind them.
@@ -57,135 +64,79 @@ fn bells<R: Wait>(rt: &R, alloc: Global, words: &[u64]) -> Result<Receiver<u64>,
     let Ok((to, from)) = unbounded::<u64, _>(alloc) else {
         return Err(Fault::Memory);
     };
-    for word in words {
-        if to.send(rt, *word).is_err() {
-            return Err(Fault::Memory);
-        }
+    if send_all(rt, &to, words) {
+        Ok(from)
+    } else {
+        Err(Fault::Memory)
     }
-    Ok(from)
+}
+
+/// Sends all words, and returns whether there was memory for them.
+fn send_all<R: Wait>(rt: &R, to: &Sender<u64>, words: &[u64]) -> bool {
+    let mut are_sent = true;
+    for word in words {
+        are_sent &= to.send(rt, *word).is_ok();
+    }
+    are_sent
 }
 
 impl<
-    Regions: Limited + Send + Sync,
-    Tickets: Ledger + Send + Sync,
-    Events: Ledger + Send + Sync,
-    R: Abort + Clock + Threads + Wait + AllocGlobal + Sync,
+    Regions: Limited,
+    Tickets: Ledger,
+    Events: Ledger,
+    R: Abort + Clock + Wait + AllocGlobal,
 > Actor<'_, Regions, Tickets, Events, R> {
-    /// Compares what a worker did. Memory may be refused for a step, which is returned: that is one refusal more, and a
-    /// later word made the step.
-    fn must_serve(&self, found: Served, saw_all: bool, wanted: Served) -> Result<(), Fault> {
+    /// Compares what a worker did. Memory may be refused for a step, which is one refusal more. A later word made the
+    /// step then.
+    fn must_serve(&self, found: Served, saw_all: bool, wanted: Served) {
         let lacked = self.may_lack && wanted.refusals < found.refusals;
         let refusals = wanted.refusals.saturating_add(u64::from(lacked));
-        let steps = wanted.steps;
-        same(
-            self.rt,
-            (found, saw_all || lacked),
-            (Served { steps, refusals }, true),
-        );
-        if lacked { Err(Fault::Memory) } else { Ok(()) }
+        let wanted = Served { refusals, ..wanted };
+        same(self.rt, (found, saw_all || lacked), (wanted, true));
     }
 
-    /// Serves the words of a channel as the worker of a number in a meeting, and compares what it did. Another caller
-    /// looks how many events there are when the gate is called.
+    /// Does what a service says, as the worker of a number in a meeting.
     fn serve_from(
         &mut self,
         from: &Receiver<u64>,
-        looking: Caller<Regions, Tickets, Events>,
         service: Service,
         meeting: &Meeting,
         number: usize,
-    ) -> Result<(), Fault> {
-        let watch = Watch::new(meeting, number, self.runtime, looking, service.events);
+    ) {
+        self.make_rows(service.rows);
+        let watch = Watch {
+            meeting,
+            number,
+            runtime: self.runtime,
+            wanted: service.events,
+            calls: AtomicU64::new(0),
+        };
         let words = from.iter(self.rt);
         let served = serve(self.rt, self.runtime, &mut self.caller, words, &watch);
-        self.must_serve(served, watch.saw_all(), service.served)
+        self.must_serve(served, watch.saw_all(), service.served);
+        self.make_rows(service.behind);
     }
 
-    fn serve_in(
+    /// Does what a service says with a channel of its own, as the worker of a number in a meeting.
+    pub fn serve_in(
         &mut self,
         service: Service,
         meeting: &Meeting,
         number: usize,
     ) -> Result<(), Fault> {
-        let looking = self.caller.split(0, 0)?;
         let from = bells(self.rt, self.rt.alloc(), service.words)?;
-        self.serve_from(&from, looking, service, meeting, number)
-    }
-
-    /// Tells a worker the words of a service. What it leaves of the one copy is made then.
-    pub fn serve_as(&mut self, service: Service) -> Result<(), Fault> {
-        self.make_rows(&PUT);
-        self.serve_in(service, &Meeting::new(None, 1), 0)?;
-        let left = 1u64.saturating_sub(service.served.steps);
-        self.make_row((Deed::Wait(Some(3)), Ok(left)));
+        self.serve_from(&from, service, meeting, number);
         Ok(())
-    }
-
-    /// Serves queue 3 or 4 as the worker of a number in a meeting, and gives its caller back.
-    fn serve_own(
-        mut self,
-        meeting: &Meeting,
-        number: usize,
-        is_first: bool,
-    ) -> (Caller<Regions, Tickets, Events>, Result<(), Fault>) {
-        let service = Service {
-            words: if number == 0 { &[3] } else { &[4] },
-            events: if is_first { &[3, 4] } else { &[4, 5] },
-            served: Served {
-                steps: 1,
-                refusals: 0,
-            },
-        };
-        let served = self.serve_in(service, meeting, number);
-        let Actor { caller, .. } = self;
-        (caller, served)
-    }
-
-    /// Two workers serve a queue each, and have to meet.
-    pub fn serve_both(&mut self, first: usize) -> Result<(), Fault> {
-        self.make_rows(&PUT);
-        self.make_row((Deed::Update(UpdateClause::ToSelf, Some(4)), Ok(0)));
-        let one = self.caller.split(0, 10)?;
-        let two = self.caller.split(0, 10)?;
-        self.meet(one, two, first)
-    }
-
-    fn meet(
-        &mut self,
-        one: Caller<Regions, Tickets, Events>,
-        two: Caller<Regions, Tickets, Events>,
-        first: usize,
-    ) -> Result<(), Fault> {
-        let (rt, runtime) = (self.rt, self.runtime);
-        let meeting = Meeting::new(Some(first), 2);
-        let meeting = &meeting;
-        let ((one, served), (two, other)) = join(
-            rt,
-            move || Actor::new(rt, runtime, one, false).serve_own(meeting, 0, first == 0),
-            move || Actor::new(rt, runtime, two, false).serve_own(meeting, 1, first == 1),
-        );
-        self.caller.merge(one);
-        self.caller.merge(two);
-        same(rt, (self.caller.made(), meeting.took_place()), (5, Some(0)));
-        served.and(other)
     }
 }
 
 #[test]
-fn queues_are_served_as_the_words_say(rt: HostRuntime) -> Result<(), Fail> {
-    play_each(&rt, &SERVICES, false)?;
-    Ok(())
+fn queues_are_served_as_the_words_say(rt: HostRuntime) -> Result<(), Fault> {
+    play_each(&rt, &SERVICES, false)
 }
 
 /// A step that memory is refused for is a refusal, and its transfer is left for the next word.
 #[test]
-fn a_refused_growth_is_counted_by_a_worker(rt: HostRuntime) -> Result<(), Fail> {
-    play_each(&rt, &SERVICES, true)?;
-    Ok(())
-}
-
-#[test]
-fn either_worker_waits_for_the_other(rt: HostRuntime) -> Result<(), Fail> {
-    play_each(&rt, &[Scene::Workers(0), Scene::Workers(1)], false)?;
-    Ok(())
+fn a_refused_growth_is_counted_by_a_worker(rt: HostRuntime) -> Result<(), Fault> {
+    play_each(&rt, &SERVICES, true)
 }

@@ -1,4 +1,4 @@
-use Rattle.acc_runtime_tests.proofs.tests.scenes.play_new.Given as goal
+use Rattle.acc_runtime_tests.proofs.tests.example.play_new.Given as goal
 
 abbrev pub ghosts-play_on_new-Regions-Ledger : goal.ghosts-play_on_new-Regions-Ledger
 ghosts-play_on_new-Regions-Ledger g a = record { name = a.blanks.regions.name; parts = a.blanks.regions.parts }

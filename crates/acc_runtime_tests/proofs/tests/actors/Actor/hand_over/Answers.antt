@@ -1,6 +1,0 @@
-use Rattle.acc_runtime.proofs.Crossing.{sharing}
-use Rattle.acc_runtime.proofs.callers.Caller.TheSendSync.{the_send as caller_send}
-use Rattle.acc_runtime_tests.proofs.tests.actors.Actor.hand_over.Goals as goal
-
-pub join-other-requires-send-F : goal.join-other-requires-send-F
-join-other-requires-send-F g c κs within = search (sharing, caller_send) depth 40 fits 10000

@@ -12,9 +12,9 @@ use Rattle.acc_base.specs.Records.{Memory}
 use Rattle.acc_base.specs.Bytes.{host_byte, written_bytes, memory_changed}
 use Rattle.acc_base.specs.Pointers.{pointer_written, memories_aimed, aimed}
 use Rattle.acc_dev.specs.Device.{DeviceState}
-use Rattle.acc_attach.specs.Attached.{AttachedState, left_of}
-use Rattle.acc_attach.specs.declared.left.Left.{Left}
-use Rattle.acc_attach.specs.declared.left.Left.TheVariants as left
+use Rattle.acc_present.specs.Attached.{AttachedState, left_of}
+use Rattle.acc_present.specs.declared.left.Left.{Left}
+use Rattle.acc_present.specs.declared.left.Left.TheVariants as left
 use Rattle.acc_clauses.specs.declared.environments.Environment.{Environment}
 use Rattle.acc_clauses.specs.Contents.{Numbers, WithHost, beside, AreMarked, state_of, bare_state}
 use Rattle.acc_clauses.specs.Acts.{CanDetach, pointers_of, IsAimedBy}

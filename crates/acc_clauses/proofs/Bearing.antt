@@ -20,7 +20,7 @@ use Rattle.acc_base.proofs.Lookups.{at-none, at-push_new}
 use Rattle.acc_base.proofs.Elements.{AllByRecursion-weaker}
 use Rattle.acc_base.proofs.Memories.{recounted-block, recounted-section}
 use Rattle.acc_base.proofs.Pointers.{fresh-clear}
-use Rattle.acc_host.specs.Host.{bytes_in}
+use Rattle.acc_dev.specs.Host.{bytes_in}
 use Rattle.acc_present.specs.Present.{PresentState, with_ranges}
 use Rattle.acc_dev.specs.Marks.{new_mark, IsMarkOf}
 use Rattle.acc_dev.specs.Device.{DeviceState}

@@ -4,7 +4,7 @@ use Rattle.std.proofs.lemmas.Bool.Decides.{nat_tests}
 use Rattle.std.proofs.Common.{ℕ, ◌≡◌, ◌+◌, ◌≤◌, refl, sym, ◌∙◌, ap, List, [], ◌++◌, length, arith, append_assoc, length-append, subst}
 use Rattle.acc_base.specs.Records.{State}
 use Rattle.acc_present.specs.Present as present
-use Rattle.acc_queues.specs.Queued.{spare_at}
+use Rattle.acc_present.specs.Queued.{spare_at}
 use Rattle.acc_clauses.specs.declared.environments.Environment.{Environment}
 use Rattle.acc_clauses.specs.Contents.{bare_numbers, bare_state, Numbers, WithHost, beside, state_of, room_of, ArePartsSound}
 use Rattle.acc_clauses.specs.Acts.{IsRoomLeft, IsChangedBy}

@@ -11,7 +11,7 @@ use Rattle.acc_base.specs.Records.{Memory}
 use Rattle.acc_base.specs.Bytes.{written_bytes, memory_changed, is_moved, bytes_moved_in, bytes_moved_out, host_after_write}
 use Rattle.acc_base.proofs.Results.{equal_self}
 use Rattle.acc_base.specs.Overwriting.{overwritten}
-use Rattle.acc_host.specs.Host.{bytes_in}
+use Rattle.acc_dev.specs.Host.{bytes_in}
 
 -- ---- bytes written at the addresses of a section
 

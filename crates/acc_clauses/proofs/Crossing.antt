@@ -3,11 +3,8 @@ use denote.Param.Send.{IsSend, sendable, view_send, recorded_send, struct_send}
 use denote.Param.SendFields.{as_row_send}
 use denote.Struct.Declared.{shape}
 use Rattle.std.proofs.Crossing.{crosses}
-use Rattle.acc_host.proofs.Crossing.{host_send}
-use Rattle.acc_queues.proofs.Crossing.{queues_send}
-use Rattle.acc_attach.proofs.Crossing.{attached_send}
-use Rattle.acc_present.proofs.Crossing.{present_send}
-use Rattle.acc_dev.proofs.Crossing.{device_send}
+use Rattle.acc_dev.proofs.Crossing.{host_send, device_send}
+use Rattle.acc_present.proofs.Crossing.{queues_send, attached_send, present_send}
 use Rattle.acc_base.specs.contracts.configs.Config as Config
 use Rattle.acc_clauses.specs.contracts.environments.Environment as Environment
 use Rattle.acc_clauses.specs.contracts.devices.DeviceData as DeviceData

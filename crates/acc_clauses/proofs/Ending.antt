@@ -21,7 +21,7 @@ use Rattle.acc_present.specs.Present.{PresentState, with_ranges}
 use Rattle.acc_present.specs.Present as present
 use Rattle.acc_dev.specs.Marks.{pins_at, is_ended_at, IsMarkOf}
 use Rattle.acc_dev.specs.Device.{DeviceState, IsEnded, IsRetired}
-use Rattle.acc_attach.specs.Attached.{AttachedState}
+use Rattle.acc_present.specs.Attached.{AttachedState}
 use Rattle.acc_clauses.specs.Contents.{WithHost, AreMarked, state_of, bare_state, bare_numbers}
 use Rattle.acc_clauses.specs.Overlays.{puts_by}
 use Rattle.acc_clauses.specs.Acts.{CanDrop, given_state, moved_state, IsChangedBy, IsGivenBy, IsActedBy}

@@ -16,7 +16,7 @@ use Rattle.acc_base.proofs.Elements.{AllByRecursion-weaker, AllByRecursion-appen
 use Rattle.acc_base.proofs.Lookups.{at-changed, at-without_same, at-without_other}
 use Rattle.acc_base.proofs.Counting.{with_new}
 use Rattle.acc_base.proofs.Queued.{pins-put, pins-popped}
-use Rattle.acc_queues.specs.Queued.{AreQueues}
+use Rattle.acc_present.specs.Queued.{AreQueues}
 use Rattle.acc_dev.specs.Marks.{Mark, new_mark, pins_at, is_ended_at, mark_changed, with_pin, without_pin, with_end, without_mark, IsMarkOf}
 use Rattle.acc_clauses.specs.Contents.{IsMarkRight}
 

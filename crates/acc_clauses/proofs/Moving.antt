@@ -13,7 +13,7 @@ use Rattle.acc_base.specs.Accounts.{EachPair, IsClearOf, IsMemoryOf}
 use Rattle.acc_base.proofs.Elements.{AllByRecursion-weaker, EachPair-weaker}
 use Rattle.acc_base.proofs.Lookups.{at-own}
 use Rattle.acc_base.specs.Overwriting.{overwritten}
-use Rattle.acc_host.specs.Host.{bytes_in}
+use Rattle.acc_dev.specs.Host.{bytes_in}
 use Rattle.acc_dev.specs.Device.{DeviceState, IsBlockWritten, HasBlocksApart}
 use Rattle.acc_clauses.proofs.Copying.{from_all, written-overwritten, part, IsPartAt, within_is_part, moved_in, moved_out, changed-same}
 

@@ -15,10 +15,10 @@ use Rattle.acc_base.specs.Steps.{is_in_use, released}
 use Rattle.acc_base.specs.Waits.{stepped}
 use Rattle.acc_base.specs.Accounts.{IsMemoryOf}
 use Rattle.acc_base.proofs.KeptMemories.{memories_kept-without}
-use Rattle.acc_queues.specs.Queued.{QueuesState, AreRoomsKept, IsRoomTaken, spare_at}
+use Rattle.acc_present.specs.Queued.{QueuesState, AreRoomsKept, IsRoomTaken, spare_at}
 use Rattle.acc_dev.specs.Marks.{pins_at, is_ended_at, IsMarkOf}
 use Rattle.acc_dev.specs.Device.{DeviceState, IsPinned, IsUnpinned, IsRetired}
-use Rattle.acc_attach.specs.Attached.{AttachedState}
+use Rattle.acc_present.specs.Attached.{AttachedState}
 use Rattle.acc_clauses.specs.Contents.{WithHost, AreMarked}
 use Rattle.acc_clauses.specs.Acts.{IsMovedBy, IsSteppedBy}
 use Rattle.acc_clauses.proofs.Changes.{state_from_parts, room_same, none_taken}

@@ -6,7 +6,7 @@ use Rattle.std.proofs.lemmas.Bool.Decides.{nat_tests}
 use Rattle.acc_clauses.specs.Words.{Directive, Task, Did}
 use Rattle.acc_base.specs.Tasks.{queue_of}
 use Rattle.acc_base.specs.Judge.{queue_in}
-use Rattle.acc_queues.specs.Queued.{spare_at}
+use Rattle.acc_present.specs.Queued.{spare_at}
 use Rattle.acc_clauses.specs.Planned.{Planned, holdings_by, IsPlanOf}
 use Rattle.acc_clauses.specs.Overlays.{is_queue, puts_in}
 use Rattle.acc_clauses.specs.Contents.{Contents, Room}

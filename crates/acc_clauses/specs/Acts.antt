@@ -27,10 +27,10 @@ use Rattle.acc_base.specs.Bytes.{bytes_of, fill_byte, host_made, memories_made, 
 use Rattle.acc_base.specs.Pointers.{aimed}
 use Rattle.acc_base.specs.Acting.{act_state}
 use Rattle.acc_base.specs.History.{IsAimLegal}
-use Rattle.acc_host.specs.Host.{bytes_in}
+use Rattle.acc_dev.specs.Host.{bytes_in}
 use Rattle.acc_dev.specs.Device.{DeviceState, birth_place}
 use Rattle.acc_dev.specs.Marks.{new_mark}
-use Rattle.acc_queues.specs.Queued.{QueuesState, spare_at}
+use Rattle.acc_present.specs.Queued.{QueuesState, spare_at}
 use Rattle.acc_clauses.specs.Planned.{Planned, holdings_by}
 use Rattle.acc_clauses.specs.Contents.{Numbers, Room, Contents, state_of, room_of, AreMarked, bare_state, WithHost}
 use Rattle.acc_clauses.specs.Overlays.{is_queue, puts_by, puts_in}

@@ -11,8 +11,8 @@ use Rattle.acc_base.specs.Accounts.{AreRecordsSound, AreMemoriesSized}
 use Rattle.acc_dev.specs.Marks.{Mark}
 use Rattle.acc_dev.specs.Device.{DeviceState}
 use Rattle.acc_present.specs.Present.{PresentState}
-use Rattle.acc_attach.specs.Attached.{AttachedState}
-use Rattle.acc_queues.specs.Queued.{QueuesState}
+use Rattle.acc_present.specs.Attached.{AttachedState}
+use Rattle.acc_present.specs.Queued.{QueuesState}
 use Rattle.acc_clauses.specs.declared.environments.Environment.{Environment}
 
 -- what can be added without allocating: births of blocks of these lengths, in this order; so many ranges, regions and

@@ -17,8 +17,7 @@ use crate::environments::Environment;
 use crate::pointers::aim_on;
 use crate::transfers::{move_bytes, transfer_at};
 use acc_base::{Counter, Item, RegionClause, Section, Step, Task, Transfer};
-use acc_dev::Device;
-use acc_host::HostMem;
+use acc_dev::{Device, HostMem};
 use acc_present::{Place, Present};
 
 /// Changes the counters of the range that is mapped to a block as the task does (OpenACC 3.3, section 2.6.7). It is not

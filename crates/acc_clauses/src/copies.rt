@@ -12,11 +12,9 @@ ghost use Rattle.acc_clauses.specs.Copies.{IsRunEnd};
 
 use crate::environments::Environment;
 use crate::sections::POINTER_LEN;
-use acc_attach::{Attached, Place};
 use acc_base::Section;
-use acc_dev::Device;
-use acc_host::HostMem;
-use acc_present::Present;
+use acc_dev::{Device, HostMem};
+use acc_present::{Attached, Place, Present};
 
 /// Copies a run of bytes to host memory from a block that is not lent and is mapped from the host address `start` on.
 fn run_out(device: &Device, host: &mut HostMem, run: Section, block: u64, start: u64)

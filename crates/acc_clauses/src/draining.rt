@@ -9,7 +9,7 @@ ghost use Rattle.acc_clauses.specs.Devices.{state_beside};
 
 use crate::devices::DeviceData;
 use acc_base::QUEUE_COUNT;
-use acc_host::HostMem;
+use acc_dev::HostMem;
 
 // Makes the transfers of one queue until it is empty. None is of a block that is lent.
 fn drain_queue(device: &mut DeviceData, host: &mut HostMem, q: u64)

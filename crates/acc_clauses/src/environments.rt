@@ -5,11 +5,9 @@ ghost use Rattle.acc_base.specs.declared.faults.Fault.TheVariants.{Memory};
 ghost use Rattle.acc_base.specs.Limits.{limits_on};
 ghost use Rattle.acc_clauses.specs.Devices.{IsNewEnvironment};
 
-use acc_attach::Attached;
 use acc_base::{Config, Fault};
 use acc_dev::Device;
-use acc_present::Present;
-use acc_queues::Queues;
+use acc_present::{Attached, Present, Queues};
 use std::alloc::Global;
 
 /// What one device has: the present table, the blocks of its memory, the attachment counters and the queues, side by

@@ -9,7 +9,7 @@ use crate::devices::DeviceData;
 use crate::draining::drain;
 use crate::plans::Plan;
 use acc_base::Directive;
-use acc_host::HostMem;
+use acc_dev::HostMem;
 
 /// Does what a directive says of the register and the queues, where there is room for it. It allocates nothing and is
 /// never refused. A region that it enters takes the number of the next one.

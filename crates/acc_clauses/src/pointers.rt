@@ -12,9 +12,9 @@ ghost use Rattle.acc_clauses.specs.Acts.{CanAttach, CanDetach, CanAim, IsAimedBy
 use crate::copies::{run_in, start_of};
 use crate::environments::Environment;
 use crate::sections::pointer_at;
-use acc_attach::Left;
 use acc_base::Aim;
-use acc_host::HostMem;
+use acc_dev::HostMem;
+use acc_present::Left;
 
 /// Writes the device address of a target over a pointer in a block, which is not lent.
 fn write_target(environment: &mut Environment, pointer: u64, block: u64, target: u64)

@@ -10,7 +10,7 @@ ghost use Rattle.acc_clauses.specs.Acts.{AreKnown, HasRoomFor, HasPutRoom, lens_
 
 use crate::acted::Acted;
 use crate::devices::DeviceData;
-use acc_host::HostMem;
+use acc_dev::HostMem;
 use acc_present::Place;
 
 /// Does the steps of these tasks, one after the other. Each was judged in what those before it leave, and there is room

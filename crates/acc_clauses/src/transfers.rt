@@ -13,7 +13,7 @@ ghost use Rattle.acc_clauses.specs.Acts.{CanTransfer, CanPut, CanMoveBytes, CanS
 use crate::copies::{copy_in, copy_out, start_of};
 use crate::environments::Environment;
 use acc_base::{Task, Transfer};
-use acc_host::HostMem;
+use acc_dev::HostMem;
 use acc_present::Present;
 
 /// The copy of a task's section between host memory and the block that it is mapped to.

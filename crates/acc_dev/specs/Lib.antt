@@ -4,3 +4,4 @@ pub mod Kept
 pub mod Room
 pub mod Ending
 pub mod Slots
+pub mod Host

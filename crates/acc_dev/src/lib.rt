@@ -1,4 +1,5 @@
-//! Device memory: blocks with a number, a place and bytes each.
+//! Host memory: the bytes at the host addresses from [`HOST_BASE`] on. And device memory: blocks with a number, a place
+//! and bytes each.
 #![tactic(auto)]
 
 mod copying;
@@ -7,7 +8,10 @@ mod ended;
 mod entries;
 mod filling;
 mod lending;
+mod memories;
 mod returning;
 
+pub use acc_base::HOST_BASE;
 pub use copying::SavedBlock;
 pub use devices::Device;
+pub use memories::HostMem;

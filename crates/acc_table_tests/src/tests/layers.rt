@@ -5,12 +5,10 @@ ghost use Rattle.std.specs.Prelude.{◌<◌, ◌^◌};
 
 use crate::tests::same;
 use crate::tests::turns::section;
-use acc_attach::{Attached, Left};
 use acc_base::{Aim, Fault, Found, Transfer};
 use acc_dev::Device;
 use acc_placement::Holes;
-use acc_present::Present;
-use acc_queues::Queues;
+use acc_present::{Attached, Left, Present, Queues};
 use std::process::Abort;
 use std::test::Fail;
 

@@ -2,7 +2,7 @@ use Rattle.std.proofs.Common.{◌≡◌, ◌∙◌, ◌≤◌, length, OnOk, sym
 use Rattle.std.specs.List.{All}
 use Rattle.acc_base.specs.declared.addresses.TheConstants.{MEMORY_MAX}
 use Rattle.acc_base.specs.Limits.{IsFromOne}
-use Rattle.acc_queues.specs.Queued.{spare_at}
+use Rattle.acc_present.specs.Queued.{spare_at}
 use Rattle.acc_clauses.specs.Overlays.{dids_in, puts_in}
 use Rattle.acc_clauses.specs.Contents.{Contents}
 use Rattle.acc_clauses.specs.Devices.{contents_beside}

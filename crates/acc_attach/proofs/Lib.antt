@@ -1,5 +1,0 @@
-pub mod Placed
-pub mod Keyed
-pub mod Bounded
-pub mod Keeping
-pub mod Crossing

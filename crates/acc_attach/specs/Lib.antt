@@ -1,2 +1,0 @@
-pub mod Attached
-pub mod Kept

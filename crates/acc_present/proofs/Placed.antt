@@ -1,0 +1,201 @@
+-- Counters by rising block and pointer: searches that begin at a pointer.
+use Rattle.std.proofs.Common.{ℕ, ◌≡◌, ◌-◌, ◌+◌, ◌<◌, ◌≤◌, refl, sym, ap, ◌∙◌, Bool, true, false, cond, ◌&&◌, ◌||◌, List, [], ◌∷◌, Option, Some, None, arith, inl, inr}
+use Rattle.std.specs.Prelude.{◌⊎◌, ◌==◌, not, nat_le, nat_lt, find, option_map, is_some}
+use Rattle.std.specs.List.{list_any}
+use Rattle.std.proofs.lemmas.Bool.Decides.{nat_tests}
+use Rattle.acc_base.specs.declared.attachments.Attachment.{Attachment}
+use Rattle.acc_base.specs.Section.{covers}
+use Rattle.acc_base.specs.Accounts.{EachPair}
+use Rattle.acc_base.specs.Attachments.{pointer_at, IsBefore, is_skipped, next_pointer}
+use Rattle.acc_base.proofs.Results.{equal}
+use Rattle.acc_base.proofs.Elements.{AllByRecursion-weaker, find-none}
+use Rattle.acc_base.proofs.Attached.{before}
+use Rattle.acc_present.specs.KeptCounters.{is_below, is_from}
+
+-- a counter with this key
+abbrev probe : ℕ → ℕ → Attachment
+probe block pointer = record { block = block; pointer = pointer; count = 0 }
+
+-- ---- where a counter stands that comes at a pointer or behind
+
+-- it is of a later block, or of the pointer's block and begins at the pointer or above
+abbrev pub IsAtOrBehind : ℕ → ℕ → Attachment → Type 0
+IsAtOrBehind block pointer a = (block < a.block) ⊎ ((a.block ≡ block) × (pointer ≤ a.pointer))
+
+-- what fails the test of standing before a pointer comes there or behind
+pub at_or_behind : (block pointer : ℕ) (a : Attachment) → is_below block pointer a ≡ false → IsAtOrBehind block pointer a
+at_or_behind block pointer a e = go (nat_lt a.block block) refl (a.block == block) refl (nat_lt a.pointer pointer) refl e
+  where
+    go : (s : Bool) → nat_lt a.block block ≡ s → (t : Bool) → (a.block == block) ≡ t → (u : Bool) → nat_lt a.pointer pointer ≡ u → (s || (t && u)) ≡ false → IsAtOrBehind block pointer a
+    go false f true g false h k = inr (equal _ _ g, grind (arith, nat_tests))
+    go false f false g u h k = inl (grind (arith, nat_tests))
+    go _ f _ g _ h k = cc
+
+-- a counter behind one of a later block is of a later block
+later_block : (block : ℕ) (a b : Attachment) → block < a.block → IsBefore a b → (b.block == block) ≡ false
+later_block block a b less (inl h) = let more : block < b.block = omega arith in grind (arith, nat_tests)
+later_block block a b less (inr h) = let more : block < b.block = omega (arith, h.0) in grind (arith, nat_tests)
+
+-- of a later block, or of the same and above
+same_or_later : (block : ℕ) (a b : Attachment) → a.block ≡ block → IsBefore a b → ((b.block == block) ≡ false) ⊎ (a.pointer < b.pointer)
+same_or_later block a b is (inl h) = let more : block < b.block = omega arith in inl (grind (arith, nat_tests))
+same_or_later block a b is (inr h) = inr h.1
+
+-- a counter that a search from a pointer on finds does not stand before it
+found_first : (block pointer : ℕ) (xs : List Attachment) (a : Attachment) → Some a ≡ find (is_from block pointer) xs → is_below block pointer a ≡ false
+found_first block pointer xs a e = not_true (is_below block pointer a) (found_passes xs (sym e))
+  where
+    not_true : (b : Bool) → not b ≡ true → b ≡ false
+    not_true true f = cc
+    not_true false f = refl
+
+    found_passes : (ys : List Attachment) → find (is_from block pointer) ys ≡ Some a → is_from block pointer a ≡ true
+    found_passes [] f = cc
+    found_passes (y ∷ ys) f = go (found_passes ys) (is_from block pointer y) refl f
+      where
+        go : (find (is_from block pointer) ys ≡ Some a → is_from block pointer a ≡ true) → (b : Bool) → is_from block pointer y ≡ b → cond b (Some y) (find (is_from block pointer) ys) ≡ Some a → is_from block pointer a ≡ true
+        go rest true g k = let same : y ≡ a = cc in rw (← same) g
+        go rest false g k = rest k
+
+-- ---- a search by a test that only the first counter from a pointer on can pass
+
+-- what passes the test, if anything does
+abbrev pub passed : (Attachment → Bool) → Option Attachment → Option Attachment
+passed test None = None
+passed test (Some a) = cond (test a) (Some a) None
+
+module _ (block pointer : ℕ) (test : Attachment → Bool) (below : (a : Attachment) → IsBefore a (probe block pointer) → test a ≡ false) (none_after : (a b : Attachment) → IsAtOrBehind block pointer a → test a ≡ false → IsBefore a b → test b ≡ false) where
+  -- the search finds the first one from the pointer on, or nothing
+  pub find_first : (xs : List Attachment) → EachPair IsBefore xs → find test xs ≡ passed test (find (is_from block pointer) xs)
+  find_first [] h = refl
+  find_first (x ∷ xs) h = go (find_first xs h.1) (is_below block pointer x) refl
+    where
+      rest : is_below block pointer x ≡ false → (t : Bool) → test x ≡ t → cond t (Some x) (find test xs) ≡ cond t (Some x) None
+      rest e true f = refl
+      rest e false f = find-none test xs (AllByRecursion-weaker (IsBefore x) (λ y. test y ≡ false) xs (λ y k. none_after x y (at_or_behind block pointer x e) f k) h.0)
+
+      go : find test xs ≡ passed test (find (is_from block pointer) xs) → (b : Bool) → is_below block pointer x ≡ b → cond (test x) (Some x) (find test xs) ≡ passed test (cond (not b) (Some x) (find (is_from block pointer) xs))
+      go later true e = rw (below x (before x (probe block pointer) e)) later
+      go later false e = rest e (test x) refl
+
+-- ---- the next pointer
+
+-- it is a pointer of the block that begins at the address or above
+abbrev begins_from : ℕ → ℕ → Attachment → Bool
+begins_from block address a = a.block == block && nat_le address a.pointer
+
+-- a counter that stands before an address passes no such test
+not_next_below : (block address : ℕ) (a : Attachment) → IsBefore a (probe block address) → begins_from block address a ≡ false
+not_next_below block address a (inl h) = let t : (a.block == block) ≡ false = grind (arith, nat_tests) in rw t
+not_next_below block address a (inr h) = let s : (a.block == block) ≡ true = grind (arith, nat_tests, h.0) in let t : nat_le address a.pointer ≡ false = grind (arith, nat_tests, h.1) in rw (s, t)
+
+-- one of the block from there on does
+next_test : (block address : ℕ) (a : Attachment) → a.block ≡ block → address ≤ a.pointer → begins_from block address a ≡ true
+next_test block address a is le = let s : (a.block == block) ≡ true = grind (arith, nat_tests) in let t : nat_le address a.pointer ≡ true = grind (arith, nat_tests) in rw (s, t)
+
+-- and where the first from there on does not, no later one does
+not_next_behind : (block address : ℕ) (a b : Attachment) → IsAtOrBehind block address a → begins_from block address a ≡ false → IsBefore a b → begins_from block address b ≡ false
+not_next_behind block address a b (inl h) e k = rw (later_block block a b h k)
+not_next_behind block address a b (inr h) e k = let t = next_test block address a h.0 h.1 in cc
+
+-- so the next pointer is that of the first one, or there is none
+find_next : (block address : ℕ) (xs : List Attachment) → EachPair IsBefore xs → find (begins_from block address) xs ≡ passed (begins_from block address) (find (is_from block address) xs)
+find_next block address xs h = find_first block address (begins_from block address) (not_next_below block address) (not_next_behind block address) xs h
+
+-- the first counter from an address on is of the block
+pub next_there : (block address : ℕ) (xs : List Attachment) (a : Attachment) → EachPair IsBefore xs → Some a ≡ find (is_from block address) xs → a.block ≡ block → Some a.pointer ≡ next_pointer block address xs
+next_there block address xs a h e is = go (at_or_behind block address a (found_first block address xs a e))
+  where
+    go : IsAtOrBehind block address a → Some a.pointer ≡ next_pointer block address xs
+    go (inl less) = absurd (omega arith)
+    go (inr both) =
+        let t = next_test block address a both.0 both.1 in
+        let f : find (begins_from block address) xs ≡ Some a = find_next block address xs h ∙ ap (passed (begins_from block address)) (sym e) ∙ rw t in
+        sym (ap (option_map (λ (x : Attachment). x.pointer)) f)
+
+-- it is of another
+pub next_not : (block address : ℕ) (xs : List Attachment) (a : Attachment) → EachPair IsBefore xs → Some a ≡ find (is_from block address) xs → (a.block ≡ block → ⊥) → None ≡ next_pointer block address xs
+next_not block address xs a h e other =
+    let t : (a.block == block) ≡ false = grind (arith, nat_tests, other) in
+    let f : find (begins_from block address) xs ≡ None = find_next block address xs h ∙ ap (passed (begins_from block address)) (sym e) ∙ rw t in
+    sym (ap (option_map (λ (x : Attachment). x.pointer)) f)
+
+-- there is none
+pub next_past : (block address : ℕ) (xs : List Attachment) → EachPair IsBefore xs → None ≡ find (is_from block address) xs → None ≡ next_pointer block address xs
+next_past block address xs h e =
+    let f : find (begins_from block address) xs ≡ None = find_next block address xs h ∙ ap (passed (begins_from block address)) (sym e) in
+    sym (ap (option_map (λ (x : Attachment). x.pointer)) f)
+
+-- ---- the bytes of pointers
+
+-- the address is one of the bytes of the block's pointer that is attached
+abbrev skips : ℕ → ℕ → Attachment → Bool
+skips block address a = a.block == block && covers (pointer_at a.pointer) address
+
+-- a pointer that begins more than seven bytes below an address does not reach it
+not_skipped_below : (block address : ℕ) (a : Attachment) → IsBefore a (probe block (address - 7)) → skips block address a ≡ false
+not_skipped_below block address a (inl h) = let t : (a.block == block) ≡ false = grind (arith, nat_tests) in rw t
+not_skipped_below block address a (inr h) = go (a.block == block) (nat_le a.pointer address)
+  where
+    short : nat_lt address (a.pointer + 8) ≡ false
+    short = let less : a.pointer + 8 ≤ address = omega (arith, h.1) in grind (arith, nat_tests)
+
+    go : (s t : Bool) → (s && (t && nat_lt address (a.pointer + 8))) ≡ false
+    go true true = short
+    go _ _ = refl
+
+-- from seven bytes below on, it is where the pointer does not begin behind the address
+skips_test : (block address : ℕ) (a : Attachment) → IsAtOrBehind block (address - 7) a → skips block address a ≡ (a.block == block && nat_le a.pointer address)
+skips_test block address a (inl h) = let t : (a.block == block) ≡ false = grind (arith, nat_tests) in rw t
+skips_test block address a (inr h) = go (a.block == block) (nat_le a.pointer address)
+  where
+    long : nat_lt address (a.pointer + 8) ≡ true
+    long = let less : address < a.pointer + 8 = omega (arith, h.1) in grind (arith, nat_tests)
+
+    go : (s t : Bool) → (s && (t && nat_lt address (a.pointer + 8))) ≡ (s && t)
+    go true true = long
+    go _ _ = refl
+
+-- where the first from seven bytes below on does not cover it, no later one does
+not_skipped_behind : (block address : ℕ) (a b : Attachment) → IsAtOrBehind block (address - 7) a → skips block address a ≡ false → IsBefore a b → skips block address b ≡ false
+not_skipped_behind block address a b (inl h) e k = rw (later_block block a b h k)
+not_skipped_behind block address a b (inr h) e k = elim (same_or_later block a b h.0 k) [
+  | inl other ↦ rw other
+  | inr more ↦ go (nat_le a.pointer address) refl more
+]
+  where
+    own_block : (a.block == block) ≡ true
+    own_block = grind (arith, nat_tests, h.0)
+
+    go : (t : Bool) → nat_le a.pointer address ≡ t → a.pointer < b.pointer → skips block address b ≡ false
+    go true f more = let there : skips block address a ≡ true = skips_test block address a (inr h) ∙ rw (own_block, f) in cc
+    go false f more = let t : nat_le b.pointer address ≡ false = grind (arith, nat_tests) in go_and (b.block == block) t
+      where
+        go_and : (s : Bool) → nat_le b.pointer address ≡ false → (s && (nat_le b.pointer address && nat_lt address (b.pointer + 8))) ≡ false
+        go_and true t = rw t
+        go_and false t = refl
+
+-- something passes a test where a search finds it
+any_found : (test : Attachment → Bool) (xs : List Attachment) → list_any test xs ≡ is_some (find test xs)
+any_found test [] = refl
+any_found test (x ∷ xs) = go (any_found test xs) (test x)
+  where
+    go : list_any test xs ≡ is_some (find test xs) → (b : Bool) → (b || list_any test xs) ≡ is_some (cond b (Some x) (find test xs))
+    go rest true = refl
+    go rest false = rest
+
+-- so that one alone decides whether an address is skipped
+skipped_found : (block address : ℕ) (xs : List Attachment) → EachPair IsBefore xs → is_skipped block xs address ≡ is_some (passed (skips block address) (find (is_from block (address - 7)) xs))
+skipped_found block address xs h = any_found (skips block address) xs ∙ ap (λ (o : Option Attachment). is_some o) (find_first block (address - 7) (skips block address) (not_skipped_below block address) (not_skipped_behind block address) xs h)
+
+-- the first counter from seven bytes below on decides whether an address is skipped
+pub skipped_first : (block address : ℕ) (xs : List Attachment) (a : Attachment) → EachPair IsBefore xs → Some a ≡ find (is_from block (address - 7)) xs → (a.block == block && nat_le a.pointer address) ≡ is_skipped block xs address
+skipped_first block address xs a h e = sym (skipped_found block address xs h ∙ ap (λ o. is_some (passed (skips block address) o)) (sym e) ∙ go (skips block address a) ∙ skips_test block address a (at_or_behind block (address - 7) a (found_first block (address - 7) xs a e)))
+  where
+    go : (b : Bool) → is_some (cond b (Some a) None) ≡ b
+    go true = refl
+    go false = refl
+
+-- and none is where there is none
+pub skipped_past : (block address : ℕ) (xs : List Attachment) → EachPair IsBefore xs → None ≡ find (is_from block (address - 7)) xs → false ≡ is_skipped block xs address
+skipped_past block address xs h e = sym (skipped_found block address xs h ∙ ap (λ o. is_some (passed (skips block address) o)) (sym e))

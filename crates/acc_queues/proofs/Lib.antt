@@ -1,2 +1,0 @@
-mod Changed
-pub mod Crossing

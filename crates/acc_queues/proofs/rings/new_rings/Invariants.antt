@@ -1,7 +1,0 @@
-use Rattle.std.proofs.Common.{◌≡◌}
-use Rattle.std.specs.Prelude.{replicate, []}
-use Rattle.acc_queues.specs.Kept.{queues_in}
-use Rattle.acc_queues.proofs.rings.new_rings.Given as goal
-
-abbrev pub invariant-loop : goal.invariant-loop
-invariant-loop l = queues_in l.rings.items ≡ replicate l.counter []

@@ -1,2 +1,0 @@
-pub mod Queued
-pub mod Kept

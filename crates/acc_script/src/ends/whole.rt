@@ -7,6 +7,7 @@ ghost use Rattle.std.specs.List.{flat_map};
 
 use crate::{Sink, Source};
 use acc_base::Fault;
+use acc_read::make_room;
 use std::alloc::Global;
 
 /// How many bytes an input may have.
@@ -42,7 +43,10 @@ pub fn read_all<R: Source>(alloc: Global, reader: &mut R) -> Result<Vec<u8>, Fau
             None => return Err(Fault::Read),
             Some(0) => return Ok(all),
             Some(count) if count > LIMIT - all.len() => return Err(Fault::Read),
-            Some(count) => all.extend_from_slice(&piece[..count])?,
+            Some(count) => {
+                make_room(&mut all, count);
+                all.extend_from_slice(&piece[..count])?;
+            }
         }
     }
 }

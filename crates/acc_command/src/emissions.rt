@@ -192,7 +192,7 @@ impl<R: Threads + Wait + Sync + AllocGlobal, D: FileStore> Maker<'_, R, D> {
             output,
             until_refusal: options.until_refusal,
         };
-        let page = match emit(self.rt, config, origin) {
+        let page = match emit(self.rt.alloc(), config, origin) {
             // Among many scripts, those that are refused are programs up to that.
             Err(
                 EmitFault::Line {
@@ -202,7 +202,7 @@ impl<R: Threads + Wait + Sync + AllocGlobal, D: FileStore> Maker<'_, R, D> {
             ) if options.out.is_some() => {
                 let until_refusal = true;
                 emit(
-                    self.rt,
+                    self.rt.alloc(),
                     config,
                     Origin {
                         until_refusal,

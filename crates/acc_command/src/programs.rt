@@ -8,6 +8,7 @@ use acc_follow::{Page, RowCounts, count_rows};
 use acc_script::{Sink, Status, write_all};
 use acc_terminal::Options;
 use acc_trials::{FileStore, random_script};
+use std::alloc::Global;
 use std::sync::Wait;
 use std::thread::Threads;
 
@@ -16,14 +17,14 @@ use std::thread::Threads;
 /// # Errors
 ///
 /// Those of [`random_script`]; [`Fault::Write`] where the sink fails.
-pub fn write_random<'a, R: Threads + Wait + Sync + AllocGlobal, O: Sink>(
-    rt: &R,
+pub fn write_random<'a, O: Sink>(
+    alloc: Global,
     config: Config,
     seed: u64,
     lines: u64,
     out: &mut O,
 ) -> Result<Status, Mishap<'a>> {
-    let script = random_script(rt, config, seed, lines)?;
+    let script = random_script(alloc, config, seed, lines)?;
     write_page(out, &script)
 }
 
@@ -44,7 +45,7 @@ pub fn write_rows<'a, R: Threads + Wait + Sync + AllocGlobal, O: Sink, E: Sink, 
         let script = read_file(ends.files, name)?;
         let options = options_for(rt.alloc(), options, name, &script, ends.told)?;
         let config = limits(options)?;
-        rows = match count_rows(rt, config, &script, rows) {
+        rows = match count_rows(rt.alloc(), config, &script, rows) {
             Ok(rows) => rows,
             Err(fault) => return Err(within(rt, options, name, &script, fault, ends)),
         };

@@ -160,7 +160,7 @@ fn carried_out<
         return Ok(run_drill(rt, options, config, rounds, ends.out)?);
     }
     if let Some(seed) = options.random {
-        return write_random(rt, config, seed, options.lines, ends.out);
+        return write_random(rt.alloc(), config, seed, options.lines, ends.out);
     }
     if !options.rows.is_empty() {
         return write_rows(rt, options, ends);

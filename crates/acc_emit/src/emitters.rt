@@ -29,6 +29,10 @@ pub struct Emitter<'a> {
     pub regions: Vec<NestedRegion>,
     /// The output that it has to have.
     pub wanted: Wanted<'a>,
+    /// How many bytes the lines so far printed.
+    pub printed: usize,
+    /// A line was refused, with which the program ends.
+    pub is_over: bool,
 }
 
 impl<'a> Emitter<'a> {
@@ -50,6 +54,8 @@ impl<'a> Emitter<'a> {
             births: Vec::new(alloc),
             regions: Vec::new(alloc),
             wanted: Wanted::new(origin.output),
+            printed: 0,
+            is_over: false,
         })
     }
 }

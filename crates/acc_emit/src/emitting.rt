@@ -1,4 +1,4 @@
-//! Emits a script, line by line: a watcher of each line emits it behind its run.
+//! Emits a script: what watches its run emits each line, and lets the twin do it.
 
 use crate::answers::{emit_bytes, emit_present, emit_report, put_comment};
 use crate::doing::emit_directive;
@@ -9,14 +9,13 @@ use crate::pieces::Piece;
 use crate::pointers::pointer_section;
 use crate::refusals::emit_refused;
 use crate::sheets::Sheet;
-use crate::twins::{DEVICE, boxed_session, follow_on_twin, open_twin};
+use crate::twins::{DEVICE, follow_on_twin, open_twin};
 use crate::writes::{declare, emit_kernel, emit_point, emit_write};
-use acc_base::{Config, Fault, ScriptFault, Section};
-use acc_read::{Page, Statement, line_at, next_line, statement_text};
-use acc_script::{Effect, MemorySink, Session, Watcher, run_line};
+use acc_base::{Config, Fault, Section};
+use acc_read::{Page, Statement, line_at, statement_text};
+use acc_script::{Effect, InOnePart, MemorySink, Session, Status, Watcher, run_text};
 use acc_table::Table;
-use std::sync::Wait;
-use std::thread::Threads;
+use std::alloc::Global;
 
 /// What a program is made of.
 #[derive(Clone, Copy)]
@@ -40,105 +39,82 @@ pub struct Origin<'a> {
 ///
 /// [`EmitFault::Run`] for a fault of the script or lack of memory; [`EmitFault::Line`] at the first line that a program
 /// cannot have, or for which the output has no line.
-pub fn emit<R: Threads + Wait + Sync + AllocGlobal>(
-    rt: &R,
-    config: Config,
-    origin: Origin<'_>,
-) -> Result<Page, EmitFault> {
-    let mut own = boxed_session(rt.alloc(), config)?;
-    emit_on(rt, &mut own, origin)
+pub fn emit(alloc: Global, config: Config, origin: Origin<'_>) -> Result<Page, EmitFault> {
+    let mut emitter = Emitter::new(alloc, config, origin)?;
+    open_twin(&mut emitter);
+    let script = origin.script;
+    let mut printed = MemorySink::new(alloc);
+    let ending = run_text(
+        alloc,
+        &InOnePart,
+        config,
+        script,
+        &mut printed,
+        &mut emitter,
+    );
+    emitter.finish(ending);
+    emitter.sheet.whole(alloc, origin.name, script)
 }
 
-/// Emits a script on its own table, which is new.
-fn emit_on<R: Threads + Wait + Sync + AllocGlobal>(
-    rt: &R,
-    own: &mut Session,
-    origin: Origin<'_>,
-) -> Result<Page, EmitFault> {
-    let mut emitter = Emitter::new(rt.alloc(), own.table.config(), origin)?;
-    open_twin(rt, &mut emitter);
-    emit_lines(rt, own, &mut emitter);
-    emitter.sheet.whole(rt.alloc(), origin.name, origin.script)
-}
-
-fn emit_lines<R: Threads + Wait + Sync + AllocGlobal>(
-    rt: &R,
-    own: &mut Session,
-    emitter: &mut Emitter<'_>,
-) {
-    let mut rest = emitter.origin.script;
-    for _ in 0..rest.len() {
-        if rest.is_empty() {
-            break;
-        }
-        let (line, after) = next_line(rest);
-        if !emit_line(rt, own, emitter, line) {
-            return;
-        }
-        rest = after;
+impl Emitter<'_> {
+    /// Whether the program has ended, or a line before it has none.
+    fn is_done(&self) -> bool {
+        self.is_over || !self.sheet.is_fit()
     }
-    end(emitter, own.table.regions());
-}
 
-/// Runs a line on the script's own table, whose watcher emits it, and then on the twin. False where it ended the program.
-fn emit_line<R: Threads + Wait + Sync + AllocGlobal>(
-    rt: &R,
-    own: &mut Session,
-    emitter: &mut Emitter<'_>,
-    line: &[u8],
-) -> bool {
-    let number = emitter.sheet.line.saturating_add(1);
-    emitter.sheet.line = number;
-    let mut printed = MemorySink::new(rt.alloc());
-    match run_line(rt, number, own, line, &mut printed, emitter) {
-        Ok(true) => return false,
-        Ok(false) => follow_on_twin(rt, emitter, line),
-        Err(fault) => emitter.sheet.fail_run(fault),
-    }
-    emitter.sheet.is_fit()
-}
-
-impl Watcher<MemorySink> for Emitter<'_> {
     /// Emits a line that the script's own table did or refused, and the twin has yet to do. It is read once more, as the
     /// twin has it.
-    fn after(
-        &mut self,
-        _number: u64,
-        line: &[u8],
-        session: &Session,
-        effect: Effect,
-        writer: &mut MemorySink,
-    ) {
+    fn emit_line(&mut self, line: &[u8], own: &Table, effect: Effect, printed: &[u8]) {
         let twin = &self.twin;
         let innermost = twin.innermost();
         match line_at(self.alloc, &twin.arrays, twin.device, innermost, line) {
             Ok(statement) => {
                 put_statement(&mut self.sheet, line);
-                emit_effect(self, &session.table, &statement, effect, writer.as_slice());
+                emit_effect(self, own, &statement, effect, printed);
             }
             // It has no fault, since the script's own session has read it.
             Err(_) => self.sheet.fail_run(Fault::Memory),
         }
     }
+
+    /// Notes where a program cannot have the end of a script.
+    fn finish(&mut self, ending: Result<Status, Fault>) {
+        if self.is_done() {
+            return;
+        }
+        self.sheet.line = self.sheet.line.saturating_add(1);
+        match ending {
+            Err(fault) => self.sheet.fail_run(fault),
+            Ok(_) if self.origin.until_refusal => self.sheet.unfit(Reason::NothingRefused),
+            Ok(_) if self.wanted.goes_on() => self.sheet.unfit(Reason::OutputGoesOn),
+            Ok(_) => {}
+        }
+    }
 }
 
-/// Notes where a program cannot have the end of a script, of which no line was refused.
-fn end(emitter: &mut Emitter<'_>, open_regions: u64) {
-    let Emitter {
-        origin,
-        sheet,
-        wanted,
-        ..
-    } = emitter;
-    let line = sheet.line.saturating_add(1);
-    sheet.line = line;
-    if open_regions > 0 {
-        let kind = ScriptFault::Unclosed;
-        sheet.fail_run(Fault::Script { line, kind });
-    } else if origin.until_refusal {
-        sheet.unfit(Reason::NothingRefused);
-    } else if wanted.goes_on() {
-        sheet.unfit(Reason::OutputGoesOn);
+impl Watcher<MemorySink> for Emitter<'_> {
+    /// Emits a line, and lets the twin do it. With a line that is refused the program ends.
+    fn after(
+        &mut self,
+        number: u64,
+        line: &[u8],
+        session: &Session,
+        effect: Effect,
+        writer: &mut MemorySink,
+    ) {
+        if self.is_done() {
+            return;
+        }
+        self.sheet.line = number;
+        let all = writer.as_slice();
+        let (_, printed) = all.split_at(self.printed.min(all.len()));
+        self.emit_line(line, &session.table, effect, printed);
+        self.printed = all.len();
+        if effect.is_refused() {
+            self.is_over = true;
+        } else {
+            follow_on_twin(self, line);
+        }
     }
 }
 

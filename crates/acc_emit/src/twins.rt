@@ -5,10 +5,8 @@ use crate::faults::Reason;
 use crate::pointers::{POINTER_LEN, pointer_section};
 use acc_base::{Config, Directive, Fault, List, MEMORY_MAX, Section};
 use acc_read::{ScriptKernel, Statement};
-use acc_script::{MemorySink, Session, Unwatched, run_line};
+use acc_script::{InOnePart, MemorySink, Session, Unwatched, run_line};
 use std::alloc::Global;
-use std::sync::Wait;
-use std::thread::Threads;
 
 /// The device of a program: an OpenACC program finds as many as its machine has, and each machine has the first.
 pub const DEVICE: u64 = 0;
@@ -16,26 +14,18 @@ pub const DEVICE: u64 = 0;
 /// How many events the second table may have: it makes more of them than the first.
 const EVENTS: u64 = 16_777_216;
 
-/// Returns a session on a new table. It is boxed, so that its owner moves one pointer.
-///
-/// # Errors
-///
-/// [`Fault::Memory`] alone.
-pub fn boxed_session(alloc: Global, config: Config) -> Result<Box<Session>, Fault> {
-    Ok(Box::new(alloc, Session::new(alloc, config, 1)?)?)
-}
-
 /// Returns a twin of a session of these limits, with more room.
 ///
 /// On the twin the bytes of a new block that nothing fills are others, each with all bits flipped. A copy keeps that,
 /// and so does a kernel, whose new byte is another where the old one is. So a byte that is the same on both is one that
-/// was filled. (A `plus` has two old bytes: whoever emits it has to look at its source.)
+/// was filled. (A `plus` has two old bytes: whoever emits it has to look at its source.) The twin is boxed, so that its
+/// owner moves one pointer.
 ///
 /// # Errors
 ///
 /// [`Fault::Memory`] alone.
 pub fn twin_of(alloc: Global, config: Config) -> Result<Box<Session>, Fault> {
-    boxed_session(alloc, twin_config(config)?)
+    Ok(Box::new(alloc, Session::new(alloc, twin_config(config)?)?)?)
 }
 
 /// The limits of the twin. It has one region more, for fills, and room on its device for blocks that lie otherwise.
@@ -49,36 +39,40 @@ fn twin_config(config: Config) -> Result<Config, Fault> {
 }
 
 /// Opens a region without items on the twin before the first line, for the kernels that flip.
-pub fn open_twin<R: Threads + Wait + Sync + AllocGlobal>(rt: &R, emitter: &mut Emitter<'_>) {
+pub fn open_twin(emitter: &mut Emitter<'_>) {
     let device = DEVICE;
-    let items = List::from_vec(Vec::new(rt.alloc()));
+    let items = List::from_vec(Vec::new(emitter.alloc));
     let enter = Directive::Enter { device, items };
-    if let Err(fault) = emitter.twin.perform(rt, Statement::Direct(enter)) {
+    if let Err(fault) = emitter.twin.perform(&InOnePart, Statement::Direct(enter)) {
         emitter.sheet.fail_run(fault);
     }
 }
 
 /// Runs a line on the twin, and makes the blocks differ that nothing filled. A program cannot have one that the twin
 /// refuses.
-pub fn follow_on_twin<R: Threads + Wait + Sync + AllocGlobal>(
-    rt: &R,
-    emitter: &mut Emitter<'_>,
-    line: &[u8],
-) {
+pub fn follow_on_twin(emitter: &mut Emitter<'_>, line: &[u8]) {
     let Emitter {
+        alloc,
         twin,
         births,
         sheet,
         ..
     } = emitter;
-    let mut printed = MemorySink::new(rt.alloc());
-    match run_line(rt, sheet.line, twin, line, &mut printed, &mut Unwatched) {
+    let mut printed = MemorySink::new(*alloc);
+    match run_line(
+        &InOnePart,
+        sheet.line,
+        twin,
+        line,
+        &mut printed,
+        &mut Unwatched,
+    ) {
         Ok(false) => {}
         Ok(true) => sheet.unfit(Reason::Unsettled),
         Err(fault) => sheet.fail_run(fault),
     }
     for section in births.iter() {
-        if let Err(fault) = flip(rt, twin, *section) {
+        if let Err(fault) = flip(twin, *section) {
             sheet.fail_run(fault);
         }
     }
@@ -86,12 +80,8 @@ pub fn follow_on_twin<R: Threads + Wait + Sync + AllocGlobal>(
 }
 
 /// Flips all bits of a section's bytes on the device, but those of its attached pointers.
-fn flip<R: Threads + Wait + Sync + AllocGlobal>(
-    rt: &R,
-    twin: &mut Session,
-    section: Section,
-) -> Result<(), Fault> {
-    flip_all(rt, twin, section)?;
+fn flip(twin: &mut Session, section: Section) -> Result<(), Fault> {
+    flip_all(twin, section)?;
     let end = section.start.saturating_add(section.len);
     let mut start = section.start;
     for _ in 0..section.len / POINTER_LEN {
@@ -99,18 +89,14 @@ fn flip<R: Threads + Wait + Sync + AllocGlobal>(
         let Some(attached) = twin.table.next_attached(DEVICE, Section { start, len }) else {
             break;
         };
-        flip_all(rt, twin, pointer_section(attached.pointer))?;
+        flip_all(twin, pointer_section(attached.pointer))?;
         start = attached.pointer.saturating_add(POINTER_LEN);
     }
     Ok(())
 }
 
 /// Flips all bits of a section's bytes on the device.
-fn flip_all<R: Threads + Wait + Sync + AllocGlobal>(
-    rt: &R,
-    twin: &mut Session,
-    section: Section,
-) -> Result<(), Fault> {
+fn flip_all(twin: &mut Session, section: Section) -> Result<(), Fault> {
     let Some(region) = twin.innermost() else {
         return Ok(());
     };
@@ -120,6 +106,6 @@ fn flip_all<R: Threads + Wait + Sync + AllocGlobal>(
         kernel,
         section,
     };
-    twin.perform(rt, statement)?;
+    twin.perform(&InOnePart, statement)?;
     Ok(())
 }

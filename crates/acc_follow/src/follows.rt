@@ -1,6 +1,6 @@
 //! Runs a script, and shows more of it than what it prints, line by line.
 
-ghost use Rattle.std.specs.Prelude.{◌≤◌, []};
+ghost use Rattle.std.specs.Prelude.{[]};
 ghost use Rattle.acc_script.specs.Told.{Took};
 
 use crate::copiers::{Copier, Printed};
@@ -12,8 +12,11 @@ use acc_check::{Check, Line, Telling};
 use acc_explain::fault_column;
 use acc_log::Log;
 use acc_picture::Caption;
-use acc_read::{Names, Page, Statement};
-use acc_script::{Effect, Session, Sink, Source, Status, Watcher, run, write_all};
+use acc_read::{Names, Page, ScriptKernel, Statement};
+use acc_script::{
+    ByCall, Effect, KernelRunner, Lease, Session, Sink, Source, Status, Watcher, run,
+    run_in_threads, write_all,
+};
 use std::alloc::Global;
 use std::sync::Wait;
 use std::thread::Threads;
@@ -104,52 +107,57 @@ pub fn follow<R: Threads + Wait + Sync + AllocGlobal, S: Source, O: Sink, E: Sin
     reader: &mut S,
     out: &mut O,
     beside: Beside<'_, E, G>,
-) -> Result<Status, Stop>
-    requires { (1 ≤ setting.parts) × (setting.parts ≤ 64) }
-{
-    let (config, parts) = (setting.config, setting.parts);
+) -> Result<Status, Stop> {
+    let Setting { config, parts, .. } = setting;
+    let alloc = rt.alloc();
+    let kernels = ByCall(|kernel: ScriptKernel, lease: Lease, src: &[u8]| {
+        run_in_threads(rt, parts, kernel, lease, src)
+    });
     if !setting.views.show_any() {
         beside.lines.clear();
         let mut watcher = FaultWatcher {
-            alloc: rt.alloc(),
+            alloc,
             column: *beside.column,
         };
-        let ending = run(rt, reader, out, config, parts, &mut watcher);
+        let ending = run(alloc, &kernels, reader, out, config, &mut watcher);
         *beside.column = watcher.column;
         return Ok(ending?);
     }
-    let mut follower = Follower::new(rt.alloc(), setting.views, beside);
-    let mut lines = Vec::new(rt.alloc());
+    let mut follower = Follower::new(alloc, setting.views, beside);
+    let mut lines = Vec::new(alloc);
     let ending = if setting.views.echo || setting.views.json || setting.views.lines {
-        run_copied(rt, setting, reader, out, &mut lines, &mut follower)
+        run_copied(
+            alloc,
+            &kernels,
+            setting,
+            reader,
+            out,
+            &mut lines,
+            &mut follower,
+        )
     } else {
-        run(rt, reader, out, config, parts, &mut follower)
+        run(alloc, &kernels, reader, out, config, &mut follower)
     };
     *follower.lines = lines;
     follower.ended(out, ending)
 }
 
 /// Runs a script into memory, and copies what it prints.
-fn run_copied<R: Threads + Wait + Sync + AllocGlobal, S: Source, O: Sink, X: Watcher<O>>(
-    rt: &R,
+fn run_copied<K: KernelRunner, S: Source, O: Sink, X: Watcher<O>>(
+    alloc: Global,
+    kernels: &K,
     setting: Setting,
     reader: &mut S,
     out: &mut O,
     lines: &mut Vec<u64>,
     watcher: &mut X,
 ) -> Result<Status, Fault>
-    requires { (1 ≤ setting.parts) × (setting.parts ≤ 64) }
+    requires { K.able kernels.now }
 {
-    let mut printed = Printed::new(rt.alloc(), setting.views);
-    let mut copier = Copier::new(rt.alloc(), setting.views, out, watcher, lines);
-    let ending = run(
-        rt,
-        reader,
-        &mut printed,
-        setting.config,
-        setting.parts,
-        &mut copier,
-    );
+    let Setting { config, views, .. } = setting;
+    let mut printed = Printed::new(alloc, views);
+    let mut copier = Copier::new(alloc, views, out, watcher, lines);
+    let ending = run(alloc, kernels, reader, &mut printed, config, &mut copier);
     copier.ended(ending)
 }
 

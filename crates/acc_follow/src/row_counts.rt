@@ -3,33 +3,37 @@
 use acc_base::{Config, Fault};
 use acc_log::{Log, RowCounts};
 use acc_read::{Names, line_at, statement_text};
-use acc_script::{Effect, MemorySink, MemorySource, Session, Sink, Watcher, run};
+use acc_script::{Effect, InOnePart, MemorySink, Session, Sink, Watcher, run_text};
 use std::alloc::Global;
-use std::sync::Wait;
-use std::thread::Threads;
 
 /// Runs a script, drops what it prints, and returns the counts with the rows of the clause tables that it reached.
 ///
 /// # Errors
 ///
-/// Those of [`run`] for a script in memory, and [`Fault::Memory`] where there is none for the counts.
-pub fn count_rows<R: Threads + Wait + Sync + AllocGlobal>(
-    rt: &R,
+/// Those of [`run_text`], and [`Fault::Memory`] where there is none for the counts.
+pub fn count_rows(
+    alloc: Global,
     config: Config,
     script: &[u8],
     rows: RowCounts,
 ) -> Result<RowCounts, Fault> {
-    let mut log = Log::new(rt.alloc());
+    let mut log = Log::new(alloc);
     log.rows = Some(rows);
     let mut counter = RowCounter {
-        alloc: rt.alloc(),
-        names: Names::new(rt.alloc()),
+        alloc,
+        names: Names::new(alloc),
         log,
         wants: false,
     };
-    let mut printed = MemorySink::new(rt.alloc());
-    let mut source = MemorySource::new(script);
-    match run(rt, &mut source, &mut printed, config, 1, &mut counter) {
+    let mut printed = MemorySink::new(alloc);
+    match run_text(
+        alloc,
+        &InOnePart,
+        config,
+        script,
+        &mut printed,
+        &mut counter,
+    ) {
         // This sink fails for lack of memory alone.
         Err(Fault::Write) => Err(Fault::Memory),
         Err(fault) => Err(fault),

@@ -15,7 +15,6 @@ use Rattle.acc_base.specs.Devices.{view, open_regions}
 use Rattle.acc_base.specs.Judge.{Verdict, Makes, Idle}
 use Rattle.acc_base.specs.Ranges.{where_is}
 use Rattle.acc_base.specs.Pointers.{device_address_of}
-use Rattle.acc_lend.specs.Loans.{section, with_section}
 use Rattle.acc_table.specs.declared.calls.Reply.{Reply}
 use Rattle.acc_table.specs.declared.calls.Reply.TheVariants as replies
 use Rattle.acc_table.specs.Calls.{reply_in}
@@ -30,7 +29,7 @@ use Rattle.acc_read.specs.Layout.{ArrayLayout, no_arrays, with_array}
 use Rattle.acc_read.specs.declared.kernels.ScriptKernel.{ScriptKernel}
 use Rattle.acc_read.specs.Statements.{Meaning, Blank, Declare, Direct, Select, Kernel, Write, Show, Peek, Present, Address, Report, takes_memory, line_at}
 use Rattle.acc_script.specs.Texts.{refusal_text, report_text}
-use Rattle.acc_script.specs.Kernels.{source_of, image_of}
+use Rattle.acc_script.specs.Kernels.{source_of, kernel_run}
 use Rattle.acc_script.specs.Shown.{idle_text, read_text, presence_text, place_text}
 
 -- a table's world, the arrays of the script, and the number of the device that its lines are for
@@ -66,7 +65,7 @@ called s call (Err fault) = answered s (Refused fault)
 
 -- the call that brings a lease back, with the bytes of its section as a kernel leaves them
 abbrev pub back_from : ScriptKernel → List ℕ → Leased → Call Leased
-back_from kernel src lease = Gather (with_section lease (image_of kernel (section lease) src))
+back_from kernel src lease = Gather (kernel_run kernel lease src)
 
 -- a kernel, with the lease that the call for its loan replied, brings it back; its block stays lent where that is
 -- refused

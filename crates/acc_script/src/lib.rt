@@ -11,13 +11,15 @@ mod runs;
 mod sessions;
 mod watchers;
 
+pub use acc_lend::Lease;
 pub use ends::memory::{MemorySink, MemorySource};
 pub use ends::streams::{FromRead, ToWrite};
 pub use ends::whole::{read_all, write_all};
 pub use ends::{Sink, Source};
+pub use kernels::{ByCall, InOnePart, KernelRunner, run_in_threads};
 pub use print::effects::{Effect, write_effect};
 pub use print::lines::Line;
 pub use print::reports::report;
-pub use runs::{Status, run, run_line};
+pub use runs::{Status, run, run_line, run_text};
 pub use sessions::Session;
 pub use watchers::{Unwatched, Watcher};

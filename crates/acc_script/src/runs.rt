@@ -1,19 +1,19 @@
 //! Runs a script.
 
-ghost use Rattle.std.specs.Prelude.{◌≡◌, ◌≤◌, false};
+ghost use Rattle.std.specs.Prelude.{◌≡◌, false};
 ghost use Rattle.acc_read.specs.Lines.{lines_of};
 ghost use Rattle.acc_script.specs.Scripts.{transcript, transcript_from, status_of};
 ghost use Rattle.acc_script.specs.Runs.{LineRuns, LinesPlayed, Played, Ran};
 ghost use Rattle.acc_script.specs.Sessions.{session_state};
 
+use crate::kernels::KernelRunner;
 use crate::print::effects::write_effect;
 use crate::sessions::Session;
 use crate::watchers::Watcher;
 use crate::{Sink, Source, read_all};
 use acc_base::{Config, Fault, ScriptFault};
 use acc_read::{Trouble, line_at, next_line};
-use std::sync::Wait;
-use std::thread::Threads;
+use std::alloc::Global;
 
 /// How a script ended that ran to its last line.
 #[derive(Clone, Copy, Debug, PartialEq, Eq)]
@@ -26,9 +26,7 @@ pub enum Status {
 
 /// Reads a whole script, and then runs it line by line on a new table of these limits.
 ///
-/// The work of a kernel is cut into at most `parts` parts, from 1 to 64, which run at the same time. What is printed
-/// does not depend on it. Where a thread does not start, or there is no memory for the list of the parts, a kernel goes
-/// on with fewer.
+/// What is printed does not depend on what runs its kernels.
 ///
 /// The watcher sees each line. With any watcher, the run reads, writes and returns the same.
 ///
@@ -44,44 +42,50 @@ pub enum Status {
 /// - [`Fault::Memory`]. Nothing was written where there was none for the input or for the table. Else what the lines
 ///   before one print was written. There was no memory for that line, which is not at fault. It lists items,
 ///   declares an array, or makes a call that makes an event.
-pub fn run<R: Threads + Wait + Sync + AllocGlobal, S: Source, W: Sink, X: Watcher<W>>(
-    rt: &R,
+pub fn run<K: KernelRunner, S: Source, W: Sink, X: Watcher<W>>(
+    alloc: Global,
+    kernels: &K,
     reader: &mut S,
     writer: &mut W,
     config: Config,
-    parts: usize,
     watcher: &mut X,
 ) -> Result<Status, Fault>
-    requires some { 1 ≤ parts }
-    requires few { parts ≤ 64 }
+    requires { K.able kernels.now }
     ensures { Ran config (S.told reader.old) (S.told reader.new) (W.told writer.old) (W.told writer.new) result }
 {
-    let input = read_all(rt.alloc(), reader)?;
-    play(rt, config, parts, &input, writer, watcher)
+    let input = read_all(alloc, reader)?;
+    run_text(alloc, kernels, config, &input, writer, watcher)
 }
 
+/// Runs a script that is read already, whatever its length, as [`run`] runs what it has read.
+///
+/// # Errors
+///
+/// Those of [`run`], but for [`Fault::Read`].
 #[tactic(auto, unfolding(crate::specs::Scripts::transcript))]
-fn play<R: Threads + Wait + Sync + AllocGlobal, W: Sink, X: Watcher<W>>(
-    rt: &R,
+pub fn run_text<K: KernelRunner, W: Sink, X: Watcher<W>>(
+    alloc: Global,
+    kernels: &K,
     config: Config,
-    parts: usize,
     input: &[u8],
     writer: &mut W,
     watcher: &mut X,
 ) -> Result<Status, Fault>
+    requires { K.able kernels.now }
     ensures { Played (transcript config input.now) (W.told writer.old) (W.told writer.new) result }
 {
-    let mut session = Session::new(rt.alloc(), config, parts)?;
-    play_lines(rt, &mut session, input, writer, watcher)
+    let mut session = Session::new(alloc, config)?;
+    play_lines(kernels, &mut session, input, writer, watcher)
 }
 
-fn play_lines<R: Threads + Wait + Sync + AllocGlobal, W: Sink, X: Watcher<W>>(
-    rt: &R,
+fn play_lines<K: KernelRunner, W: Sink, X: Watcher<W>>(
+    kernels: &K,
     session: &mut Session,
     input: &[u8],
     writer: &mut W,
     watcher: &mut X,
 ) -> Result<Status, Fault>
+    requires { K.able kernels.now }
     ensures { LinesPlayed (transcript_from 1 (session_state session.old) false (lines_of input.now)) (W.told writer.old) (W.told writer.new) result }
 {
     let mut rest = input;
@@ -89,7 +93,7 @@ fn play_lines<R: Threads + Wait + Sync + AllocGlobal, W: Sink, X: Watcher<W>>(
     let mut refused = false;
     'lines: while !rest.is_empty() {
         let (line, after) = next_line(rest);
-        let is_refused = match run_line(rt, done + 1, session, line, writer, watcher) {
+        let is_refused = match run_line(kernels, done + 1, session, line, writer, watcher) {
             Ok(is_refused) => is_refused,
             Err(fault) => {
                 watcher.end(done + 1, line, session, Err(fault));
@@ -122,25 +126,26 @@ fn play_lines<R: Threads + Wait + Sync + AllocGlobal, W: Sink, X: Watcher<W>>(
 /// - [`Fault::Write`] where the writer fails. It took a front of what the line prints.
 /// - [`Fault::Memory`] as [`Session::perform`], or where a line lists items. Nothing was written.
 #[tactic(auto, unfolding(crate::specs::Scripts::line_turned))]
-pub fn run_line<R: Threads + Wait + Sync + AllocGlobal, W: Sink, X: Watcher<W>>(
-    rt: &R,
+pub fn run_line<K: KernelRunner, W: Sink, X: Watcher<W>>(
+    kernels: &K,
     number: u64,
     session: &mut Session,
     line: &[u8],
     writer: &mut W,
     watcher: &mut X,
 ) -> Result<bool, Fault>
+    requires { K.able kernels.now }
     ensures { LineRuns number (session_state session.old) line.now (W.told writer.old) (W.told writer.new) (session_state session.new) result }
 {
     let innermost = session.innermost();
     let device = session.device;
-    let statement = match line_at(rt.alloc(), &session.arrays, device, innermost, line) {
+    let statement = match line_at(session.alloc, &session.arrays, device, innermost, line) {
         Ok(statement) => statement,
         Err(Trouble::Memory) => return Err(Fault::Memory),
         Err(Trouble::Line(kind)) => return Err(Fault::Script { line: number, kind }),
     };
     watcher.before(number, line, &statement, session);
-    let effect = session.perform(rt, statement)?;
+    let effect = session.perform(kernels, statement)?;
     if !write_effect(writer, number, &session.table, effect) {
         return Err(Fault::Write);
     }

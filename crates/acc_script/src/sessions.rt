@@ -11,17 +11,15 @@ ghost use Rattle.acc_base.specs.Calls.{device_there};
 ghost use Rattle.acc_script.specs.Scripts.{new_session, back_from, shown, selected};
 ghost use Rattle.acc_table.specs.Queries.{host_read_of, newest_of};
 
-use crate::kernels::{run_kernel, source_of};
+use crate::kernels::{KernelRunner, source_of};
 use crate::print::effects::Effect;
 use acc_base::{Config, Fault, Section};
 use acc_lend::Lease;
 use acc_read::{Arrays, ScriptKernel, Statement};
 use acc_table::{Call, Reply, Table, abandon};
 use std::alloc::Global;
-use std::sync::Wait;
-use std::thread::Threads;
 
-/// A table, the arrays that the script has declared, which device its lines are for, and how kernels run.
+/// A table, the arrays that the script has declared, and which device its lines are for.
 #[derive(Drop)]
 pub struct Session {
     /// The table on which statements make calls.
@@ -30,25 +28,23 @@ pub struct Session {
     pub arrays: Arrays,
     /// The number of the current device.
     pub device: u64,
-    /// Into how many parts the work of a kernel is cut at most.
-    parts: usize,
+    pub(crate) alloc: Global,
 }
 
 impl Session {
-    /// Returns a session with a new table of these limits and no array. The first device is the current one. A kernel
-    /// is cut into at most `parts` parts, from 1 to 64.
+    /// Returns a session with a new table of these limits and no array. The first device is the current one.
     ///
     /// # Errors
     ///
     /// [`Fault::Memory`] alone.
-    pub fn new(alloc: Global, config: Config, parts: usize) -> Result<Session, Fault>
+    pub fn new(alloc: Global, config: Config) -> Result<Session, Fault>
         ensures { MatchResult result (λ session. session_state session ≡ new_session config) (λ fault. fault ≡ Memory) }
     {
         Ok(Session {
             table: Table::new(alloc, config)?,
             arrays: Arrays::new(alloc, config.host() as u32),
             device: 0,
-            parts,
+            alloc,
         })
     }
 
@@ -59,17 +55,18 @@ impl Session {
     /// [`Fault::Memory`] alone, for a statement that declares an array, or whose call makes an event. Nothing changed
     /// then, but a kernel's block stays lent where there is no memory to bring it back.
     #[inline(always)]
-    pub fn perform<R: Threads + Wait + Sync + AllocGlobal>(
+    pub fn perform<K: KernelRunner>(
         &mut self,
-        rt: &R,
+        kernels: &K,
         statement: Statement<'_>,
     ) -> Result<Effect, Fault>
+        requires { K.able kernels.now }
         ensures { Performs (session_state self.old) (meaning_of statement.entry) (session_state self.new) result }
     {
         match statement {
             Statement::Blank => Ok(Effect::Nothing),
             Statement::Declare { name, array } => {
-                self.arrays.insert(rt.alloc(), name, array)?;
+                self.arrays.insert(self.alloc, name, array)?;
                 Ok(Effect::Nothing)
             }
             Statement::Direct(directive) => self.call(Call::Do(directive)),
@@ -78,7 +75,7 @@ impl Session {
                 region,
                 kernel,
                 section,
-            } => self.launch(rt, region, kernel, section),
+            } => self.launch(kernels, region, kernel, section),
             Statement::Write { addr, bytes } => {
                 let mut room = [0u8; 64];
                 let copy = &mut room[..bytes.len()];
@@ -146,20 +143,21 @@ impl Session {
     /// Runs a kernel over a section of host memory that is lent to it in an open region (OpenACC 3.3, section 2.5,
     /// compute constructs). The bytes of its source have to be in host memory.
     #[tactic(auto, using(crate::proofs::Launched::launch_refused, crate::proofs::Launched::launch_done))]
-    fn launch<R: Threads + Wait + Sync + AllocGlobal>(
+    fn launch<K: KernelRunner>(
         &mut self,
-        rt: &R,
+        kernels: &K,
         region: u64,
         kernel: ScriptKernel,
         section: Section,
     ) -> Result<Effect, Fault>
+        requires { K.able kernels.now }
         ensures { Performs (session_state self.old) (Kernel region kernel section) (session_state self.new) result }
     {
         if self.table.host_read(source_of(kernel)).is_none() {
             return Ok(Effect::Refused(Fault::OutOfHost { item: 1 }));
         }
         match self.table.apply(Call::Lend { region, section }) {
-            Ok(Reply::Lease(lease)) => self.work(rt, kernel, lease),
+            Ok(Reply::Lease(lease)) => self.work(kernels, kernel, lease),
             Ok(reply) => {
                 reply.abandon();
                 Ok(Effect::Nothing)
@@ -169,17 +167,18 @@ impl Session {
     }
 
     /// Drops the lease, so that its block stays lent, where bringing it back is refused or there is no memory for that.
-    fn work<R: Threads + Wait + Sync + AllocGlobal>(
+    fn work<K: KernelRunner>(
         &mut self,
-        rt: &R,
+        kernels: &K,
         kernel: ScriptKernel,
-        mut lease: Lease,
+        lease: Lease,
     ) -> Result<Effect, Fault>
+        requires { K.able kernels.now }
         ensures { IfSome (host_read_of (source_of kernel) (session_state self.old).world.state.host)
             (λ src. CallsFor (session_state self.old) (back_from kernel src lease) (session_state self.new) result) }
     {
         let src = self.table.host_read(source_of(kernel)).unwrap_or(&[]);
-        run_kernel(rt, self.parts, kernel, &mut lease, src);
+        let lease = kernels.run(kernel, lease, src);
         self.call(Call::Gather(lease))
     }
 

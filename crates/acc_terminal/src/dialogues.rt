@@ -1,7 +1,5 @@
 //! Runs a script line by line.
 
-ghost use Rattle.std.specs.Prelude.{◌≤◌};
-
 use crate::answers::{end_answer, run_shown};
 use crate::fault_lines::tell_fault;
 use crate::histories::{Entry, History, Mark};
@@ -9,10 +7,12 @@ use crate::line_readers::LineReader;
 use crate::manners::{Keeper, Manner};
 use crate::options::statements;
 use crate::prompt_words::Word;
-use acc_base::{Fault, ScriptFault};
+use acc_base::{Config, Fault, ScriptFault};
 use acc_follow::{Beside, Follower, RanLine, Setting, Stop, follow};
 use acc_read::Page;
-use acc_script::{MemorySink, Session, Sink, Source, Status, Watcher, run_line, write_all};
+use acc_script::{
+    InOnePart, MemorySink, Session, Sink, Source, Status, Watcher, run_line, write_all,
+};
 use std::alloc::Global;
 use std::fmt::Write;
 use std::sync::Wait;
@@ -32,13 +32,11 @@ pub fn run_script<R: Threads + Wait + Sync + AllocGlobal, S: Source, O: Sink, E:
     reader: &mut S,
     out: &mut O,
     beside: Beside<'_, E, G>,
-) -> Result<Option<Status>, Stop>
-    requires { (1 ≤ setting.parts) × (setting.parts ≤ 64) }
-{
+) -> Result<Option<Status>, Stop> {
     if !manner.is_live() && !manner.goes_on {
         return Ok(Some(follow(rt, setting, reader, out, beside)?));
     }
-    let session = Session::new(rt.alloc(), setting.config, setting.parts)?;
+    let session = Session::new(rt.alloc(), setting.config)?;
     run_by_line(rt, setting, manner, reader, out, beside, session)
 }
 
@@ -125,7 +123,7 @@ impl Dialogue {
             None
         };
         let ending = match word {
-            Some(word) => self.obey(rt, follower, word),
+            Some(word) => self.obey(follower, word),
             None => self.run_next(rt, out, follower, line),
         };
         if let Err(fault) = ending {
@@ -189,7 +187,7 @@ impl Dialogue {
     ) -> Result<bool, Fault> {
         run_shown(
             rt,
-            self.setting.views,
+            self.setting,
             self.done,
             &mut self.session,
             line,
@@ -223,14 +221,13 @@ impl Dialogue {
         Ok(())
     }
 
-    fn obey<R: Threads + Wait + Sync + AllocGlobal, E: Sink, G: Keeper>(
+    fn obey<E: Sink, G: Keeper>(
         &mut self,
-        rt: &R,
         follower: &mut Follower<'_, E, G>,
         word: Word<'_>,
     ) -> Result<(), Fault> {
         match word {
-            Word::Undo => self.undo(rt, follower),
+            Word::Undo => self.undo(follower),
             Word::Save(name) => self.save(follower, name),
             Word::History => {
                 say(follower.err, self.history.listing().whole()?);
@@ -245,11 +242,7 @@ impl Dialogue {
 
     /// Goes back to what there was before the last line that changed something. Where there is no memory for that, the
     /// session stays, and nothing more is shown of it.
-    fn undo<R: Threads + Wait + Sync + AllocGlobal, E: Sink, G: Keeper>(
-        &mut self,
-        rt: &R,
-        follower: &mut Follower<'_, E, G>,
-    ) -> Result<(), Fault> {
+    fn undo<E: Sink, G: Keeper>(&mut self, follower: &mut Follower<'_, E, G>) -> Result<(), Fault> {
         let mut page = Page::new(self.alloc);
         match self.history.split() {
             None => page.text("accrun: there is nothing to undo\n"),
@@ -259,7 +252,7 @@ impl Dialogue {
                 page.text("\n");
                 page.whole()?;
                 let count = before.len();
-                self.session = replayed(rt, self.setting, before, follower)?;
+                self.session = replayed(self.alloc, self.setting.config, before, follower)?;
                 self.history.leave(count);
             }
         }
@@ -343,42 +336,42 @@ fn flush<O: Sink>(out: &mut O) -> Result<(), Fault> {
 }
 
 /// A new session behind these lines, of which nothing is shown again.
-fn replayed<R: Threads + Wait + Sync + AllocGlobal, E: Sink, G: Keeper>(
-    rt: &R,
-    setting: Setting,
+fn replayed<E: Sink, G: Keeper>(
+    alloc: Global,
+    config: Config,
     entries: &[Entry],
     follower: &mut Follower<'_, E, G>,
 ) -> Result<Session, Fault> {
-    let mut session = Session::new(rt.alloc(), setting.config, setting.parts)?;
+    let mut session = Session::new(alloc, config)?;
     follower.forget();
     follower.is_silent = true;
-    let ran = run_all_again(rt, &mut session, entries, follower);
+    let ran = run_all_again(alloc, &mut session, entries, follower);
     follower.is_silent = false;
     ran?;
     Ok(session)
 }
 
-fn run_all_again<R: Threads + Wait + Sync + AllocGlobal, E: Sink, G: Keeper>(
-    rt: &R,
+fn run_all_again<E: Sink, G: Keeper>(
+    alloc: Global,
     session: &mut Session,
     entries: &[Entry],
     follower: &mut Follower<'_, E, G>,
 ) -> Result<(), Fault> {
     for entry in entries {
-        run_again(rt, session, entry, follower)?;
+        run_again(alloc, session, entry, follower)?;
     }
     Ok(())
 }
 
-fn run_again<R: Threads + Wait + Sync + AllocGlobal, E: Sink, G: Keeper>(
-    rt: &R,
+fn run_again<E: Sink, G: Keeper>(
+    alloc: Global,
     session: &mut Session,
     entry: &Entry,
     follower: &mut Follower<'_, E, G>,
 ) -> Result<bool, Fault> {
-    let mut printed = MemorySink::new(rt.alloc());
+    let mut printed = MemorySink::new(alloc);
     run_line(
-        rt,
+        &InOnePart,
         entry.number,
         session,
         &entry.text,

@@ -3,11 +3,9 @@
 use crate::random_statements::Statements;
 use acc_base::{Config, Fault};
 use acc_read::Page;
-use acc_script::{Session, ToWrite, Unwatched, run_line};
+use acc_script::{InOnePart, Session, ToWrite, Unwatched, run_line};
 use std::alloc::Global;
 use std::io;
-use std::sync::Wait;
-use std::thread::Threads;
 
 /// How many arrays are declared first.
 const ARRAYS: u64 = 5;
@@ -24,20 +22,15 @@ const TRIES: u64 = 16;
 /// # Errors
 ///
 /// [`Fault::Memory`] alone.
-pub fn random_script<R: Threads + Wait + Sync + AllocGlobal>(
-    rt: &R,
-    config: Config,
-    seed: u64,
-    lines: u64,
-) -> Result<Page, Fault> {
-    let mut script = Page::new(rt.alloc());
-    put_script(rt, &mut script, config, seed, lines)?;
+pub fn random_script(alloc: Global, config: Config, seed: u64, lines: u64) -> Result<Page, Fault> {
+    let mut script = Page::new(alloc);
+    put_script(alloc, &mut script, config, seed, lines)?;
     Ok(script)
 }
 
 /// Puts the script. Its session is boxed, since a function that owns an unboxed one takes long to check.
-fn put_script<R: Threads + Wait + Sync + AllocGlobal>(
-    rt: &R,
+fn put_script(
+    alloc: Global,
     script: &mut Page,
     config: Config,
     seed: u64,
@@ -45,14 +38,14 @@ fn put_script<R: Threads + Wait + Sync + AllocGlobal>(
 ) -> Result<(), Fault> {
     let mut draft = ScriptDraft {
         script,
-        statements: Statements::new(rt.alloc(), seed, config.devices()),
-        session: boxed_session(rt.alloc(), config)?,
+        statements: Statements::new(alloc, seed, config.devices()),
+        session: boxed_session(alloc, config)?,
     };
-    draft.put_all(rt, lines)
+    draft.put_all(lines)
 }
 
 fn boxed_session(alloc: Global, config: Config) -> Result<Box<Session>, Fault> {
-    Ok(Box::new(alloc, Session::new(alloc, config, 1)?)?)
+    Ok(Box::new(alloc, Session::new(alloc, config)?)?)
 }
 
 /// A script so far, and the session in which it ran.
@@ -64,70 +57,58 @@ struct ScriptDraft<'a> {
 }
 
 impl ScriptDraft<'_> {
-    fn put_all<R: Threads + Wait + Sync + AllocGlobal>(
-        &mut self,
-        rt: &R,
-        lines: u64,
-    ) -> Result<(), Fault> {
+    fn put_all(&mut self, lines: u64) -> Result<(), Fault> {
         for nth in 0..ARRAYS {
             self.statements.put_array(nth);
-            self.keep(rt)?;
+            self.keep()?;
         }
-        self.add_statements(rt, lines)?;
-        self.finish(rt)
+        self.add_statements(lines)?;
+        self.finish()
     }
 
-    fn add_statements<R: Threads + Wait + Sync + AllocGlobal>(
-        &mut self,
-        rt: &R,
-        lines: u64,
-    ) -> Result<(), Fault> {
+    fn add_statements(&mut self, lines: u64) -> Result<(), Fault> {
         let mut left = lines;
         for _ in 0..lines.saturating_mul(TRIES) {
             if left == 0 {
                 return Ok(());
             }
             self.statements.put_any();
-            if self.keep(rt)? {
+            if self.keep()? {
                 left -= 1;
             }
         }
         Ok(())
     }
 
-    fn finish<R: Threads + Wait + Sync + AllocGlobal>(&mut self, rt: &R) -> Result<(), Fault> {
+    fn finish(&mut self) -> Result<(), Fault> {
         for _ in 0..self.session.table.regions() {
-            self.add(rt, "end data")?;
+            self.add("end data")?;
         }
         let devices = self.session.table.config().devices();
         for device in 0..devices {
             if devices > 1 {
                 self.statements.put_device(device);
-                self.keep(rt)?;
+                self.keep()?;
             }
-            self.add(rt, "wait")?;
+            self.add("wait")?;
         }
         for nth in 0..ARRAYS {
             self.statements.put_show(nth);
-            self.keep(rt)?;
+            self.keep()?;
         }
-        self.add(rt, "report")
+        self.add("report")
     }
 
-    fn add<R: Threads + Wait + Sync + AllocGlobal>(
-        &mut self,
-        rt: &R,
-        text: &str,
-    ) -> Result<(), Fault> {
+    fn add(&mut self, text: &str) -> Result<(), Fault> {
         self.statements.page.text(text);
-        self.keep(rt)?;
+        self.keep()?;
         Ok(())
     }
 
     /// Runs the statement that was written last, and adds it to the script, if it is neither at fault nor refused.
-    fn keep<R: Threads + Wait + Sync + AllocGlobal>(&mut self, rt: &R) -> Result<bool, Fault> {
+    fn keep(&mut self) -> Result<bool, Fault> {
         let line = self.statements.page.whole()?;
-        let is_right = runs(rt, &mut self.session, line)?;
+        let is_right = runs(&mut self.session, line)?;
         if is_right {
             self.script.bytes(line);
             self.script.text("\n");
@@ -138,13 +119,9 @@ impl ScriptDraft<'_> {
 }
 
 /// Runs a line, and returns whether it is neither at fault nor refused. Then alone it changes something.
-fn runs<R: Threads + Wait + Sync + AllocGlobal>(
-    rt: &R,
-    session: &mut Session,
-    line: &[u8],
-) -> Result<bool, Fault> {
+fn runs(session: &mut Session, line: &[u8]) -> Result<bool, Fault> {
     let mut out = ToWrite::new(io::sink());
-    match run_line(rt, 1, session, line, &mut out, &mut Unwatched) {
+    match run_line(&InOnePart, 1, session, line, &mut out, &mut Unwatched) {
         Ok(is_refused) => Ok(!is_refused),
         Err(Fault::Script { .. }) => Ok(false),
         Err(fault) => Err(fault),

@@ -2,11 +2,9 @@
 
 use super::same;
 use acc_base::{Config, Fault, ScriptFault};
-use acc_script::{MemorySink, MemorySource, Status, Unwatched, run};
+use acc_script::{InOnePart, MemorySink, MemorySource, Status, Unwatched, run};
 use std::process::Abort;
-use std::sync::Wait;
 use std::test::Fail;
-use std::thread::Threads;
 
 /// The limits of tickets, counters and trace, a script, what it prints, and how it ends.
 type Row = ([u64; 3], &'static str, &'static str, Result<Status, Fault>);
@@ -48,14 +46,21 @@ const ROWS: [Row; 3] = [
 ];
 
 /// Runs a script on a table with these limits, and compares what it prints and how it ends.
-fn check_run<R: Abort + Threads + Wait + Sync + AllocGlobal>(
+fn check_run<R: Abort + AllocGlobal>(
     rt: &R,
     ([tickets, counters, trace], script, printed, end): Row,
 ) -> Result<(), Fault> {
     let config = Config::new(64, 64, 1, tickets, counters, 1, trace)?;
     let mut reader = MemorySource::new(script.as_bytes());
     let mut writer = MemorySink::new(rt.alloc());
-    let found = run(rt, &mut reader, &mut writer, config, 1, &mut Unwatched);
+    let found = run(
+        rt.alloc(),
+        &InOnePart,
+        &mut reader,
+        &mut writer,
+        config,
+        &mut Unwatched,
+    );
     same(rt, writer.as_slice(), printed.as_bytes(), script);
     same(rt, found, end, script);
     Ok(())

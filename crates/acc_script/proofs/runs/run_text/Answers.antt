@@ -6,7 +6,7 @@ use Rattle.acc_script.specs.declared.runs.Status.{Status}
 use Rattle.acc_script.specs.Told.{Taken}
 use Rattle.acc_script.specs.Scripts.{SessionState, Transcript, transcript, transcript_from}
 use Rattle.acc_script.specs.Runs.{LinesPlayed, Played}
-use Rattle.acc_script.proofs.runs.play.Goals as goal
+use Rattle.acc_script.proofs.runs.run_text.Goals as goal
 
 -- lines that were played were played as a whole
 played : (t : Transcript) (old new : Option Taken) (r : Result Status Fault) → LinesPlayed t old new r → Played t old new r

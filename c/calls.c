@@ -210,9 +210,58 @@ uint32_t lw_step(lw_table *table, uint64_t device, uint64_t queue, uint64_t *mad
     return lamwiest_step(table, device, queue, made, PLACE(fault));
 }
 
+/* ---- Directives and writes by their events ---- */
+
 uint32_t lw_judge(lw_table *table, const lw_stored_event *asked, const lw_item *items, size_t count, lw_fault *fault)
 {
     return lamwiest_judge(table, asked, items, count, PLACE(fault));
+}
+
+uint32_t lw_do(lw_table *table, const lw_stored_event *asked, const lw_item *items, size_t count, uint64_t *number,
+               lw_fault *fault)
+{
+    return lamwiest_do(table, asked, items, count, number, PLACE(fault));
+}
+
+/* How many items the array has for an event. The count of an exit is its entry's, and that of a wait counts copies. */
+static size_t items_for(const lw_stored_event *asked)
+{
+    switch (asked->kind) {
+    case LW_ENTERED:
+    case LW_ENTERED_DATA:
+    case LW_EXITED_DATA:
+    case LW_UPDATED:
+        return asked->count;
+    default:
+        return 0;
+    }
+}
+
+/* An array that is NULL is not moved on, not even by 0. */
+uint32_t lw_run(lw_table *table, const lw_stored_event *asked, size_t count, const lw_item *items, const void *bytes,
+                uint64_t *done, lw_fault *fault)
+{
+    lw_fault *told = PLACE(fault);
+    const uint8_t *written = bytes;
+
+    *told = (lw_fault){.status = LW_DONE};
+    for (*done = 0; *done < count; ++*done, asked++) {
+        const size_t named = items_for(asked);
+        const size_t len = asked->kind == LW_WRITTEN ? asked->len : 0;
+        uint64_t number;
+
+        if (asked->kind == LW_WRITTEN) {
+            lamwiest_host_write(table, asked->start, written, len, told);
+        } else {
+            lamwiest_do(table, asked, items, named, &number, told);
+        }
+        if (told->status != LW_DONE) {
+            break;
+        }
+        items = named != 0 ? items + named : items;
+        written = len != 0 ? written + len : written;
+    }
+    return told->status;
 }
 
 /* ---- Bytes ---- */

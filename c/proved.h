@@ -40,6 +40,8 @@ uint32_t lamwiest_step(lw_table *table, uint64_t device, uint64_t queue, uint64_
 
 uint32_t lamwiest_judge(lw_table *table, const lw_stored_event *asked, const lw_item *items, size_t count,
                         lw_fault *fault);
+uint32_t lamwiest_do(lw_table *table, const lw_stored_event *asked, const lw_item *items, size_t count,
+                     uint64_t *number, lw_fault *fault);
 
 uint32_t lamwiest_host_write(lw_table *table, uint64_t start, const uint8_t *bytes, size_t len, lw_fault *fault);
 uint32_t lamwiest_host_read(lw_table *table, uint64_t start, uint8_t *bytes, size_t len, lw_fault *fault);

@@ -34,17 +34,18 @@ extern "C" {
 
 /* ---- Versions ---- */
 
-/* The version of this header, 0.2.2: a million times the first number, a thousand times the second, and the third. A
+/* The version of this header, 0.2.3: a million times the first number, a thousand times the second, and the third. A
    library with the same first two numbers, and this third one or a greater one, takes programs that were compiled with
    this header. One with a lesser third takes those that make no call which came since. */
-#define LW_VERSION 2002
+#define LW_VERSION 2003
 
 /* The version of the library that the program is linked with. */
 uint32_t lw_version(void);
 
 /* ---- Statuses ---- */
 
-/* What a call answers: LW_DONE, or why it was refused. A refused call fills in its fault, and changes nothing else. */
+/* What a call answers: LW_DONE, or why it was refused. A refused call fills in its fault, and changes nothing else.
+   lw_run alone keeps what it did before. */
 enum {
     LW_DONE = 0,           /* it is done */
     LW_MEMORY = 1,         /* no memory could be had. For one more lease, or for a list of more than one item, it is
@@ -515,7 +516,7 @@ uint32_t lw_event_item(lw_table *table, uint64_t place, uint64_t item, lw_item *
    is no such event; then LW_BAD_LENGTH where len is not how many they are. */
 uint32_t lw_event_bytes(lw_table *table, uint64_t place, void *bytes, size_t len, lw_fault *fault);
 
-/* ---- Dry runs ---- */
+/* ---- Directives and writes by their events ---- */
 
 /* Judges a directive, and does not carry it out: the status and the fault are those of its call, were that made now.
    Only a list of more than one item takes memory here, so LW_MEMORY of a table is not foretold. It is no event.
@@ -525,6 +526,23 @@ uint32_t lw_event_bytes(lw_table *table, uint64_t place, void *bytes, size_t len
    option. The queue is LW_NO_QUEUE_GIVEN for LW_ASYNC_SYNC, and 0 for LW_ASYNC_NOVAL. items: those of its call; of
    LW_EXITED, LW_WAITED and LW_STEPPED they are not read. */
 uint32_t lw_judge(lw_table *table, const lw_stored_event *asked, const lw_item *items, size_t count, lw_fault *fault);
+
+/* Carries out a directive, as its call does. asked and items: as of lw_judge. number: of LW_ENTERED the number of the
+   region; of LW_WAITED and LW_STEPPED how many copies were made; of the others 1. */
+uint32_t lw_do(lw_table *table, const lw_stored_event *asked, const lw_item *items, size_t count, uint64_t *number,
+               lw_fault *fault);
+
+/* Makes what events tell, one after the other, and stops at the first that is refused. The status and the fault are
+   that one's; LW_DONE where all are made. done: how many were made, in any case. These stay.
+
+   So what lw_event tells of one table is run on another one. Regions get the numbers of this table. They are the same
+   where the events of a new table are run on a new table.
+
+   asked: directives, as of lw_do, and writes. Of LW_WRITTEN the start and the length are read. Another kind is
+   LW_ABSENT. items: those of all directives, one after the other. count tells how many LW_ENTERED, LW_ENTERED_DATA,
+   LW_EXITED_DATA and LW_UPDATED have; others have none there. bytes: those of all writes, one after the other. */
+uint32_t lw_run(lw_table *table, const lw_stored_event *asked, size_t count, const lw_item *items, const void *bytes,
+                uint64_t *done, lw_fault *fault);
 
 /* ---- The report ---- */
 

@@ -990,6 +990,33 @@ static const row COUNTED[] = {
     {"an array at the same place", array, .len = 8, ANSWERS(A)},
 };
 
+/* Directives of each kind and writes, on two devices. Each is an event. */
+static const row RECORDED[] = {
+    {"host write", host_write, .at = A, .len = 16, .bytes = 0x0102030405060708, DONE},
+    {"host write of a pointer to A", host_write, .at = C, .len = 8, .bytes = 0x0010000000000000, DONE},
+    {"data", enter, {{LW_COPY, A, 16, 0}, {LW_COPY, C, 16, 0}}, 2, .device = 1, ANSWERS(1)},
+    {"data of A and its pointer", enter, {{LW_PRESENT, A, 16, C}}, 1, .device = 1, ANSWERS(2)},
+    {"enter data", enter_data, {{LW_COPYIN, A, 16, 0}, {LW_CREATE_ZERO, B, 16, 0}}, 2, .async = 3, DONE},
+    {"step", step, .at = 3, ANSWERS(1)},
+    {"host write over a part of A", host_write, .at = A + 4, .len = 8, .bytes = 0x1112131415161718, DONE},
+    {"update async without a number", update, {{LW_DEVICE, A, 8, 0}}, 1, .async = NOVAL, DONE},
+    {"update if_present", update, {{LW_SELF, C, 8, 0}}, 1, .async = SYNC, .option = 1, DONE},
+    {"wait for all queues", wait_for, .at = NO_QUEUE, ANSWERS(1)},
+    {"exit data", exit_data, {{LW_COPYOUT, B, 16, 0}}, 1, .async = SYNC, DONE},
+    {"exit data finalize", exit_data, {{LW_COPYOUT, A, 16, 0}}, 1, .async = 5, .option = 1, DONE},
+    {"end of the inner data", leave, .at = 2, DONE},
+    {"wait", wait_for, .at = 5, ANSWERS(1)},
+    {"data that stays open", enter, {{LW_CREATE, A, 16, 0}}, 1, ANSWERS(3)},
+    {"attach", enter_data, {{LW_ATTACH, C, 0, 0}}, 1, .device = 1, .async = SYNC, DONE},
+    {"an update that waits", update, {{LW_SELF, A, 8, 0}}, 1, .device = 1, .async = 7, DONE},
+
+    {"all are events", events, ANSWERS(17)},
+    {"the host has what the first device had", host_read, .at = A, .len = 8, ANSWERS(0x0102030411121314)},
+    {"also behind the update", host_read, .at = A + 8, .len = 8, ANSWERS(0)},
+};
+
+enum { RECORDED_EVENTS = 17 };
+
 /* ---- The driver ---- */
 
 typedef struct scene {
@@ -1012,6 +1039,7 @@ static const scene SCENES[] = {
     {"several devices", LIMITS(HOST_SIZE, 64, 2, 1000, 2, 1, 1000, 0, 4), ROWS(DEVICES)},
     {"a full trace", LIMITS(HOST_SIZE, 64, 2, 1000, 2, 4, 1000, 1, 2), ROWS(TRACE)},
     {"a counted trace", LIMITS(HOST_SIZE, 64, 2, 1000, 2, 1, 1000, 0, 1), ROWS(COUNTED)},
+    {"recorded", LIMITS(HOST_SIZE, 64, 2, 1000, 2, 1, 1000, 1, 2), ROWS(RECORDED)},
     {"several devices, full traces", LIMITS(HOST_SIZE, 64, 2, 1000, 2, 1, 1000, 1, 4), ROWS(DEVICES)},
 };
 
@@ -1036,39 +1064,6 @@ static void report_of(lw_table *table, char *text)
     check(text[len] == '\0' && strlen(text) == len, "report", "it does not end with a zero");
 }
 
-/* What a call answered. */
-typedef struct answer {
-    uint32_t status;
-    lw_fault fault;
-    uint64_t number;
-    bool is_short; /* a growth of memory was refused */
-} answer;
-
-/* Makes the call of a row while the growth of a number is refused. */
-static answer answer_of(lw_table *table, const row *row, size_t growth)
-{
-    answer answer = {.fault = {99, 99, 99}, .number = UNTOUCHED};
-
-    refuse_growth(growth);
-    answer.status = row->make(table, row, &answer.number, &answer.fault);
-    answer.is_short = was_growth_refused();
-    refuse_growth(0);
-    return answer;
-}
-
-static bool is_memory(const answer *answer)
-{
-    return answer->is_short && answer->status == LW_MEMORY && answer->fault.status == LW_MEMORY &&
-           answer->fault.item == 0 && answer->fault.value == 0 && answer->number == UNTOUCHED;
-}
-
-/* The answer is the one that the row tells. */
-static bool is_told(const answer *answer, const row *row)
-{
-    return answer->status == row->status && answer->fault.status == row->status && answer->fault.item == row->item &&
-           answer->fault.value == row->value && answer->number == row->number;
-}
-
 /* The directive of a row as an event names it. The kind is none of a directive's where the row makes another call. */
 static lw_stored_event directive_of(const row *row)
 {
@@ -1089,6 +1084,58 @@ static lw_stored_event directive_of(const row *row)
         }
     }
     return asked;
+}
+
+/* Whether directives are made by lw_do, and not by their own calls. */
+static bool is_by_event;
+
+/* Makes the call of a row, or has lw_do make it. That answers 1 where the call answers no number. */
+static uint32_t call(lw_table *table, const row *row, uint64_t *number, lw_fault *fault)
+{
+    const lw_stored_event asked = directive_of(row);
+    const bool is_numbered = row->make == enter || row->make == wait_for || row->make == step;
+    uint64_t told = UNTOUCHED;
+    uint32_t status;
+
+    if (!is_by_event || asked.kind == LW_WRITTEN) {
+        return row->make(table, row, number, fault);
+    }
+    status = lw_do(table, &asked, items_of(row), row->count, is_numbered ? number : &told, fault);
+    check(is_numbered || told == (status == LW_DONE ? 1 : UNTOUCHED), "by its event", row->says);
+    return status;
+}
+
+/* What a call answered. */
+typedef struct answer {
+    uint32_t status;
+    lw_fault fault;
+    uint64_t number;
+    bool is_short; /* a growth of memory was refused */
+} answer;
+
+/* Makes the call of a row while the growth of a number is refused. */
+static answer answer_of(lw_table *table, const row *row, size_t growth)
+{
+    answer answer = {.fault = {99, 99, 99}, .number = UNTOUCHED};
+
+    refuse_growth(growth);
+    answer.status = call(table, row, &answer.number, &answer.fault);
+    answer.is_short = was_growth_refused();
+    refuse_growth(0);
+    return answer;
+}
+
+static bool is_memory(const answer *answer)
+{
+    return answer->is_short && answer->status == LW_MEMORY && answer->fault.status == LW_MEMORY &&
+           answer->fault.item == 0 && answer->fault.value == 0 && answer->number == UNTOUCHED;
+}
+
+/* The answer is the one that the row tells. */
+static bool is_told(const answer *answer, const row *row)
+{
+    return answer->status == row->status && answer->fault.status == row->status && answer->fault.item == row->item &&
+           answer->fault.value == row->value && answer->number == row->number;
 }
 
 /* Judges the directive of a row with each growth refused in turn. It is told what the row tells, and nothing changes;
@@ -1146,7 +1193,7 @@ static void make_ended(lw_table *table, const row *row)
     const lw_stored_event asked = directive_of(row);
     uint64_t number = UNTOUCHED;
     lw_fault fault = {99, 99, 99};
-    uint32_t status = row->make(table, row, &number, &fault);
+    uint32_t status = call(table, row, &number, &fault);
 
     check(status == LW_ENDED && fault.status == LW_ENDED && fault.item == 0 && fault.value == 0 && number == UNTOUCHED,
           "without a table", row->says);
@@ -1195,6 +1242,140 @@ static void play(const scene *scene)
         make_ended(&table, &scene->rows[i]);
     }
     lw_table_end(&table);
+}
+
+/* ---- Events that are run ---- */
+
+/* The trace of a table as lw_run takes it, and how many items and bytes stand before each event. */
+typedef struct recording {
+    lw_stored_event events[RECORDED_EVENTS + 1];
+    lw_item items[ITEMS];
+    uint8_t bytes[ITEMS];
+    size_t items_before[RECORDED_EVENTS + 1];
+    size_t bytes_before[RECORDED_EVENTS + 1];
+} recording;
+
+/* Makes the rows, and reads their trace. The table ends, and what it had is told. */
+static void record(const scene *scene, recording *recording, char *report, uint8_t *host)
+{
+    lw_table table = LW_NO_TABLE;
+    size_t items = 0, bytes = 0, n = 0;
+    uint64_t number = UNTOUCHED;
+    lw_fault fault;
+
+    lw_table_new(&table, &scene->limits, &fault);
+    for (size_t i = 0; i < scene->count; i++) {
+        scene->rows[i].make(&table, &scene->rows[i], &number, &fault);
+    }
+    for (; n < RECORDED_EVENTS && lw_event(&table, n, &recording->events[n]) == LW_DONE; n++) {
+        for (uint64_t i = 0; lw_event_item(&table, n, i, &recording->items[items]) == LW_DONE; i++) {
+            items++;
+        }
+        lw_event_bytes(&table, n, recording->bytes + bytes, recording->events[n].stored, &fault);
+        bytes += recording->events[n].stored;
+        recording->items_before[n + 1] = items;
+        recording->bytes_before[n + 1] = bytes;
+    }
+    check(n == RECORDED_EVENTS && lw_event(&table, n, &recording->events[n]) == LW_ABSENT, "run",
+          "the trace has another length");
+    report_of(&table, report);
+    check(lw_host_read(&table, LW_HOST_BASE, host, HOST_SIZE, &fault) == LW_DONE, "run", "host memory");
+    lw_table_end(&table);
+}
+
+/* Runs what is recorded from an event on. */
+static uint32_t run_from(lw_table *table, const recording *recording, uint64_t from, uint64_t *done, lw_fault *fault)
+{
+    const lw_item *items = recording->items + recording->items_before[from];
+    const uint8_t *bytes = recording->bytes + recording->bytes_before[from];
+
+    return lw_run(table, recording->events + from, RECORDED_EVENTS - from, items, bytes, done, fault);
+}
+
+/* Runs it on a new table with each growth refused in turn, and then what is left of it. The second table has what the
+   first one had. */
+static void check_same(const scene *scene, const recording *recording, const char *report, const uint8_t *host)
+{
+    bool is_short = true;
+
+    for (size_t growth = 1; is_short; growth++) {
+        lw_table table = LW_NO_TABLE;
+        uint64_t done = UNTOUCHED, rest = UNTOUCHED;
+        uint8_t has[HOST_SIZE];
+        char text[TEXT];
+        lw_fault fault;
+        uint32_t status;
+
+        lw_table_new(&table, &scene->limits, NULL);
+        refuse_growth(growth);
+        status = run_from(&table, recording, 0, &done, &fault);
+        is_short = was_growth_refused();
+        refuse_growth(0);
+        check(status == (done == RECORDED_EVENTS ? LW_DONE : LW_MEMORY) && fault.status == status && fault.item == 0 &&
+                  fault.value == 0, "run", "its status");
+        check(is_short || done == RECORDED_EVENTS, "run", "it is refused with memory");
+        check(run_from(&table, recording, done, &rest, NULL) == LW_DONE && done + rest == RECORDED_EVENTS, "run",
+              "what is left is refused");
+        report_of(&table, text);
+        lw_host_read(&table, LW_HOST_BASE, has, HOST_SIZE, NULL);
+        check(strcmp(text, report) == 0 && memcmp(has, host, HOST_SIZE) == 0, "run", "the tables differ");
+        lw_table_end(&table);
+        refused_growths += is_short;
+    }
+}
+
+/* Runs it on a new table up to an event that is refused: as many were made as stand before that. */
+static void check_stops(const scene *scene, const recording *recording, uint64_t at, lw_fault wanted)
+{
+    lw_table table = LW_NO_TABLE;
+    uint64_t done = UNTOUCHED, number = UNTOUCHED;
+    lw_fault fault;
+    uint32_t status;
+
+    lw_table_new(&table, &scene->limits, NULL);
+    status = run_from(&table, recording, 0, &done, &fault);
+    lw_events(&table, &number);
+    check(status == wanted.status && fault.status == wanted.status && fault.item == wanted.item &&
+              fault.value == wanted.value, "run to a wrong event", lw_status_name(wanted.status));
+    check(done == at && number == at, "run to a wrong event", "it stops elsewhere");
+    lw_table_end(&table);
+}
+
+/* What is no directive and no write, what the table refuses, and what has no events. */
+static void check_wrong_runs(const scene *scene, const recording *right)
+{
+    static const uint32_t KINDS[] = {0, LW_LENT_BLOCK, LW_GATHERED, 11, UINT32_MAX};
+    lw_table none = LW_NO_TABLE;
+    recording wrong_one = *right;
+    uint64_t done = UNTOUCHED;
+    lw_fault fault = {99, 99, 99};
+
+    for (size_t i = 0; i < sizeof KINDS / sizeof *KINDS; i++) {
+        wrong_one.events[5].kind = KINDS[i];
+        check_stops(scene, &wrong_one, 5, (lw_fault){.status = LW_ABSENT});
+    }
+    wrong_one.events[4].device = 2;
+    check_stops(scene, &wrong_one, 4, (lw_fault){.status = LW_NO_DEVICE, .value = 2});
+    wrong_one.items[4].clause = LW_DELETE;
+    check_stops(scene, &wrong_one, 4, (lw_fault){.status = LW_BAD_CLAUSE, .item = 1});
+    wrong_one.events[1].start = END - 7;
+    check_stops(scene, &wrong_one, 1, (lw_fault){.status = LW_OUT_OF_HOST});
+    check(lw_run(&none, right->events, 1, NULL, right->bytes, &done, &fault) == LW_ENDED && fault.status == LW_ENDED &&
+              done == 0, "run", "without a table");
+    check(lw_run(&none, NULL, 0, NULL, NULL, &done, &fault) == LW_DONE && fault.status == LW_DONE && done == 0, "run",
+          "without events");
+}
+
+static void check_run(void)
+{
+    static const scene scene = {"recorded", LIMITS(HOST_SIZE, 64, 2, 1000, 2, 1, 1000, 1, 2), ROWS(RECORDED)};
+    static recording recording;
+    static uint8_t host[HOST_SIZE];
+    static char report[TEXT];
+
+    record(&scene, &recording, report, host);
+    check_same(&scene, &recording, report, host);
+    check_wrong_runs(&scene, &recording);
 }
 
 /* ---- Tables without memory ---- */
@@ -1345,7 +1526,7 @@ static void check_versions(void)
 
         check(lw_table_new(&table, &limits, &fault) == LW_BAD_VERSION && fault.value == LW_VERSION, "versions",
               "wrong limits are taken");
-        check(strcmp(lw_fault_text(&fault, text, sizeof text, NULL), "36 BadVersion library 2002") == 0, "versions",
+        check(strcmp(lw_fault_text(&fault, text, sizeof text, NULL), "36 BadVersion library 2003") == 0, "versions",
               "the text");
         check(lw_table_new(&table, &limits, NULL) == LW_BAD_VERSION && table.at == NULL, "versions", "without a fault");
         check(lw_limits_of(&table, &limits) == LW_BAD_VERSION, "versions", "limits are told in wrong ones");
@@ -1488,6 +1669,9 @@ static void check_no_fault(void)
               lw_exit_data(&table, 0, NULL, 0, 0, LW_ASYNC_NOVAL, NULL) == LW_DONE &&
               lw_update(&table, 0, NULL, 0, 0, lw_queue(16), NULL) == LW_NO_QUEUE &&
               lw_judge(&table, &(lw_stored_event){.kind = LW_WAITED, .queue = 16}, NULL, 0, NULL) == LW_NO_QUEUE &&
+              lw_do(&table, &(lw_stored_event){.kind = LW_WRITTEN}, NULL, 0, &number, NULL) == LW_ABSENT &&
+              lw_run(&table, &(lw_stored_event){.kind = LW_STEPPED, .queue = 16}, 1, NULL, NULL, &number, NULL) ==
+                  LW_NO_QUEUE &&
               lw_wait(&table, 0, 16, &number, NULL) == LW_NO_QUEUE && lw_step(&table, 0, 0, &number, NULL) == LW_DONE &&
               lw_lend(&table, 1, A, 16, &number, NULL) == LW_DONE &&
               lw_lease_read(&table, 1, bytes, 15, NULL) == LW_BAD_LENGTH &&
@@ -1502,7 +1686,11 @@ int main(void)
     for (size_t i = 0; i < sizeof SCENES / sizeof *SCENES; i++) {
         play(&SCENES[i]);
         bring_back(&SCENES[i]);
+        is_by_event = true;
+        play(&SCENES[i]);
+        is_by_event = false;
     }
+    check_run();
     check_short_tables(false);
     check_short_tables(true);
     check_ends(false);

@@ -46,7 +46,7 @@ static uint64_t address(void)
 
 static lw_async async(void)
 {
-    return lw_queue((int64_t)number() - 2);
+    return lw_queue((int64_t)(number() - 2));
 }
 
 static size_t items(lw_item *list)
@@ -77,14 +77,25 @@ static const char *report(lw_table *table)
     return text;
 }
 
+/* A directive, or what is none, as an event names it. */
+static lw_stored_event directive(void)
+{
+    lw_stored_event asked = {.kind = (uint32_t)(take(1) % 12), .option = (uint32_t)take(1) % 2, .device = take(1) % 5};
+
+    asked.queue = take(1) % 2 == 0 ? LW_NO_QUEUE_GIVEN : number();
+    asked.region = number();
+    return asked;
+}
+
 static uint32_t direct(lw_table *table, uint64_t what, lw_fault *fault)
 {
     lw_item list[ITEMS];
     const size_t count = items(list);
     const uint64_t device = take(1) % 5;
+    lw_stored_event asked;
     uint64_t told;
 
-    switch (what % 6) {
+    switch (what % 7) {
     case 0:
         return lw_enter(table, device, list, count, &told, fault);
     case 1:
@@ -95,6 +106,9 @@ static uint32_t direct(lw_table *table, uint64_t what, lw_fault *fault)
         return lw_exit_data(table, device, list, count, (uint32_t)take(1) % 2, async(), fault);
     case 4:
         return lw_update(table, device, list, count, (uint32_t)take(1) % 2, async(), fault);
+    case 5:
+        asked = directive();
+        return lw_do(table, &asked, list, count, &told, fault);
     default:
         return take(1) % 2 ? lw_wait(table, device, number(), &told, fault)
                            : lw_step(table, device, number(), &told, fault);
@@ -115,6 +129,30 @@ static uint32_t work(lw_table *table, uint64_t lease, int byte, lw_fault *fault)
     return status;
 }
 
+/* Makes a few events. Those before one that is refused stay, so that counts as if all were made. */
+static uint32_t run(lw_table *table, lw_fault *fault)
+{
+    static const uint8_t bytes[BYTES];
+    lw_item list[ITEMS];
+    lw_stored_event asked[3];
+    const size_t count = items(list);
+    uint64_t done = UINT64_MAX;
+    uint32_t status;
+
+    for (size_t n = 0; n < 3; n++) {
+        asked[n] = directive();
+        asked[n].start = address();
+        asked[n].len = take(1) % (BYTES / 3);
+        asked[n].count = count / 3;
+    }
+    status = lw_run(table, asked, take(1) % 4, list, bytes, &done, fault);
+    must(status == fault->status && done <= 3);
+    if (done != 0) {
+        *fault = (lw_fault){.status = LW_DONE};
+    }
+    return fault->status;
+}
+
 /* Writes, loans and folds. */
 static uint32_t move(lw_table *table, uint64_t what, lw_fault *fault)
 {
@@ -123,9 +161,11 @@ static uint32_t move(lw_table *table, uint64_t what, lw_fault *fault)
     uint64_t told;
 
     memset(bytes, (int)take(1), sizeof bytes);
-    switch (what % 8) {
+    switch (what % 9) {
     case 0:
         return lw_host_write(table, address(), bytes, len, fault);
+    case 7:
+        return run(table, fault);
     case 1:
         return lw_lend(table, number(), address(), number() * 8, &told, fault);
     case 2:
@@ -144,14 +184,12 @@ static uint32_t move(lw_table *table, uint64_t what, lw_fault *fault)
 }
 
 /* Judges a directive, or what is none. */
-static uint32_t judge(lw_table *table, uint64_t device, lw_fault *fault)
+static uint32_t judge(lw_table *table, lw_fault *fault)
 {
     lw_item list[ITEMS];
     const size_t count = items(list);
-    lw_stored_event asked = {.kind = (uint32_t)(take(1) % 12), .option = (uint32_t)take(1) % 2, .device = device};
+    const lw_stored_event asked = directive();
 
-    asked.queue = take(1) % 2 == 0 ? LW_NO_QUEUE_GIVEN : number();
-    asked.region = number();
     return lw_judge(table, &asked, list, count, fault);
 }
 
@@ -239,7 +277,7 @@ static uint32_t look(lw_table *table, uint64_t what, lw_fault *fault)
         fault->status = lw_held(table, number(), number(), &held);
         break;
     case 22:
-        return judge(table, device, fault);
+        return judge(table, fault);
     default:
         fault->status = lw_dids(table, did, take(1) % 5);
     }

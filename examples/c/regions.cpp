@@ -91,6 +91,9 @@ void run()
     for (Doubles doubles : {a, b}) {
         std::cout << "judged " << lw_status_name(table.judge(update, {lamwiest::self(doubles)}).status) << '\n';
     }
+    std::cout << "carried out " << table.carry_out(update, {lamwiest::self(b)}) << '\n';
+    update.count = 1;
+    table.run({update, update}, {lamwiest::self(b), lamwiest::self(b)}, {});
     table.exit_data({lamwiest::copyout(b)});
     show("b", table.read(b));
     std::cout << table.report();

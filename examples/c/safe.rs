@@ -47,6 +47,7 @@ fn run() -> Result<(), Refused> {
             Err(refused) => println!("judged {name}: refused {refused}"),
         }
     }
+    println!("copies made: {}", table.carry_out(1, Directive::Wait(None), &[])?);
     println!("{:?} {:?}", table.read(a)?, table.read(b)?);
     print!("{}", table.report()?);
     println!("events folded: {}", table.rebase()?);

@@ -226,7 +226,7 @@ impl Async {
     }
 }
 
-/// A directive that has no region's number, to be judged.
+/// A directive that has no region's number, to be judged or carried out.
 #[derive(Clone, Copy, Debug, PartialEq, Eq)]
 pub enum Directive {
     /// The start of a data construct (section 2.6.5).
@@ -387,6 +387,14 @@ impl Table {
         // SAFETY: as `Table` tells.
         made(|_, fault| unsafe { raw::lw_judge(&mut self.0, &asked, first, count, fault) })?;
         Ok(())
+    }
+
+    /// Carries out a directive. It returns the number of a region that is entered, how many copies a wait made, and of
+    /// others 1. Such a region stays open: [`Table::region`] enters one that is exited.
+    pub fn carry_out(&mut self, device: u64, directive: Directive, items: &[Item]) -> Result<u64, Refused> {
+        let (asked, first, count) = (directive.raw(device), raw_items(items), items.len());
+        // SAFETY: as `Table` tells.
+        made(|number, fault| unsafe { raw::lw_do(&mut self.0, &asked, first, count, number, fault) })
     }
 
     /// Makes room in the trace again, and returns how many events it had.

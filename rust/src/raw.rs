@@ -81,7 +81,7 @@ pub const EXITED_DATA: u32 = 4;
 pub const UPDATED: u32 = 5;
 pub const WAITED: u32 = 6;
 
-pub const VERSION: u32 = 2002;
+pub const VERSION: u32 = 2003;
 pub const DONE: u32 = 0;
 pub const FAULT_TEXT_SIZE: usize = 66;
 pub const NO_QUEUE_GIVEN: u64 = u64::MAX;
@@ -136,6 +136,14 @@ extern "C" {
         asked: &Event,
         items: *const Item,
         count: usize,
+        fault: &mut Fault,
+    ) -> u32;
+    pub fn lw_do(
+        table: &mut Table,
+        asked: &Event,
+        items: *const Item,
+        count: usize,
+        number: &mut u64,
         fault: &mut Fault,
     ) -> u32;
     pub fn lw_host_write(table: &mut Table, start: u64, bytes: *const c_void, len: usize, fault: &mut Fault) -> u32;

@@ -4,7 +4,7 @@ use Rattle.std.specs.Prelude.{Bool, true, false, find, ◌==◌, MatchResult, Ma
 use Rattle.std.specs.List.{position_or_len}
 use Rattle.std.proofs.lemmas.Bool.Decides.{nat_tests}
 use Rattle.acc_base.specs.declared.items.Section.{Section}
-use Rattle.acc_base.specs.declared.calls.Call.{Call}
+use Rattle.acc_base.specs.declared.directives.Directive.{Directive}
 use Rattle.acc_base.specs.declared.calls.Call.TheVariants.{Lend, Gather}
 use Rattle.acc_base.specs.declared.faults.Fault.{Fault}
 use Rattle.acc_base.specs.declared.faults.Fault.TheVariants.{NoLease}
@@ -34,10 +34,10 @@ IsOut n e = IsSome (lease_of n e)
 out_same : (n : ℕ) (e v : DataEnvironment) → v.leases ≡ e.leases → IsOut n e → IsOut n v
 out_same n e v same out = subst (λ (ls : List Leased). IsSome (find (is_serial n) ls)) (sym same) out
 
-pub out_asked : (n : ℕ) (e v : DataEnvironment) (asked : Result (Call Leased) Refusal) (T : Told) → IsAsked e asked T v → IsOut n e → IsOut n v
+pub out_asked : (n : ℕ) (e v : DataEnvironment) (asked : Result Directive Refusal) (T : Told) → IsAsked e asked T v → IsOut n e → IsOut n v
 out_asked n e v (Err refusal) T h out = subst (IsOut n) (sym h.1) out
-out_asked n e v (Ok call) T (inl h) out = subst (IsOut n) (sym h.1) out
-out_asked n e v (Ok call) T (inr h) out = out_same n e v h.1 out
+out_asked n e v (Ok directive) T (inl h) out = subst (IsOut n) (sym h.2) out
+out_asked n e v (Ok directive) T (inr h) out = out_same n e v h.1 out
 
 pub out_rebased : (n : ℕ) (e v : DataEnvironment) (T : Told) → IsRebased e T v → IsOut n e → IsOut n v
 out_rebased n e v T (inl h) out = subst (IsOut n) (sym h.1) out

@@ -29,7 +29,6 @@ use Rattle.lamwiest_c.specs.declared.statuses.Refusal.{Refusal}
 use Rattle.lamwiest_c.specs.declared.statuses.Refusal.TheVariants.{OfTable, BadLength}
 use Rattle.lamwiest_c.specs.Environments.{DataEnvironment}
 use Rattle.lamwiest_c.specs.Begins.{new_environment}
-use Rattle.lamwiest_c.specs.Clauses.{asked_with}
 use Rattle.lamwiest_c.specs.Answers.{Told, is_serial, number_in, lease_of, leases_without, CameOf, IsMadeIn, IsAsked, IsRebased, IsLent, CameOfLoan, IsGathered, CameOfLease}
 use Rattle.lamwiest_c.specs.Leases.{leases_with, IsLeaseWritten}
 use Rattle.lamwiest_c.proofs.Keeping.{remove_later, set_later}
@@ -80,11 +79,11 @@ owes_made e v call T plain h owes = go (judge e.world call) refl h.0
     go (Ok (Makes event)) is (inr h) =
         in_world (world_after call event e.world) h.1 (within_after e.world call event owes.bounds) (accepted_accounted e.world call event owes.bounds is owes.accounted) (owes_event e.world call event e.leases owes.bounds owes.accounted is plain owes.owed)
 
--- a directive with the items of an array
-pub owes_asked : {A : Type 0} (e v : DataEnvironment) (f : A → Directive) (read : Result A Refusal) (T : Told) → IsAsked e (asked_with f read) T v → OwesAll e → OwesAll v
-owes_asked e v f (Err refusal) T h owes = subst OwesAll (sym h.1) owes
-owes_asked e v f (Ok items) T (inl h) owes = subst OwesAll (sym h.1) owes
-owes_asked e v f (Ok items) T (inr h) owes = owes_made e v (Do (f items)) T tt h owes
+-- a directive with the items of an array, under a name of its own or named as an event names it
+pub owes_asked : (e v : DataEnvironment) (asked : Result Directive Refusal) (T : Told) → IsAsked e asked T v → OwesAll e → OwesAll v
+owes_asked e v (Err refusal) T h owes = subst OwesAll (sym h.1) owes
+owes_asked e v (Ok directive) T (inl h) owes = subst OwesAll (sym h.2) owes
+owes_asked e v (Ok directive) T (inr h) owes = owes_made e v (Do directive) T tt h owes
 
 pub owes_rebased : (e v : DataEnvironment) (T : Told) → IsRebased e T v → OwesAll e → OwesAll v
 owes_rebased e v T (inl h) owes = subst OwesAll (sym h.1) owes

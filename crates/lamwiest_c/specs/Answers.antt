@@ -1,15 +1,16 @@
 -- The outcome of a call. Each definition is given how the caller gets it: as the result of a function, or as a status
 -- and the fields of a refusal.
-use Rattle.std.specs.Prelude.{ℕ, ◌≡◌, ◌⊎◌, ◌==◌, Bool, List, ◌++◌, length, find, Option, Some, None, Result, Ok, Err, MatchOption}
+use Rattle.std.specs.Prelude.{ℕ, ◌≡◌, ◌<◌, ◌⊎◌, ◌==◌, Bool, List, ◌++◌, length, find, Option, Some, None, Result, Ok, Err, MatchOption}
 use Rattle.std.specs.List.{remove, position_or_len}
 use Rattle.acc_base.specs.declared.items.Section.{Section}
 use Rattle.acc_base.specs.declared.calls.Call.{Call}
+use Rattle.acc_base.specs.declared.directives.Directive.{Directive}
 use Rattle.acc_base.specs.declared.faults.Fault.{Fault}
-use Rattle.acc_base.specs.declared.calls.Call.TheVariants.{Lend, Gather}
+use Rattle.acc_base.specs.declared.calls.Call.TheVariants.{Do, Lend, Gather}
 use Rattle.acc_base.specs.declared.faults.Fault.TheVariants.{Memory, NoLease}
 use Rattle.acc_base.specs.Loans.{Leased}
 use Rattle.acc_base.specs.Calls.{World, judge, world_after, rebased}
-use Rattle.acc_base.specs.Judge.{Verdict, Makes, Idle}
+use Rattle.acc_base.specs.Judge.{Verdict, Makes, Idle, item_count}
 use Rattle.acc_table.specs.declared.calls.Reply.{Reply}
 use Rattle.acc_table.specs.declared.calls.Reply.TheVariants as replies
 use Rattle.acc_table.specs.Calls.{reply_in}
@@ -50,10 +51,11 @@ IsMade w call T v = CameOf w call (judge w call) T v
 abbrev pub IsMadeIn : DataEnvironment → Call Leased → Told → DataEnvironment → Type 0
 IsMadeIn e call T v = IsMade e.world call T v.world × (v.leases ≡ e.leases)
 
--- what was asked is made, or was read wrong; where it was read right, memory may be lacking before it is asked
-abbrev pub IsAsked : DataEnvironment → Result (Call Leased) Refusal → Told → DataEnvironment → Type 0
+-- the directive that was asked is made, or was read wrong. Memory may be lacking before it is asked, for a list of more
+-- than one item
+abbrev pub IsAsked : DataEnvironment → Result Directive Refusal → Told → DataEnvironment → Type 0
 IsAsked e (Err refusal) T v = T (Err refusal) × (v ≡ e)
-IsAsked e (Ok call) T v = (T (Err (OfTable Memory)) × (v ≡ e)) ⊎ IsMadeIn e call T v
+IsAsked e (Ok directive) T v = (T (Err (OfTable Memory)) × (1 < item_count directive) × (v ≡ e)) ⊎ IsMadeIn e (Do directive) T v
 
 -- the world's base is what it had, and the caller gets how many events that folded; or memory was lacking
 abbrev pub IsRebased : DataEnvironment → Told → DataEnvironment → Type 0

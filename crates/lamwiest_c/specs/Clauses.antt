@@ -12,9 +12,6 @@ use Rattle.acc_base.specs.declared.items.ExitClause.TheVariants as exits
 use Rattle.acc_base.specs.declared.items.RegionClause.TheVariants as regions
 use Rattle.acc_base.specs.declared.items.UpdateClause.TheVariants as updates
 use Rattle.acc_base.specs.declared.directives.Directive.TheVariants.{Enter, EnterData, ExitData, Update}
-use Rattle.acc_base.specs.declared.calls.Call.{Call}
-use Rattle.acc_base.specs.declared.calls.Call.TheVariants.{Do}
-use Rattle.acc_base.specs.Loans.{Leased}
 use Rattle.lamwiest_c.specs.declared.items.RawItem.{RawItem}
 use Rattle.lamwiest_c.specs.declared.items.TheConstants.{COPY, COPYIN, COPYOUT, COPYOUT_ZERO, CREATE, CREATE_ZERO, NO_CREATE, PRESENT, ATTACH, DELETE, DETACH, SELF, DEVICE, NO_QUEUE_GIVEN, ASYNC_SYNC, ASYNC_NOVAL, DEFAULT_QUEUE}
 use Rattle.lamwiest_c.specs.declared.statuses.Refusal.{Refusal}
@@ -92,19 +89,19 @@ IsRead (Ok items) result = (result ≡ Ok items) ⊎ ((result ≡ Err (OfTable M
 
 -- ---- the directives of arrays, each on a device
 
--- what is asked with some items, where these were read
-abbrev pub asked_with : {A : Type 0} → (A → Directive) → Result A Refusal → Result (Call Leased) Refusal
-asked_with f (Ok items) = Ok (Do (f items))
+-- a directive with some items, where these were read
+abbrev pub asked_with : {A : Type 0} → (A → Directive) → Result A Refusal → Result Directive Refusal
+asked_with f (Ok items) = Ok (f items)
 asked_with f (Err refusal) = Err refusal
 
-abbrev pub enter_of : ℕ → List RawItem → Result (Call Leased) Refusal
+abbrev pub enter_of : ℕ → List RawItem → Result Directive Refusal
 enter_of device items = asked_with (Enter device) (items_from region_clause 0 items)
 
-abbrev pub enter_data_of : ℕ → List RawItem → ℕ → Result (Call Leased) Refusal
-enter_data_of device items queue = asked_with (λ read. EnterData device read (queue_asked queue)) (items_from enter_clause 0 items)
+abbrev pub enter_data_of : ℕ → List RawItem → Option ℕ → Result Directive Refusal
+enter_data_of device items queue = asked_with (λ read. EnterData device read queue) (items_from enter_clause 0 items)
 
-abbrev pub exit_data_of : ℕ → List RawItem → Bool → ℕ → Result (Call Leased) Refusal
-exit_data_of device items finalize queue = asked_with (λ read. ExitData device read finalize (queue_asked queue)) (items_from exit_clause 0 items)
+abbrev pub exit_data_of : ℕ → List RawItem → Bool → Option ℕ → Result Directive Refusal
+exit_data_of device items finalize queue = asked_with (λ read. ExitData device read finalize queue) (items_from exit_clause 0 items)
 
-abbrev pub update_of : ℕ → List RawItem → Bool → ℕ → Result (Call Leased) Refusal
-update_of device items if_present queue = asked_with (λ read. Update device read if_present (queue_asked queue)) (items_from update_clause 0 items)
+abbrev pub update_of : ℕ → List RawItem → Bool → Option ℕ → Result Directive Refusal
+update_of device items if_present queue = asked_with (λ read. Update device read if_present queue) (items_from update_clause 0 items)

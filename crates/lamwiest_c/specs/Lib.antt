@@ -9,6 +9,6 @@ pub mod Finds
 pub mod Dids
 pub mod Events
 pub mod Holdings
-pub mod DryRuns
+pub mod Named
 pub mod Begins
 pub mod Shows

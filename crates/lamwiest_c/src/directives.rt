@@ -4,7 +4,7 @@
 ghost use Rattle.std.specs.Prelude.{◌≡◌};
 ghost use Rattle.acc_base.specs.declared.calls.Call.TheVariants.{Do};
 ghost use Rattle.acc_base.specs.declared.directives.Directive.TheVariants.{Exit, Wait, Step};
-ghost use Rattle.lamwiest_c.specs.Clauses.{queue_of, is_given, enter_of, enter_data_of, exit_data_of, update_of};
+ghost use Rattle.lamwiest_c.specs.Clauses.{queue_asked, queue_of, is_given, enter_of, enter_data_of, exit_data_of, update_of};
 ghost use Rattle.lamwiest_c.specs.Statuses.{IsAnswered, IsNumberAnswered};
 ghost use Rattle.lamwiest_c.specs.Answers.{IsMadeIn, IsAsked, IsOf};
 
@@ -74,7 +74,7 @@ pub extern "C" fn lamwiest_enter_data(
     fault: &mut FaultFields,
 ) -> u32
     ensures { IsOf table.old.value table.new.value (IsAnswered result fault.new)
-        (λ e v. IsAsked e (enter_data_of device items.now queue) (IsAnswered result fault.new) v) }
+        (λ e v. IsAsked e (enter_data_of device items.now (queue_asked queue)) (IsAnswered result fault.new) v) }
 {
     let Some(mut environment) = take_out(alloc, table) else {
         return tell(Err(Refusal::Ended), fault);
@@ -97,7 +97,7 @@ pub extern "C" fn lamwiest_exit_data(
     fault: &mut FaultFields,
 ) -> u32
     ensures { IsOf table.old.value table.new.value (IsAnswered result fault.new)
-        (λ e v. IsAsked e (exit_data_of device items.now (is_given finalize) queue) (IsAnswered result fault.new) v) }
+        (λ e v. IsAsked e (exit_data_of device items.now (is_given finalize) (queue_asked queue)) (IsAnswered result fault.new) v) }
 {
     let Some(mut environment) = take_out(alloc, table) else {
         return tell(Err(Refusal::Ended), fault);
@@ -120,7 +120,7 @@ pub extern "C" fn lamwiest_update(
     fault: &mut FaultFields,
 ) -> u32
     ensures { IsOf table.old.value table.new.value (IsAnswered result fault.new)
-        (λ e v. IsAsked e (update_of device items.now (is_given if_present) queue) (IsAnswered result fault.new) v) }
+        (λ e v. IsAsked e (update_of device items.now (is_given if_present) (queue_asked queue)) (IsAnswered result fault.new) v) }
 {
     let Some(mut environment) = take_out(alloc, table) else {
         return tell(Err(Refusal::Ended), fault);

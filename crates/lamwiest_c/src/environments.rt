@@ -5,7 +5,7 @@ ghost use Rattle.acc_base.specs.declared.calls.Call.TheVariants.{Do, HostWrite};
 ghost use Rattle.acc_base.specs.declared.faults.Fault.TheVariants.{Memory};
 ghost use Rattle.lamwiest_c.specs.declared.statuses.Refusal.TheVariants.{OfTable};
 ghost use Rattle.lamwiest_c.specs.Begins.{new_environment};
-ghost use Rattle.lamwiest_c.specs.Clauses.{enter_of, enter_data_of, exit_data_of, update_of};
+ghost use Rattle.lamwiest_c.specs.Clauses.{queue_asked, enter_of, enter_data_of, exit_data_of, update_of};
 ghost use Rattle.lamwiest_c.specs.Answers.{number_in, IsMadeIn, IsAsked, IsRebased};
 
 use crate::items::{RawItem, items_of, queue_asked};
@@ -132,7 +132,7 @@ impl TableWithLeases {
         items: &[RawItem],
         queue: u64,
     ) -> Result<u64, Refusal>
-        ensures { IsAsked self.old (enter_data_of device items.now queue) (λ r. result ≡ r) self.new }
+        ensures { IsAsked self.old (enter_data_of device items.now (queue_asked queue)) (λ r. result ≡ r) self.new }
     {
         let items = items_of(alloc, items)?;
         let queue = queue_asked(queue);
@@ -153,7 +153,7 @@ impl TableWithLeases {
         finalize: bool,
         queue: u64,
     ) -> Result<u64, Refusal>
-        ensures { IsAsked self.old (exit_data_of device items.now finalize queue) (λ r. result ≡ r) self.new }
+        ensures { IsAsked self.old (exit_data_of device items.now finalize (queue_asked queue)) (λ r. result ≡ r) self.new }
     {
         let items = items_of(alloc, items)?;
         let queue = queue_asked(queue);
@@ -175,7 +175,7 @@ impl TableWithLeases {
         if_present: bool,
         queue: u64,
     ) -> Result<u64, Refusal>
-        ensures { IsAsked self.old (update_of device items.now if_present queue) (λ r. result ≡ r) self.new }
+        ensures { IsAsked self.old (update_of device items.now if_present (queue_asked queue)) (λ r. result ≡ r) self.new }
     {
         let items = items_of(alloc, items)?;
         let queue = queue_asked(queue);

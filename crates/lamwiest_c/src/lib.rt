@@ -10,7 +10,6 @@
 
 mod dids;
 mod directives;
-mod dry_runs;
 mod environments;
 mod events;
 mod handles;
@@ -19,6 +18,7 @@ mod items;
 mod loans;
 mod lookups;
 mod memories;
+mod named;
 mod parts;
 mod queries;
 mod statuses;

@@ -233,6 +233,24 @@ static lw_stored_event event_of(const run *run, uint32_t kind, size_t count, con
                              .queue = options->queue, .count = count};
 }
 
+/* Whether the directive of this line is made by lw_do, as its event names it, and not by its own call. */
+static bool is_by_event(const run *run)
+{
+    return run->line % 2 == 0;
+}
+
+/* Makes one by its event that answers no number: lw_do answers 1. */
+static uint32_t make_event(run *run, lw_stored_event asked, const lw_item *items, size_t count, lw_fault *fault)
+{
+    uint64_t number = UNTOUCHED;
+    uint32_t status = lw_do(&run->table, &asked, items, count, &number, fault);
+
+    if (number != (status == LW_DONE ? 1 : UNTOUCHED)) {
+        fail(run, "a directive answers another number", status);
+    }
+    return status;
+}
+
 static void enter(run *run, const lw_item *items, size_t count)
 {
     lw_stored_event entered = {.kind = LW_ENTERED, .device = run->device, .queue = LW_NO_QUEUE_GIVEN, .count = count};
@@ -241,7 +259,8 @@ static void enter(run *run, const lw_item *items, size_t count)
     uint32_t status;
 
     judge(run, entered, items, count);
-    status = lw_enter(&run->table, run->device, items, count, &region, &fault);
+    status = is_by_event(run) ? lw_do(&run->table, &entered, items, count, &region, &fault)
+                              : lw_enter(&run->table, run->device, items, count, &region, &fault);
     if (is_answered(run, status, &fault, region)) {
         entered.region = region;
         want_event(run, entered, items, NULL);
@@ -266,11 +285,13 @@ void say_end_data(run *run)
     const lw_stored_event left = {.kind = LW_EXITED, .device = run->on[last], .queue = LW_NO_QUEUE_GIVEN,
                                   .region = run->regions[last], .count = run->entered[last]};
     lw_fault fault;
+    uint32_t status;
 
     say(run, "end data");
     end_line(run);
     judge(run, left, NULL, 0);
-    if (is_done(run, lw_exit(&run->table, left.region, &fault), &fault)) {
+    status = is_by_event(run) ? make_event(run, left, NULL, 0, &fault) : lw_exit(&run->table, left.region, &fault);
+    if (is_done(run, status, &fault)) {
         run->left = left.region;
         run->depth--;
         want_event(run, left, NULL, NULL);
@@ -285,9 +306,13 @@ static void say_enter_data(run *run)
     size_t count = say_directive(run, "enter data", items, OF_ENTER_DATA, LENGTH_OF(OF_ENTER_DATA), &options);
     lw_stored_event entered = event_of(run, LW_ENTERED_DATA, count, &options);
     lw_fault fault;
+    uint32_t status;
 
     judge(run, entered, items, count);
-    if (is_done(run, lw_enter_data(&run->table, run->device, items, count, async_of(options.queue), &fault), &fault)) {
+    status = is_by_event(run)
+                 ? make_event(run, entered, items, count, &fault)
+                 : lw_enter_data(&run->table, run->device, items, count, async_of(options.queue), &fault);
+    if (is_done(run, status, &fault)) {
         want_event(run, entered, items, NULL);
     }
 }
@@ -302,7 +327,9 @@ static void say_exit_data(run *run)
     uint32_t status;
 
     judge(run, exited, items, count);
-    status = lw_exit_data(&run->table, run->device, items, count, options.has_word, async_of(options.queue), &fault);
+    status = is_by_event(run) ? make_event(run, exited, items, count, &fault)
+                              : lw_exit_data(&run->table, run->device, items, count, options.has_word,
+                                             async_of(options.queue), &fault);
     if (is_done(run, status, &fault)) {
         want_event(run, exited, items, NULL);
     }
@@ -318,7 +345,9 @@ static void say_update(run *run)
     uint32_t status;
 
     judge(run, updated, items, count);
-    status = lw_update(&run->table, run->device, items, count, options.has_word, async_of(options.queue), &fault);
+    status = is_by_event(run) ? make_event(run, updated, items, count, &fault)
+                              : lw_update(&run->table, run->device, items, count, options.has_word,
+                                          async_of(options.queue), &fault);
     if (is_done(run, status, &fault)) {
         want_event(run, updated, items, NULL);
     }
@@ -370,7 +399,8 @@ static void say_wait(run *run)
     }
     end_line(run);
     judge(run, waited, NULL, 0);
-    status = lw_wait(&run->table, run->device, queue, &made, &fault);
+    status = is_by_event(run) ? lw_do(&run->table, &waited, NULL, 0, &made, &fault)
+                              : lw_wait(&run->table, run->device, queue, &made, &fault);
     if (is_answered(run, status, &fault, made)) {
         waited.count = made;
         want_event(run, waited, NULL, NULL);
@@ -392,7 +422,8 @@ static void say_step(run *run)
     end_line(run);
     judge(run, stepped, NULL, 0);
     waits = lw_transfer(&run->table, run->device, queue, 0, &copy) == LW_DONE;
-    status = lw_step(&run->table, run->device, queue, &made, &fault);
+    status = is_by_event(run) ? lw_do(&run->table, &stepped, NULL, 0, &made, &fault)
+                              : lw_step(&run->table, run->device, queue, &made, &fault);
     if (!is_answered(run, status, &fault, made)) {
         return;
     }

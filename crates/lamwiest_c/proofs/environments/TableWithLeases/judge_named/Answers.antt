@@ -1,4 +1,4 @@
-use Rattle.lamwiest_c.specs.DryRuns.{directive_named}
+use Rattle.lamwiest_c.specs.Named.{directive_named}
 use Rattle.lamwiest_c.proofs.Judged.{read_wrong, read_right}
 use Rattle.lamwiest_c.proofs.environments.TableWithLeases.judge_named.Goals as goal
 

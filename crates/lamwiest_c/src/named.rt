@@ -1,18 +1,18 @@
-//! A directive is judged, and not carried out.
+//! A directive that is named as an event names it: it is judged, or carried out.
 
 ghost use Rattle.std.specs.Prelude.{◌≡◌};
 ghost use Rattle.acc_base.specs.declared.calls.Call.TheVariants.{Do};
 ghost use Rattle.acc_base.specs.Calls.{judge};
-ghost use Rattle.lamwiest_c.specs.Statuses.{IsAnswered};
-ghost use Rattle.lamwiest_c.specs.Answers.{IsOf};
-ghost use Rattle.lamwiest_c.specs.DryRuns.{directive_alone, directive_named, IsNamed, verdict_told, IsDryRun};
+ghost use Rattle.lamwiest_c.specs.Statuses.{IsAnswered, IsNumberAnswered};
+ghost use Rattle.lamwiest_c.specs.Answers.{IsAsked, IsOf};
+ghost use Rattle.lamwiest_c.specs.Named.{directive_alone, directive_named, IsNamed, verdict_told, IsDryRun};
 
 use crate::directives::is_given;
 use crate::environments::TableWithLeases;
 use crate::events::RawEvent;
 use crate::handles::{Handle, put_back, take_out};
 use crate::items::{RawItem, items_of, queue_of};
-use crate::statuses::{FaultFields, Refusal, tell};
+use crate::statuses::{FaultFields, Refusal, tell, tell_number};
 use acc_base::Directive;
 use std::alloc::Global;
 
@@ -105,6 +105,22 @@ impl TableWithLeases {
             Err(refusal) => Err(refusal),
         }
     }
+
+    /// Carries out the directive of an event, with the items of an array, and returns the number of its reply. Errors
+    /// are those of `directive_named` and of the table.
+    fn do_named(
+        &mut self,
+        alloc: Global,
+        asked: &RawEvent,
+        items: &[RawItem],
+    ) -> Result<u64, Refusal>
+        ensures { IsAsked self.old (directive_named asked.now items.now) (λ r. result ≡ r) self.new }
+    {
+        match directive_named(alloc, asked, items) {
+            Ok(directive) => self.direct(directive),
+            Err(refusal) => Err(refusal),
+        }
+    }
 }
 
 /// Judges a directive and does not carry it out: the fault is that of its call. What is asked stands where an event has
@@ -127,4 +143,26 @@ pub extern "C" fn lamwiest_judge(
     let made = environment.judge_named(alloc, asked, items);
     put_back(table, environment);
     tell(made, fault)
+}
+
+/// Carries out a directive that is named as for [`lamwiest_judge`]. Where it is done, `number` is that of the region
+/// that it entered, or how many transfers a wait or a step made; of another directive it is 1.
+#[unsafe(no_mangle)]
+pub extern "C" fn lamwiest_do(
+    alloc: Global,
+    table: &mut Handle,
+    asked: &RawEvent,
+    items: &[RawItem],
+    number: &mut u64,
+    fault: &mut FaultFields,
+) -> u32
+    ensures { IsOf table.old.value table.new.value (IsNumberAnswered result fault.new number.old number.new)
+        (λ e v. IsAsked e (directive_named asked.now items.now) (IsNumberAnswered result fault.new number.old number.new) v) }
+{
+    let Some(mut environment) = take_out(alloc, table) else {
+        return tell_number(Err(Refusal::Ended), number, fault);
+    };
+    let made = environment.do_named(alloc, asked, items);
+    put_back(table, environment);
+    tell_number(made, number, fault)
 }

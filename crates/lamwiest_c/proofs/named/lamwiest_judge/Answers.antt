@@ -1,9 +1,9 @@
 use Rattle.std.proofs.Common.{◌≡◌, ◌∙◌, subst}
 use Rattle.lamwiest_c.specs.Environments.{DataEnvironment}
 use Rattle.lamwiest_c.specs.Statuses.{IsAnswered}
-use Rattle.lamwiest_c.specs.DryRuns.{directive_named, IsDryRun}
+use Rattle.lamwiest_c.specs.Named.{directive_named, IsDryRun}
 use Rattle.lamwiest_c.proofs.Judged.{told_of}
-use Rattle.lamwiest_c.proofs.dry_runs.lamwiest_judge.Goals as goal
+use Rattle.lamwiest_c.proofs.named.lamwiest_judge.Goals as goal
 
 pub returns : goal.returns
 returns c =

@@ -110,7 +110,7 @@ pub fn follow<R: Threads + Wait + Sync + AllocGlobal, S: Source, O: Sink, E: Sin
 ) -> Result<Status, Stop> {
     let Setting { config, parts, .. } = setting;
     let alloc = rt.alloc();
-    let kernels = ByCall(|kernel: ScriptKernel, lease: Lease, src: &[u8]| {
+    let kernels = ByCall(move |kernel: ScriptKernel, lease: Lease, src: &[u8]| {
         run_in_threads(rt, parts, kernel, lease, src)
     });
     if !setting.views.show_any() {

@@ -33,7 +33,7 @@ pub fn run_shown<R: Threads + Wait + Sync + AllocGlobal, O: Sink, X: Watcher<O>>
     ensures plain { (setting.views.echo || setting.views.json) ≡ false → LineRuns number (session_state session.old) line.now (O.told out.old) (O.told out.new) (session_state session.new) result }
 {
     let Setting { parts, views, .. } = setting;
-    let kernels = ByCall(|kernel: ScriptKernel, lease: Lease, src: &[u8]| {
+    let kernels = ByCall(move |kernel: ScriptKernel, lease: Lease, src: &[u8]| {
         run_in_threads(rt, parts, kernel, lease, src)
     });
     if views.echo | views.json {

@@ -1,6 +1,7 @@
 /*
  * What stands between a program in C and the proved calls: a fault that may be NULL, limits that may be those of
- * another header, names and texts that end with a zero. It is not proved, and decides nothing of a table.
+ * another header, names and texts that end with a zero, and a loop over events. It is not proved. Of a table it decides
+ * nothing but where that loop stops.
  */
 #include "proved.h"
 #include <stdio.h>
@@ -248,7 +249,7 @@ uint32_t lw_run(lw_table *table, const lw_stored_event *asked, size_t count, con
     for (*done = 0; *done < count; ++*done, asked++) {
         const size_t named = items_for(asked);
         const size_t len = asked->kind == LW_WRITTEN ? asked->len : 0;
-        uint64_t number;
+        uint64_t number = 0;
 
         if (asked->kind == LW_WRITTEN) {
             lamwiest_host_write(table, asked->start, written, len, told);

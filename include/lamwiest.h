@@ -535,12 +535,14 @@ uint32_t lw_do(lw_table *table, const lw_stored_event *asked, const lw_item *ite
 /* Makes what events tell, one after the other, and stops at the first that is refused. The status and the fault are
    that one's; LW_DONE where all are made. done: how many were made, in any case. These stay.
 
-   So what lw_event tells of one table is run on another one. Regions get the numbers of this table. They are the same
-   where the events of a new table are run on a new table.
+   So the directives and writes that lw_event tells of one table are run on another one. What a kernel does is no event
+   that could be made again: LW_LENT_BLOCK and LW_GATHERED are LW_ABSENT. Regions get the numbers of this table. They
+   are the same where the events of a new table are run on a new table.
 
    asked: directives, as of lw_do, and writes. Of LW_WRITTEN the start and the length are read. Another kind is
    LW_ABSENT. items: those of all directives, one after the other. count tells how many LW_ENTERED, LW_ENTERED_DATA,
-   LW_EXITED_DATA and LW_UPDATED have; others have none there. bytes: those of all writes, one after the other. */
+   LW_EXITED_DATA and LW_UPDATED have; others have none there. bytes: those of all writes, one after the other, each as
+   many as its event's len says. Traces that are not full have none. */
 uint32_t lw_run(lw_table *table, const lw_stored_event *asked, size_t count, const lw_item *items, const void *bytes,
                 uint64_t *done, lw_fault *fault);
 

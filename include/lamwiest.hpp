@@ -174,7 +174,7 @@ public:
         return fault;
     }
 
-    // Carries it out, and returns the number that lw_do tells.
+    // Carries a directive out, and returns the number that lw_do tells.
     uint64_t carry_out(const lw_stored_event &asked, const Items &items = Items())
     {
         uint64_t number = 0;
@@ -183,10 +183,10 @@ public:
         return number;
     }
 
-    // Makes what events tell, as lw_run. Where one is refused, those before it stay as they are made.
-    void run(const std::vector<lw_stored_event> &asked, const Items &items, const std::vector<uint8_t> &bytes)
+    // Makes what events tell, as lw_run. done: how many were made, also where one is refused. These stay.
+    void run(const std::vector<lw_stored_event> &asked, const Items &items, const std::vector<uint8_t> &bytes,
+             uint64_t &done)
     {
-        uint64_t done = 0;
         lw_fault fault;
         must(lw_run(&table, asked.data(), asked.size(), items.data(), bytes.data(), &done, &fault), fault);
     }

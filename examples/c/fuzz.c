@@ -136,6 +136,7 @@ static uint32_t run(lw_table *table, lw_fault *fault)
     lw_item list[ITEMS];
     lw_stored_event asked[3];
     const size_t count = items(list);
+    size_t wanted;
     uint64_t done = UINT64_MAX;
     uint32_t status;
 
@@ -145,8 +146,9 @@ static uint32_t run(lw_table *table, lw_fault *fault)
         asked[n].len = take(1) % (BYTES / 3);
         asked[n].count = count / 3;
     }
-    status = lw_run(table, asked, take(1) % 4, list, bytes, &done, fault);
-    must(status == fault->status && done <= 3);
+    wanted = take(1) % 4;
+    status = lw_run(table, asked, wanted, list, bytes, &done, fault);
+    must(status == fault->status && done <= wanted && (status == LW_DONE) == (done == wanted));
     if (done != 0) {
         *fault = (lw_fault){.status = LW_DONE};
     }
@@ -164,8 +166,6 @@ static uint32_t move(lw_table *table, uint64_t what, lw_fault *fault)
     switch (what % 9) {
     case 0:
         return lw_host_write(table, address(), bytes, len, fault);
-    case 7:
-        return run(table, fault);
     case 1:
         return lw_lend(table, number(), address(), number() * 8, &told, fault);
     case 2:
@@ -178,6 +178,8 @@ static uint32_t move(lw_table *table, uint64_t what, lw_fault *fault)
         return work(table, number(), (int)bytes[0], fault);
     case 6:
         return take(1) % 8 == 0 ? lw_table_reset(table, fault) : lw_gather(table, number(), fault);
+    case 7:
+        return run(table, fault);
     default:
         return lw_array(table, take(1) % 4 == 0 ? take(8) : take(1), &told, fault);
     }

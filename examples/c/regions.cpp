@@ -93,7 +93,14 @@ void run()
     }
     std::cout << "carried out " << table.carry_out(update, {lamwiest::self(b)}) << '\n';
     update.count = 1;
-    table.run({update, update}, {lamwiest::self(b), lamwiest::self(b)}, {});
+    uint64_t made = 0;
+    try {
+        lw_stored_event gathered = {};
+        gathered.kind = LW_GATHERED;
+        table.run({update, update, gathered}, {lamwiest::self(b), lamwiest::self(b)}, {}, made);
+    } catch (const lamwiest::Refused &refused) {
+        std::cout << "made " << made << ", then " << refused.what() << '\n';
+    }
     table.exit_data({lamwiest::copyout(b)});
     show("b", table.read(b));
     std::cout << table.report();

@@ -390,7 +390,8 @@ impl Table {
     }
 
     /// Carries out a directive. It returns the number of a region that is entered, how many copies a wait made, and of
-    /// others 1. Such a region stays open: [`Table::region`] enters one that is exited.
+    /// others 1. Such a region stays open until the table ends or begins anew. [`Table::region`] enters one that is
+    /// exited.
     pub fn carry_out(&mut self, device: u64, directive: Directive, items: &[Item]) -> Result<u64, Refused> {
         let (asked, first, count) = (directive.raw(device), raw_items(items), items.len());
         // SAFETY: as `Table` tells.
@@ -458,7 +459,7 @@ unsafe fn run_on<E: Element, T>(at: *mut E, count: usize, kernel: impl FnOnce(&m
     answer
 }
 
-/// An open data region. Calls within it are made on it as on its table; so an inner region ends before it.
+/// An open data region. Calls within it are made on it as on its table; so an inner `Region` ends before it.
 pub struct Region<'table> {
     table: &'table mut Table,
     number: u64,

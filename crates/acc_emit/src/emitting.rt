@@ -33,7 +33,8 @@ pub struct Origin<'a> {
 }
 
 /// Returns a script as a program with OpenACC 3.3 directives, which prints what the script prints and compares it. Its
-/// tables have these limits. The program begins with the name of the script and its first comments.
+/// tables have these limits. The program begins with the name of the script and its first comments. The script runs to
+/// its end, also where the program ends before, and what it prints is kept till then.
 ///
 /// # Errors
 ///

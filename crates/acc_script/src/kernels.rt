@@ -65,7 +65,7 @@ impl<F: Fn(ScriptKernel, Lease, &[u8]) -> Lease> KernelRunner for ByCall<F> {
     }
 }
 
-/// Runs a kernel over all the bytes of a loan, cut into at most `parts` parts, from 1 to 64, which run at the same time,
+/// Runs a kernel over all the bytes of a loan, cut into at most `parts` parts, from 1 to 64. They run at the same time,
 /// each in a thread of its own. With any other number of parts it is not cut. Where a thread does not start, or there is
 /// no memory for the list of the parts, it goes on with fewer.
 pub fn run_in_threads<R: Threads + Wait + Sync + AllocGlobal>(

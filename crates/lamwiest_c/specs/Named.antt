@@ -1,4 +1,4 @@
--- The directive that an event names, with the items of an array, and what is told of it where it is judged, and not
+-- The directive that an event names, with the items of an array. And what is told of it where it is judged, and not
 -- carried out.
 use Rattle.std.specs.Prelude.{ℕ, ◌≡◌, ◌<◌, ◌⊎◌, ◌==◌, if◌then◌else◌, List, Result, Ok, Err}
 use Rattle.acc_base.specs.declared.faults.Fault.{Fault}

@@ -8,7 +8,6 @@ use acc_present::OpenRegion;
 use std::marker::Model;
 
 /// What one device had at one moment: everything but bytes, and with full traces those of its blocks too.
-#[derive(Drop)]
 pub struct DeviceBase {
     pub(crate) ranges: Vec<Range>,
     pub(crate) blocks: Vec<Block>,
@@ -18,6 +17,22 @@ pub struct DeviceBase {
     pub(crate) loans: Vec<Loan>,
     pub(crate) regions: Vec<OpenRegion>,
     pub(crate) memories: Vec<SavedBlock>,
+}
+
+// By hand, so that a crate above does not prove the drops of its parts again.
+impl Drop for DeviceBase {
+    fn drop(self) {
+        let DeviceBase {
+            ranges: _,
+            blocks: _,
+            attached: _,
+            births: _,
+            queues: _,
+            loans: _,
+            regions: _,
+            memories: _,
+        } = self;
+    }
 }
 
 impl Model for DeviceBase {
@@ -47,13 +62,25 @@ impl DeviceBase {
 
 /// What a table had when so many events had led there: everything but bytes, and with full traces all memories too. The
 /// events since are counted from here on.
-#[derive(Drop)]
 pub struct Base {
     devices: Vec<DeviceBase>,
     next_region: u64,
     next_serial: u64,
     host: Vec<u8>,
     events: u64,
+}
+
+// By hand, so that a crate above does not prove the drops of its parts again.
+impl Drop for Base {
+    fn drop(self) {
+        let Base {
+            devices: _,
+            next_region: _,
+            next_serial: _,
+            host: _,
+            events: _,
+        } = self;
+    }
 }
 
 impl Model for Base {

@@ -25,12 +25,18 @@ pub struct IndexEntry<T> {
 /// other one, and there are never more places than twice as many as values. A number stands as far behind the first as
 /// it is greater, unless such places were cleared away in between. A caller that needs a value twice asks for its
 /// place, so that the number is searched for once.
-#[derive(Drop)]
 pub struct Index<T> {
     // By rising number. The last one is not gone.
     items: Vec<IndexEntry<T>>,
     // How many of them are not gone.
     count: usize,
+}
+
+// By hand, so that a crate above does not prove the drops of its parts again.
+impl<T: Drop> Drop for Index<T> {
+    fn drop(self) {
+        let Index { items: _, count: _ } = self;
+    }
 }
 
 impl<T> IndexEntry<T> {

@@ -26,7 +26,6 @@ const ROWS_MAX: u64 = 1 << 57;
 /// need fewer rows, since two rows beside each other have more than 32 entries.
 ///
 /// A call that takes a [`Place`] looks there first.
-#[derive(Drop)]
 pub struct OrderedList<K: Key, T: Copy> {
     alloc: Global,
     // The least key of each row.
@@ -37,6 +36,19 @@ pub struct OrderedList<K: Key, T: Copy> {
     spare: Vec<Row<K, T>>,
     // How many entries there are.
     len: u64,
+}
+
+// By hand, so that a crate above does not prove the drops of its parts again.
+impl<K: Key, T: Copy> Drop for OrderedList<K, T> {
+    fn drop(self) {
+        let OrderedList {
+            alloc: _,
+            firsts: _,
+            rows: _,
+            spare: _,
+            len: _,
+        } = self;
+    }
 }
 
 impl<K: Key, T: Copy> Model for OrderedList<K, T> {

@@ -22,10 +22,19 @@ use std::marker::Model;
 /// Counters are searched for by their keys, and stand in rows of up to 64. One that becomes one or zero moves others of
 /// its row. The list of rows moves too where a full row is split, or a row becomes empty or is joined with one beside it.
 /// That grows with the number of counters.
-#[derive(Drop)]
 pub struct Attached {
     counter_max: u64,
     counters: CounterList,
+}
+
+// By hand, so that a crate above does not prove the drops of its parts again.
+impl Drop for Attached {
+    fn drop(self) {
+        let Attached {
+            counter_max: _,
+            counters: _,
+        } = self;
+    }
 }
 
 impl Model for Attached {

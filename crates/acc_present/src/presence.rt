@@ -29,7 +29,6 @@ use std::marker::Model;
 ///
 /// The ranges stand in an [`OrderedList`] by rising start. The start of each block's range stands in an [`Index`] beside
 /// it, and is found mostly without a search.
-#[derive(Drop)]
 pub struct Present {
     counter_max: u64,
     // By start.
@@ -37,6 +36,18 @@ pub struct Present {
     // The host address at which the range of each block begins.
     starts: Index<u64>,
     register: Register,
+}
+
+// By hand, so that a crate above does not prove the drops of its parts again.
+impl Drop for Present {
+    fn drop(self) {
+        let Present {
+            counter_max: _,
+            ranges: _,
+            starts: _,
+            register: _,
+        } = self;
+    }
 }
 
 /// What a search for a section found.

@@ -12,12 +12,21 @@ use std::marker::Model;
 use std::mem;
 
 /// An open region (OpenACC 3.3, section 2.6.5, the data construct).
-#[derive(Drop)]
 pub struct OpenRegion {
     /// The number of the region.
     pub number: u64,
     /// What each item of its entry counted, in written order.
     pub holdings: Vec<Holding>,
+}
+
+// By hand, so that a crate above does not prove the drops of its parts again.
+impl Drop for OpenRegion {
+    fn drop(self) {
+        let OpenRegion {
+            number: _,
+            holdings: _,
+        } = self;
+    }
 }
 
 /// The open regions.

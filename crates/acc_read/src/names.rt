@@ -40,11 +40,20 @@ impl Spot<'_> {
 }
 
 /// The arrays that a script has declared, by rising addresses.
-#[derive(Drop)]
 pub struct Names {
     arrays: Vec<Array>,
     // The name of each.
     names: Vec<Vec<u8>>,
+}
+
+// By hand, so that a crate above does not prove the drops of its parts again.
+impl Drop for Names {
+    fn drop(self) {
+        let Names {
+            arrays: _,
+            names: _,
+        } = self;
+    }
 }
 
 impl Names {

@@ -20,7 +20,6 @@ use acc_table::{Call, Reply, Table, abandon};
 use std::alloc::Global;
 
 /// A table, the arrays that the script has declared, and which device its lines are for.
-#[derive(Drop)]
 pub struct Session {
     /// The table on which statements make calls.
     pub table: Table,
@@ -29,6 +28,18 @@ pub struct Session {
     /// The number of the current device.
     pub device: u64,
     pub(crate) alloc: Global,
+}
+
+// By hand, so that a crate above does not prove the drops of its parts again.
+impl Drop for Session {
+    fn drop(self) {
+        let Session {
+            table: _,
+            arrays: _,
+            device: _,
+            alloc: _,
+        } = self;
+    }
 }
 
 impl Session {

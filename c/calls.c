@@ -33,6 +33,7 @@ const char *lw_status_name(uint32_t status)
         [LW_QUEUE_FULL] = "QueueFull",
         [LW_NO_REGION] = "NoRegion",
         [LW_NO_LEASE] = "NoLease",
+        [LW_SCRIPT] = "Script",
         [LW_NO_DEVICE] = "NoDevice",
         [LW_ENDED] = "Ended",
         [LW_BAD_CLAUSE] = "BadClause",
@@ -65,22 +66,33 @@ const char *lw_fault_text(const lw_fault *told, char *buffer, size_t size, uint6
     return buffer;
 }
 
+/* Tells the outcome of a call that was given one byte less than a buffer has, for the zero at the end of its text. */
+static uint32_t end_text(lw_fault told, uint64_t wanted, char *buffer, size_t size, uint64_t *len, lw_fault *fault)
+{
+    int is_put = told.status == LW_DONE || told.status == LW_SCRIPT;
+
+    if (is_put && size == 0) {
+        told = (lw_fault){.status = LW_BAD_LENGTH};
+    }
+    if (told.status == LW_BAD_LENGTH) {
+        wanted = told.value++;
+    } else if (is_put) {
+        buffer[wanted] = '\0';
+    }
+    if (len != NULL && (is_put || told.status == LW_BAD_LENGTH)) {
+        *len = wanted;
+    }
+    *PLACE(fault) = told;
+    return told.status;
+}
+
 uint32_t lw_report(lw_table *table, char *buffer, size_t size, uint64_t *len, lw_fault *fault)
 {
     lw_fault told;
     uint64_t wanted = 0;
-    uint32_t status = lamwiest_report(table, (uint8_t *)buffer, size != 0 ? size - 1 : 0, &wanted, &told);
 
-    if (status == LW_BAD_LENGTH) {
-        wanted = told.value++;
-    } else if (status == LW_DONE) {
-        buffer[wanted] = '\0';
-    }
-    if (len != NULL && wanted != 0) {
-        *len = wanted;
-    }
-    *PLACE(fault) = told;
-    return status;
+    lamwiest_report(table, (uint8_t *)buffer, size != 0 ? size - 1 : 0, &wanted, &told);
+    return end_text(told, wanted, buffer, size, len, fault);
 }
 
 /* ---- Tables ---- */
@@ -111,20 +123,27 @@ static uint32_t begin(lw_table *table, const limit_fields *fields, lw_fault *fau
     return status;
 }
 
-/* Limits that a program does not have yet are 0. */
-uint32_t lw_table_new(lw_table *table, const lw_limits *limits, lw_fault *fault)
+/* Reads limits; those that a program does not have yet are 0. */
+static uint32_t read_limits(const lw_limits *limits, limit_fields *fields, lw_fault *fault)
 {
     const size_t first = offsetof(lw_limits, host);
-    limit_fields fields = {0};
 
     if (limits != NULL) {
         if (!is_known(limits)) {
             *PLACE(fault) = (lw_fault){.status = LW_BAD_VERSION, .value = LW_VERSION};
             return LW_BAD_VERSION;
         }
-        memcpy(&fields, (const char *)limits + first, limits->size - first);
+        memcpy(fields, (const char *)limits + first, limits->size - first);
     }
-    return begin(table, &fields, fault);
+    return LW_DONE;
+}
+
+uint32_t lw_table_new(lw_table *table, const lw_limits *limits, lw_fault *fault)
+{
+    limit_fields fields = {0};
+    uint32_t status = read_limits(limits, &fields, fault);
+
+    return status == LW_DONE ? begin(table, &fields, fault) : status;
 }
 
 uint32_t lw_table_reset(lw_table *table, lw_fault *fault)
@@ -168,6 +187,24 @@ uint32_t lw_array(lw_table *table, uint64_t len, uint64_t *start, lw_fault *faul
         table->arrays = *start - LW_HOST_BASE + len;
     }
     return status;
+}
+
+/* ---- Scripts ---- */
+
+uint32_t lw_script(const lw_limits *limits, const char *script, size_t length, char *buffer, size_t size,
+                   uint64_t *len, lw_fault *fault)
+{
+    limit_fields fields = {0};
+    lw_fault told;
+    uint64_t wanted = 0;
+    uint32_t status = read_limits(limits, &fields, fault);
+
+    if (status != LW_DONE) {
+        return status;
+    }
+    lamwiest_script(&fields, (const uint8_t *)script, length, (uint8_t *)buffer, size != 0 ? size - 1 : 0, &wanted,
+                    &told);
+    return end_text(told, wanted, buffer, size, len, fault);
 }
 
 /* ---- Directives ---- */

@@ -67,6 +67,8 @@ uint32_t lamwiest_event_bytes(lw_table *table, uint64_t place, uint8_t *bytes, s
 
 /* Texts have no zero at their end. Where a buffer is too short, fault->value is the length of the text. */
 uint32_t lamwiest_report(lw_table *table, uint8_t *buffer, size_t size, uint64_t *len, lw_fault *fault);
+uint32_t lamwiest_script(const limit_fields *limits, const uint8_t *script, size_t length, uint8_t *buffer,
+                         size_t size, uint64_t *len, lw_fault *fault);
 uint32_t lamwiest_fault_text(const lw_fault *told, uint8_t *buffer, size_t size, uint64_t *len, lw_fault *fault);
 
 #endif

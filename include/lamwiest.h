@@ -34,10 +34,10 @@ extern "C" {
 
 /* ---- Versions ---- */
 
-/* The version of this header, 0.2.3: a million times the first number, a thousand times the second, and the third. A
+/* The version of this header, 0.2.4: a million times the first number, a thousand times the second, and the third. A
    library with the same first two numbers, and this third one or a greater one, takes programs that were compiled with
    this header. One with a lesser third takes those that make no call which came since. */
-#define LW_VERSION 2003
+#define LW_VERSION 2004
 
 /* The version of the library that the program is linked with. */
 uint32_t lw_version(void);
@@ -67,6 +67,8 @@ enum {
     LW_QUEUE_FULL = 15,    /* a queue has no room for one more transfer; value: its number */
     LW_NO_REGION = 16,     /* no data region of that number is open; value: the number */
     LW_NO_LEASE = 17,      /* no lease of that number is out: there was none, or it was spent; value: the number */
+    LW_SCRIPT = 19,        /* a line of a script is at fault; item: what is wrong, LW_TOO_LONG to LW_UNCLOSED; value: the
+                              number of the line, from 1 on */
     LW_NO_DEVICE = 22,     /* there is no such device; value: its number */
     LW_ENDED = 32,         /* the handle has no table: none was made, or it was ended */
     LW_BAD_CLAUSE = 33,    /* the clause number of an item is none of the directive's; item. It is told before all else
@@ -77,6 +79,19 @@ enum {
                               item */
     LW_BAD_VERSION = 36    /* the limits are those of another header than the library knows: compile the program again;
                               value: the version of the library */
+};
+
+/* What is wrong with a line of a script. */
+enum {
+    LW_TOO_LONG = 1,       /* the line has more than 4,096 bytes */
+    LW_NOT_TEXT = 2,       /* a byte before any comment is no printable ASCII character, blank or tab */
+    LW_SYNTAX = 3,         /* a token does not fit, is missing, or is one too many */
+    LW_NUMBER = 4,         /* a number is out of its bounds */
+    LW_UNKNOWN_NAME = 5,   /* no earlier line declared the name */
+    LW_NAME_TAKEN = 6,     /* the name is declared already */
+    LW_HOST_FULL = 7,      /* the array does not end within host memory */
+    LW_NO_OPEN_REGION = 8, /* no data region is open */
+    LW_UNCLOSED = 9        /* the script ends with an open data region; the line is the one behind its last */
 };
 
 /* The name of a status, as "DeviceFull"; "Done" of LW_DONE, and "" of what is none. */
@@ -552,6 +567,19 @@ uint32_t lw_run(lw_table *table, const lw_stored_event *asked, size_t count, con
    len: the text's length, without the zero, also where it is LW_BAD_LENGTH, since the buffer is too short: then nothing
    else is written, and fault->value is the size that is wanted. len may be NULL. */
 uint32_t lw_report(lw_table *table, char *buffer, size_t size, uint64_t *len, lw_fault *fault);
+
+/* ---- Scripts ---- */
+
+/* Runs a script on a new table of these limits, as accrun does (docs/SCRIPTS.md), and writes what it prints into a
+   buffer, with a zero at its end. The table has ended then. Kernels run in this thread. Refused lines print so, and the
+   script goes on: it is LW_DONE. LW_SCRIPT at the first line that is at fault: the buffer has what the lines before it
+   print. All limits are as by default where limits is NULL.
+
+   len: the text's length, without the zero, also where it is LW_SCRIPT; or LW_BAD_LENGTH, since the buffer is too
+   short: then nothing else is written, and fault->value is the size that is wanted. len may be NULL. Else it is
+   LW_BAD_VERSION, LW_BAD_CONFIG or LW_MEMORY, and nothing but the fault is written. */
+uint32_t lw_script(const lw_limits *limits, const char *script, size_t length, char *buffer, size_t size,
+                   uint64_t *len, lw_fault *fault);
 
 /* ---- Tables for several threads ---- */
 

@@ -343,6 +343,22 @@ private:
     bool is_out = true;
 };
 
+// Runs a script on a new table of these limits, as lw_script. printed: what it prints, also where a line is at fault.
+inline void run_script(const std::string &script, std::string &printed, const lw_limits *limits = nullptr)
+{
+    std::vector<char> text(4096);
+    lw_fault fault;
+    uint64_t len = 0;
+    while (lw_script(limits, script.data(), script.size(), text.data(), text.size(), &len, &fault) == LW_BAD_LENGTH) {
+        text.resize(fault.value);
+        len = 0;
+    }
+    printed.assign(text.data(), len);
+    if (fault.status != LW_DONE) {
+        throw Refused(fault);
+    }
+}
+
 } // namespace lamwiest
 
 #endif

@@ -1526,7 +1526,7 @@ static void check_versions(void)
 
         check(lw_table_new(&table, &limits, &fault) == LW_BAD_VERSION && fault.value == LW_VERSION, "versions",
               "wrong limits are taken");
-        check(strcmp(lw_fault_text(&fault, text, sizeof text, NULL), "36 BadVersion library 2003") == 0, "versions",
+        check(strcmp(lw_fault_text(&fault, text, sizeof text, NULL), "36 BadVersion library 2004") == 0, "versions",
               "the text");
         check(lw_table_new(&table, &limits, NULL) == LW_BAD_VERSION && table.at == NULL, "versions", "without a fault");
         check(lw_limits_of(&table, &limits) == LW_BAD_VERSION, "versions", "limits are told in wrong ones");
@@ -1580,6 +1580,15 @@ static const struct {
     {{LW_BAD_CLAUSE, 63, 0}, "33 BadClause item 63"},
     {{LW_BAD_LENGTH, 0, 20}, "34 BadLength len 20"},
     {{LW_NO_DEVICE, 0, 4}, "22 NoDevice device 4"},
+    {{LW_SCRIPT, LW_TOO_LONG, 1}, "19 Script line 1 kind TooLong"},
+    {{LW_SCRIPT, LW_NOT_TEXT, 2}, "19 Script line 2 kind NotText"},
+    {{LW_SCRIPT, LW_SYNTAX, 3}, "19 Script line 3 kind Syntax"},
+    {{LW_SCRIPT, LW_NUMBER, 4}, "19 Script line 4 kind Number"},
+    {{LW_SCRIPT, LW_UNKNOWN_NAME, 5}, "19 Script line 5 kind UnknownName"},
+    {{LW_SCRIPT, LW_NAME_TAKEN, 6}, "19 Script line 6 kind NameTaken"},
+    {{LW_SCRIPT, LW_HOST_FULL, 7}, "19 Script line 7 kind HostFull"},
+    {{LW_SCRIPT, LW_NO_OPEN_REGION, 8}, "19 Script line 8 kind NoOpenRegion"},
+    {{LW_SCRIPT, LW_UNCLOSED, UINT64_MAX}, "19 Script line 18446744073709551615 kind Unclosed"},
     {{LW_ABSENT, 0, 0}, "35 Absent"},
     {{LW_BAD_VERSION, 0, 2000}, "36 BadVersion library 2000"},
     {{LW_DEVICE_FULL, UINT64_MAX, UINT64_MAX},
@@ -1587,7 +1596,7 @@ static const struct {
 };
 
 /* Statuses that are no refusal. */
-static const uint32_t NO_REFUSALS[] = {18, 21, 23, 31, 37, UINT32_MAX};
+static const uint32_t NO_REFUSALS[] = {18, 20, 21, 23, 31, 37, UINT32_MAX};
 
 /* A text that is written whole, cut, and not at all, with its length in each case. */
 static void check_text(const lw_fault *told, const char *text)
@@ -1631,6 +1640,8 @@ static void check_texts(void)
         check_name(&TEXTS[i].told, TEXTS[i].text);
     }
     check_text(&(lw_fault){LW_DONE, 0, 0}, "Done");
+    check_text(&(lw_fault){LW_SCRIPT, 0, 1}, "Script");
+    check_text(&(lw_fault){LW_SCRIPT, LW_UNCLOSED + 1, 1}, "Script");
     for (size_t i = 0; i < sizeof NO_REFUSALS / sizeof *NO_REFUSALS; i++) {
         check_text(&(lw_fault){NO_REFUSALS[i], 1, 2}, "");
     }
@@ -1649,6 +1660,137 @@ static void check_longest_text(void)
         longest = len > longest ? len : longest;
     }
     check(longest + 1 == LW_FAULT_TEXT_SIZE, "text", "the longest has another length");
+}
+
+/* Scripts, what they print, and how they end. */
+static const struct {
+    const char *script, *printed;
+    lw_fault told;
+} SCRIPTS[] = {
+    {"", "", {LW_DONE, 0, 0}},
+    {"array a 4\nenter data copyin(a)\npresent a", "yes\n", {LW_DONE, 0, 0}},
+    {"array a 4\nupdate self(a)\nshow a\n", "line 2: refused 11 NotPresent item 0\n00000000\n", {LW_DONE, 0, 0}},
+    {"array a 4\nwrite a[1] 0102\ndata copy(a)\nkernel add 3 a\nend data\nshow a\n", "03040503\n", {LW_DONE, 0, 0}},
+    {"array a 4\nshow a\nshow b\nshow a\n", "00000000\n", {LW_SCRIPT, LW_UNKNOWN_NAME, 3}},
+    {"array a 4\n\narray a 4\n", "", {LW_SCRIPT, LW_NAME_TAKEN, 3}},
+    {"array a\n", "", {LW_SCRIPT, LW_SYNTAX, 1}},
+    {"array a 0\n", "", {LW_SCRIPT, LW_NUMBER, 1}},
+    {"array a 65536\narray b 1\n", "", {LW_SCRIPT, LW_HOST_FULL, 2}},
+    {"end data\n", "", {LW_SCRIPT, LW_NO_OPEN_REGION, 1}},
+    {"array a 4\ndata copy(a)\n", "", {LW_SCRIPT, LW_UNCLOSED, 3}},
+    {"wait\n\001", "", {LW_SCRIPT, LW_NOT_TEXT, 2}},
+};
+
+/* Scripts on tables with few tickets, counters or events, what they print, and how they end. */
+static const struct {
+    uint64_t tickets, counters, trace;
+    const char *script, *printed;
+    lw_fault told;
+} SMALL[] = {
+    {8, 1, 8, "array a 20\nenter data copyin(a)\nenter data copyin(a)\n", "line 3: refused 12 CounterFull item 0\n",
+     {LW_DONE, 0, 0}},
+    /* No ticket to bring the block back: it stays lent, and the other one does not. */
+    {4, 8, 8,
+     "array a 4\narray b 4\nwrite a[0] 01020304\nwrite b[0] 05060708\ndata copyin(a, b)\nkernel add 1 b\nreport\n"
+     "peek a\npeek b\npresent b\nkernel add 1 b\n",
+     "line 6: refused 3 NoTickets left 0\nhost 64 device 64 used 32\n"
+     "map 0x1000 4 at 0x100000000 structured 1 dynamic 0\n"
+     "map 0x1010 4 at 0x100000010 structured 1 dynamic 0 lent\nregions 1 events 4\n01020304\nnone\nyes\n"
+     "line 11: refused 3 NoTickets left 0\n",
+     {LW_SCRIPT, LW_UNCLOSED, 12}},
+    /* Nor room for it in the trace. A refused `end data` leaves its region open. */
+    {8, 8, 2, "array a 4\ndata create(a)\nkernel number 1 a\npeek a[1:2]\nreport\nend data\n",
+     "line 3: refused 6 TraceFull len 2\nnone\nhost 64 device 64 used 16\n"
+     "map 0x1000 4 at 0x100000000 structured 1 dynamic 0 lent\nregions 1 events 2\nline 6: refused 6 TraceFull len 2\n",
+     {LW_SCRIPT, LW_UNCLOSED, 7}},
+};
+
+/* A script with a buffer of each length: its text and how it ends, or how long a buffer it wants. */
+static void check_script(const char *script, const char *printed, const lw_fault *told)
+{
+    const size_t wanted = strlen(printed);
+    char buffer[128];
+
+    for (size_t size = 0; size < wanted + 3; size++) {
+        const bool fits = size > wanted;
+        uint64_t len = UNTOUCHED;
+        lw_fault fault;
+        uint32_t status;
+
+        memset(buffer, '.', sizeof buffer);
+        status = lw_script(NULL, script, strlen(script), size != 0 ? buffer : NULL, size, &len, &fault);
+        check(len == wanted && status == fault.status && status == (fits ? told->status : LW_BAD_LENGTH), "script",
+              script);
+        check(fits ? fault.item == told->item && fault.value == told->value : fault.value == wanted + 1,
+              "why a script ends", script);
+        check(fits ? strcmp(buffer, printed) == 0 && buffer[wanted + 1] == '.' : buffer[0] == '.', "printed", script);
+        check(lw_script(NULL, script, strlen(script), buffer, size, NULL, NULL) == status, "script, nothing told",
+              script);
+    }
+}
+
+/* Each growth is refused in turn: then nothing is written, or all is, where the growth was for room ahead. */
+static void check_script_without_memory(const char *script, const char *printed)
+{
+    char buffer[128];
+    size_t growth = 0, refused = 0;
+
+    for (bool is_short = true; is_short;) {
+        uint64_t len = UNTOUCHED;
+        uint32_t status;
+
+        memset(buffer, '.', sizeof buffer);
+        refuse_growth(++growth);
+        status = lw_script(NULL, script, strlen(script), buffer, sizeof buffer, &len, NULL);
+        is_short = was_growth_refused();
+        refuse_growth(0);
+        check(status == LW_MEMORY ? is_short && buffer[0] == '.' && len == UNTOUCHED : strcmp(buffer, printed) == 0,
+              "script without memory", script);
+        refused += status == LW_MEMORY;
+    }
+    check(refused > 20, "script without memory", "no growth was refused");
+}
+
+static void check_scripts(void)
+{
+    const lw_limits unknown = {.size = 8, .version = LW_VERSION};
+    lw_limits limits = LW_LIMITS;
+    char line[4098], buffer[512];
+    lw_fault fault;
+
+    for (size_t i = 0; i < sizeof SCRIPTS / sizeof *SCRIPTS; i++) {
+        check_script(SCRIPTS[i].script, SCRIPTS[i].printed, &SCRIPTS[i].told);
+    }
+    check_script_without_memory(SCRIPTS[3].script, SCRIPTS[3].printed);
+    memset(line, ' ', sizeof line);
+    line[4097] = '\0';
+    check_script(line, "", &(lw_fault){LW_SCRIPT, LW_TOO_LONG, 1});
+    check_script(line + 1, "", &(lw_fault){LW_DONE, 0, 0});
+    limits.host = 32;
+    limits.devices = 2;
+    check(lw_script(&limits, "array a 33", 10, buffer, sizeof buffer, NULL, &fault) == LW_SCRIPT &&
+              fault.item == LW_HOST_FULL &&
+              lw_script(&limits, "set device_num(1)\nset device_num(2)", 35, buffer, sizeof buffer, NULL, NULL) ==
+                  LW_DONE &&
+              strcmp(buffer, "line 2: refused 22 NoDevice device 2\n") == 0,
+          "script", "the limits are not taken");
+    for (size_t i = 0; i < sizeof SMALL / sizeof *SMALL; i++) {
+        lw_limits small = LW_LIMITS;
+
+        small.host = small.device = 64;
+        small.regions = small.queue_cap = 1;
+        small.tickets = SMALL[i].tickets;
+        small.counter_max = SMALL[i].counters;
+        small.trace_cap = SMALL[i].trace;
+        lw_script(&small, SMALL[i].script, strlen(SMALL[i].script), buffer, sizeof buffer, NULL, &fault);
+        check(strcmp(buffer, SMALL[i].printed) == 0 && fault.status == SMALL[i].told.status &&
+                  fault.item == SMALL[i].told.item && fault.value == SMALL[i].told.value,
+              "small table", SMALL[i].script);
+    }
+    limits.host = 33;
+    check(lw_script(&limits, "", 0, buffer, sizeof buffer, NULL, NULL) == LW_BAD_CONFIG &&
+              lw_script(&unknown, "", 0, buffer, sizeof buffer, NULL, NULL) == LW_BAD_VERSION,
+          "script", "wrong limits are taken");
 }
 
 /* Without a place for a fault each call answers the same. */
@@ -1698,6 +1840,7 @@ int main(void)
     check_limits();
     check_texts();
     check_longest_text();
+    check_scripts();
     check_versions();
     check_no_fault();
     check(lw_version() == LW_VERSION, "version", "the header has another one");

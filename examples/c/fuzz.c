@@ -286,6 +286,22 @@ static uint32_t look(lw_table *table, uint64_t what, lw_fault *fault)
     return fault->status;
 }
 
+/* Runs the rest of the input as a script. */
+static void play(const lw_limits *limits)
+{
+    static char text[REPORT];
+    const size_t size = take(2);
+    lw_fault fault;
+    uint64_t len = 0;
+    const uint32_t status = lw_script(limits, (const char *)input, left, text, size, &len, &fault);
+
+    must(status == fault.status && *lw_status_name(status) != '\0');
+    if (status == LW_DONE || status == LW_SCRIPT) {
+        must(len < size && text[len] == '\0');
+    }
+    left = 0;
+}
+
 int LLVMFuzzerTestOneInput(const uint8_t *data, size_t size)
 {
     lw_table table = LW_NO_TABLE;
@@ -302,6 +318,9 @@ int LLVMFuzzerTestOneInput(const uint8_t *data, size_t size)
     limits.trace_cap = take(1) % 4 == 0 ? 1 + take(1) : 0;
     limits.full = take(1) % 3;
     limits.devices = take(1) % 6;
+    if (take(1) % 8 == 7) {
+        play(&limits);
+    }
     while (left != 0) {
         const uint64_t what = take(1);
         const int compares = table.at != NULL && take(1) % 4 == 0;

@@ -59,6 +59,23 @@ void show(const char *name, const std::vector<double> &elements)
     std::cout << '\n';
 }
 
+// The text that a script prints is longer than 4,096 bytes; then a line is at fault.
+void run_scripts()
+{
+    std::string script = "array a 64\n", printed;
+
+    for (int i = 0; i < 100; i++) {
+        script += "show a\n";
+    }
+    lamwiest::run_script(script, printed);
+    std::cout << "printed: " << printed.size() << " bytes\n";
+    try {
+        lamwiest::run_script("array a 2\nshow a\nshow b\n", printed);
+    } catch (const lamwiest::Refused &refused) {
+        std::cout << "printed: " << printed << refused.what() << '\n';
+    }
+}
+
 void run()
 {
     lamwiest::Table table;
@@ -121,6 +138,7 @@ int main()
 {
     try {
         run();
+        run_scripts();
     } catch (const std::exception &failure) {
         std::cerr << "regions: " << failure.what() << '\n';
         return EXIT_FAILURE;

@@ -51,6 +51,13 @@ fn run() -> Result<(), Refused> {
     println!("{:?} {:?}", table.read(a)?, table.read(b)?);
     print!("{}", table.report()?);
     println!("events folded: {}", table.rebase()?);
+    let script = format!("array a 64\n{}", "show a\n".repeat(100));
+    let (printed, ended) = lamwiest::run_script(Limits::default(), &script);
+    println!("printed: {} bytes, {ended:?}", printed.len());
+    let small = Limits { host: 16, ..Limits::default() };
+    if let (printed, Err(fault)) = lamwiest::run_script(small, "array a 2\nshow a\narray b 1") {
+        println!("printed: {printed}{fault}");
+    }
     Ok(())
 }
 

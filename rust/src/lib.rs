@@ -48,6 +48,24 @@ pub struct Limits {
     pub devices: u64,
 }
 
+impl Limits {
+    fn raw(self) -> raw::Limits {
+        raw::Limits {
+            size: size_of::<raw::Limits>() as u32,
+            version: raw::VERSION,
+            host: self.host,
+            device: self.device,
+            regions: self.regions,
+            tickets: self.tickets,
+            counter_max: self.counter_max,
+            queue_cap: self.queue_cap,
+            trace_cap: self.trace_cap,
+            full: 0,
+            devices: self.devices,
+        }
+    }
+}
+
 /// A call was refused, and changed nothing.
 #[derive(Clone, Copy, Debug, PartialEq, Eq)]
 pub struct Refused {
@@ -91,6 +109,32 @@ fn made(call: impl FnOnce(&mut u64, &mut raw::Fault) -> u32) -> Result<u64, Refu
     } else {
         Err(Refused { status: fault.status, item: fault.item, value: fault.value })
     }
+}
+
+/// Runs a script on a new table, as `accrun` does, and returns what it prints. Where a line is at fault, the
+/// [`Refused`] has its number, and the text is what the lines before it print. Where the script was not run, the text
+/// is empty.
+pub fn run_script(limits: Limits, script: &str) -> (String, Result<(), Refused>) {
+    let (mut text, mut len, mut fault) = (vec![0; 4_096], 0, raw::Fault::default());
+    loop {
+        let (at, size) = (text.as_mut_ptr(), text.len());
+        // SAFETY: both arrays are passed with their own lengths.
+        let status = unsafe {
+            let (script, length) = (script.as_ptr().cast(), script.len());
+            raw::lw_script(&limits.raw(), script, length, at.cast(), size, &mut len, &mut fault)
+        };
+        if status != raw::BAD_LENGTH {
+            break;
+        }
+        text.resize(fault.value as usize, 0);
+        len = 0;
+    }
+    text.truncate(len as usize);
+    let ended = made(|_, told| {
+        *told = fault;
+        fault.status
+    });
+    (String::from_utf8_lossy(&text).into_owned(), ended.map(|_| ()))
 }
 
 /// What may stand in an array.
@@ -279,22 +323,9 @@ pub struct Table(raw::Table);
 impl Table {
     /// A new table, on which nothing is mapped.
     pub fn new(limits: Limits) -> Result<Table, Refused> {
-        let begun = raw::Limits {
-            size: size_of::<raw::Limits>() as u32,
-            version: raw::VERSION,
-            host: limits.host,
-            device: limits.device,
-            regions: limits.regions,
-            tickets: limits.tickets,
-            counter_max: limits.counter_max,
-            queue_cap: limits.queue_cap,
-            trace_cap: limits.trace_cap,
-            full: 0,
-            devices: limits.devices,
-        };
         let mut table = Table(raw::Table::NONE);
         // SAFETY: as `Table` tells.
-        made(|_, fault| unsafe { raw::lw_table_new(&mut table.0, &begun, fault) })?;
+        made(|_, fault| unsafe { raw::lw_table_new(&mut table.0, &limits.raw(), fault) })?;
         Ok(table)
     }
 

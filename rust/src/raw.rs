@@ -81,8 +81,9 @@ pub const EXITED_DATA: u32 = 4;
 pub const UPDATED: u32 = 5;
 pub const WAITED: u32 = 6;
 
-pub const VERSION: u32 = 2003;
+pub const VERSION: u32 = 2004;
 pub const DONE: u32 = 0;
+pub const BAD_LENGTH: u32 = 34;
 pub const FAULT_TEXT_SIZE: usize = 66;
 pub const NO_QUEUE_GIVEN: u64 = u64::MAX;
 
@@ -173,4 +174,13 @@ extern "C" {
     ) -> u32;
     pub fn lw_gather(table: &mut Table, lease: u64, fault: &mut Fault) -> u32;
     pub fn lw_report(table: &mut Table, buffer: *mut c_char, size: usize, len: &mut u64, fault: &mut Fault) -> u32;
+    pub fn lw_script(
+        limits: &Limits,
+        script: *const c_char,
+        length: usize,
+        buffer: *mut c_char,
+        size: usize,
+        len: &mut u64,
+        fault: &mut Fault,
+    ) -> u32;
 }

@@ -1,10 +1,14 @@
 -- What texts stand in a buffer.
-use Rattle.std.specs.Prelude.{ℕ, ◌≡◌, ◌⊎◌, List, ◌++◌, length, drop, nat_le, Option, None, Some, Ok, Err, MatchBool, codes}
+use Rattle.std.specs.Prelude.{ℕ, ◌≡◌, ◌⊎◌, Result, List, ◌++◌, length, drop, nat_le, Option, None, Some, Ok, Err, MatchBool, codes}
 use Rattle.std.specs.Fmt.{decimal}
-use Rattle.acc_base.specs.declared.faults.Fault.TheVariants.{Memory}
+use Rattle.std.specs.List.{concat}
+use Rattle.acc_base.specs.declared.faults.Fault.TheVariants.{Memory, Script}
 use Rattle.acc_base.specs.Faults.{fault_text}
 use Rattle.lamwiest_c.specs.declared.statuses.Refusal.{Refusal}
 use Rattle.lamwiest_c.specs.declared.statuses.Refusal.TheVariants.{Ended, BadClause, BadLength, Absent, BadVersion, OfTable}
+use Rattle.lamwiest_c.specs.declared.tables.RawLimits.{RawLimits}
+use Rattle.acc_script.specs.Scripts.{Transcript, Ending, Ended as EndedAt, Faulty, transcript}
+use Rattle.lamwiest_c.specs.Begins.{limits_in, AreWithinBounds, IsNotBegun}
 use Rattle.lamwiest_c.specs.Answers.{Told}
 
 -- the text is at the front of a buffer that has room for it, and the other bytes stay. A shorter one stays whole. The
@@ -32,3 +36,22 @@ text_of (OfTable fault) = fault_text fault
 abbrev pub IsShownIfAny : Option Refusal → List ℕ → List ℕ → Told → Type 0
 IsShownIfAny None old new T = T (Err Absent) × (new ≡ old)
 IsShownIfAny (Some refusal) old new T = IsShown (text_of refusal) old new T
+
+-- how a script ended: by its last line, or at a line at fault
+abbrev pub told_at_end : Ending → Result ℕ Refusal
+told_at_end (EndedAt refused) = Ok 0
+told_at_end (Faulty line kind) = Err (OfTable (Script line kind))
+
+-- what a script prints is at the front of a buffer that has room for it, its length is told, and how it ended. A shorter
+-- buffer stays whole
+abbrev pub IsScriptPut : Transcript → List ℕ → List ℕ → ℕ → ℕ → Told → Type 0
+IsScriptPut t old new was len T =
+    MatchBool (nat_le (length (concat t.texts)) (length old))
+    (T (told_at_end t.ending) × (new ≡ concat t.texts ++ drop (length (concat t.texts)) old) × (len ≡ length (concat t.texts)))
+    (T (Err (BadLength (length (concat t.texts)))) × (new ≡ old) × (len ≡ was))
+
+-- a script was run on a new table of these limits; or a limit is out of its bounds, or memory was lacking
+abbrev pub IsPlayed : RawLimits → List ℕ → List ℕ → List ℕ → ℕ → ℕ → Told → Type 0
+IsPlayed l script old new was len T =
+    (AreWithinBounds l × IsScriptPut (transcript (limits_in l) script) old new was len T)
+    ⊎ ((refusal : Refusal) × T (Err refusal) × (new ≡ old) × (len ≡ was) × IsNotBegun l refusal)

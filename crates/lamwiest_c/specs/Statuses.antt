@@ -1,14 +1,40 @@
 -- The status of what came of a call, and the fields of a refusal.
 use Rattle.std.specs.Prelude.{ℕ, ◌≡◌, ◌==◌, if◌then◌else◌, Option, Some, None, Result, Ok, Err}
 use Rattle.acc_base.specs.declared.faults.Fault.{Fault}
-use Rattle.acc_base.specs.declared.faults.Fault.TheVariants.{Memory, BadConfig, NoTickets, NoAllowance, TooManyItems, TraceFull, OutOfHost, Misaligned, NoQueue, PartlyPresent, NotPresent, CounterFull, Lent, DeviceFull, QueueFull, NoRegion, NoLease, NoDevice}
+use Rattle.acc_base.specs.declared.faults.Fault.TheVariants.{Memory, BadConfig, NoTickets, NoAllowance, TooManyItems, TraceFull, OutOfHost, Misaligned, NoQueue, PartlyPresent, NotPresent, CounterFull, Lent, DeviceFull, QueueFull, NoRegion, NoLease, NoDevice, Script}
+use Rattle.acc_base.specs.declared.faults.ScriptFault.{ScriptFault}
+use Rattle.acc_base.specs.declared.faults.ScriptFault.TheVariants.{TooLong, NotText, Syntax, Number, UnknownName, NameTaken, HostFull, NoOpenRegion, Unclosed}
 use Rattle.acc_base.specs.Faults.{number_of}
 use Rattle.lamwiest_c.specs.declared.statuses.TheConstants.{ENDED, BAD_CLAUSE, BAD_LENGTH, ABSENT, BAD_VERSION}
 use Rattle.lamwiest_c.specs.declared.statuses.Refusal.{Refusal}
 use Rattle.lamwiest_c.specs.declared.statuses.Refusal.TheVariants.{Ended, BadClause, BadLength, Absent, BadVersion, OfTable}
 use Rattle.lamwiest_c.specs.declared.statuses.FaultFields.{FaultFields}
 
--- the item that a fault names, or 0
+-- the number of what is wrong with a line of a script, and what has a number
+abbrev pub kind_number : ScriptFault → ℕ
+kind_number TooLong = 1
+kind_number NotText = 2
+kind_number Syntax = 3
+kind_number Number = 4
+kind_number UnknownName = 5
+kind_number NameTaken = 6
+kind_number HostFull = 7
+kind_number NoOpenRegion = 8
+kind_number Unclosed = 9
+
+abbrev pub kind_of : ℕ → Option ScriptFault
+kind_of number =
+    if number == 1 then Some TooLong else
+    if number == 2 then Some NotText else
+    if number == 3 then Some Syntax else
+    if number == 4 then Some Number else
+    if number == 5 then Some UnknownName else
+    if number == 6 then Some NameTaken else
+    if number == 7 then Some HostFull else
+    if number == 8 then Some NoOpenRegion else
+    if number == 9 then Some Unclosed else None
+
+-- the item that a fault names, or what is wrong with a line, or 0
 abbrev pub item_of : Fault → ℕ
 item_of (OutOfHost item) = item
 item_of (Misaligned item) = item
@@ -16,6 +42,7 @@ item_of (PartlyPresent item) = item
 item_of (NotPresent item) = item
 item_of (CounterFull item) = item
 item_of (DeviceFull item need) = item
+item_of (Script line kind) = kind_number kind
 item_of _ = 0
 
 -- its other number, or 0
@@ -31,6 +58,7 @@ value_of (DeviceFull item need) = need
 value_of (NoRegion number) = number
 value_of (NoLease serial) = serial
 value_of (NoDevice device) = device
+value_of (Script line kind) = line
 value_of _ = 0
 
 abbrev pub status_of : Refusal → ℕ
@@ -65,6 +93,11 @@ abbrev pub number_after : Result ℕ Refusal → ℕ → ℕ
 number_after (Ok n) old = n
 number_after (Err refusal) old = old
 
+-- the fault of a line, if there is such a thing to be wrong with it
+abbrev pub fault_at : ℕ → Option ScriptFault → Option Refusal
+fault_at line None = None
+fault_at line (Some kind) = Some (OfTable (Script line kind))
+
 -- the refusal of a status with these fields, if there is one
 abbrev pub refusal_with : ℕ → ℕ → ℕ → Option Refusal
 refusal_with status item value =
@@ -85,6 +118,7 @@ refusal_with status item value =
     if status == 15 then Some (OfTable (QueueFull value)) else
     if status == 16 then Some (OfTable (NoRegion value)) else
     if status == 17 then Some (OfTable (NoLease value)) else
+    if status == 19 then fault_at value (kind_of item) else
     if status == 22 then Some (OfTable (NoDevice value)) else
     if status == ENDED then Some Ended else
     if status == BAD_CLAUSE then Some (BadClause item) else

@@ -2,9 +2,9 @@
 
 ghost use Rattle.std.specs.Prelude.{◌≡◌, Option};
 ghost use Rattle.acc_base.specs.Faults.{number_of};
-ghost use Rattle.lamwiest_c.specs.Statuses.{item_of, value_of, status_of, fields_of, status_in, fields_in, number_after, refusal_in};
+ghost use Rattle.lamwiest_c.specs.Statuses.{kind_number, kind_of, item_of, value_of, status_of, fields_of, status_in, fields_in, number_after, refusal_in};
 
-use acc_base::Fault;
+use acc_base::{Fault, ScriptFault};
 use std::alloc::{AllocError, AllocFailed};
 
 /// It is done.
@@ -57,12 +57,47 @@ pub enum Refusal {
 pub struct FaultFields {
     /// The status: the number of the refusal.
     pub status: u32,
-    /// The place of the item that is refused, counted from 0; 0 where the refusal names none.
+    /// The place of the item that is refused, counted from 0; 0 where the refusal names none. Of a script's line it is
+    /// what is wrong there, from 1 to 9.
     pub item: u64,
     /// The other number of the refusal; 0 where it has none. It is how many tickets or regions are left, or how many
     /// items or events there are. Or it is the queue, block, region, lease or device that is meant, how many bytes are
-    /// wanted, or the version of the library.
+    /// wanted, the version of the library, or the line of a script.
     pub value: u64,
+}
+
+/// The number of what is wrong with a line of a script.
+fn kind_number(kind: ScriptFault) -> u64
+    ensures { result ≡ kind_number kind }
+{
+    match kind {
+        ScriptFault::TooLong => 1,
+        ScriptFault::NotText => 2,
+        ScriptFault::Syntax => 3,
+        ScriptFault::Number => 4,
+        ScriptFault::UnknownName => 5,
+        ScriptFault::NameTaken => 6,
+        ScriptFault::HostFull => 7,
+        ScriptFault::NoOpenRegion => 8,
+        ScriptFault::Unclosed => 9,
+    }
+}
+
+fn kind_of(number: u64) -> Option<ScriptFault>
+    ensures { result ≡ kind_of number }
+{
+    match number {
+        1 => Some(ScriptFault::TooLong),
+        2 => Some(ScriptFault::NotText),
+        3 => Some(ScriptFault::Syntax),
+        4 => Some(ScriptFault::Number),
+        5 => Some(ScriptFault::UnknownName),
+        6 => Some(ScriptFault::NameTaken),
+        7 => Some(ScriptFault::HostFull),
+        8 => Some(ScriptFault::NoOpenRegion),
+        9 => Some(ScriptFault::Unclosed),
+        _ => None,
+    }
 }
 
 fn item_of(fault: Fault) -> u64
@@ -75,6 +110,7 @@ fn item_of(fault: Fault) -> u64
         | Fault::NotPresent { item }
         | Fault::CounterFull { item }
         | Fault::DeviceFull { item, .. } => item,
+        Fault::Script { kind, .. } => kind_number(kind),
         _ => 0,
     }
 }
@@ -92,6 +128,7 @@ fn value_of(fault: Fault) -> u64
         Fault::NoRegion { number } => number,
         Fault::NoLease { serial } => serial,
         Fault::NoDevice { device } => device,
+        Fault::Script { line, .. } => line,
         _ => 0,
     }
 }
@@ -185,6 +222,10 @@ impl FaultFields {
             15 => Some(Refusal::OfTable(Fault::QueueFull { q: value })),
             16 => Some(Refusal::OfTable(Fault::NoRegion { number: value })),
             17 => Some(Refusal::OfTable(Fault::NoLease { serial: value })),
+            19 => Some(Refusal::OfTable(Fault::Script {
+                line: value,
+                kind: kind_of(item)?,
+            })),
             22 => Some(Refusal::OfTable(Fault::NoDevice { device: value })),
             ENDED => Some(Refusal::Ended),
             BAD_CLAUSE => Some(Refusal::BadClause { item }),

@@ -48,7 +48,7 @@ fn or_default(limit: u64, default: u64) -> u64
 /// # Errors
 ///
 /// `BadConfig` alone, where one of them is out of its bounds.
-fn config_of(limits: &RawLimits) -> Result<Config, Refusal>
+pub fn config_of(limits: &RawLimits) -> Result<Config, Refusal>
     ensures { IsConfig limits.now result }
 {
     let config = Config::new(

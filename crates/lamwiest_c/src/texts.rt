@@ -1,16 +1,17 @@
-//! Texts: the report of a table, and what a refusal says.
+//! Texts: the report of a table, what a refusal says, and what a script prints.
 
 ghost use Rattle.std.specs.Prelude.{◌≡◌};
 ghost use Rattle.acc_script.specs.Texts.{report_text};
-ghost use Rattle.lamwiest_c.specs.Statuses.{IsNumberAnswered, refusal_in};
+ghost use Rattle.lamwiest_c.specs.Statuses.{IsAnswered, IsNumberAnswered, refusal_in};
 ghost use Rattle.lamwiest_c.specs.Answers.{IsOf};
-ghost use Rattle.lamwiest_c.specs.Shows.{IsPut, IsShown, IsShownIfAny, text_of};
+ghost use Rattle.lamwiest_c.specs.Shows.{IsPlayed, IsPut, IsShown, IsShownIfAny, text_of};
 
 use crate::environments::TableWithLeases;
 use crate::handles::{Handle, put_back, take_out};
-use crate::statuses::{FaultFields, Refusal, tell_number};
+use crate::statuses::{FaultFields, Refusal, tell, tell_number};
+use crate::tables::{RawLimits, config_of};
 use acc_base::Fault;
-use acc_script::{MemorySink, report};
+use acc_script::{InOnePart, MemorySink, Unwatched, report, run_text};
 use std::alloc::Global;
 use std::fmt;
 
@@ -108,4 +109,52 @@ pub extern "C" fn lamwiest_fault_text(
         None => Err(Refusal::Absent),
     };
     tell_number(made, len, fault)
+}
+
+/// Runs a script on a new table, puts what it prints at the front of a buffer, and its length into `len`.
+///
+/// # Errors
+///
+/// The fault of the line at which it ends: the buffer has what the lines before it print. `BadLength`, `BadConfig` or
+/// `Memory`: the buffer and `len` stay.
+fn play(
+    alloc: Global,
+    limits: &RawLimits,
+    script: &[u8],
+    buffer: &mut [u8],
+    len: &mut u64,
+) -> Result<u64, Refusal>
+    ensures { IsPlayed limits.now script.now buffer.old buffer.new len.old len.new (λ r. result ≡ r) }
+{
+    let config = config_of(limits)?;
+    let mut sink = MemorySink::new(alloc);
+    let ended = match run_text(alloc, &InOnePart, config, script, &mut sink, &mut Unwatched) {
+        Ok(_) => Ok(0),
+        Err(Fault::Script { line, kind }) => Err(Refusal::OfTable(Fault::Script { line, kind })),
+        // A sink in memory fails for want of memory alone.
+        Err(_) => return Err(Refusal::OfTable(Fault::Memory)),
+    };
+    *len = put(sink.as_slice(), buffer)?;
+    ended
+}
+
+/// Runs a script on a new table of these limits, as `accrun` does, and puts what it prints at the front of a buffer.
+/// `len` is the length of that in bytes. The buffer's other bytes stay. Kernels run in one part. Where a line is at
+/// fault, the buffer has what the lines before it print, and the fault's value is the line.
+///
+/// Where the buffer is too short, the fault's value is the length of the text. Then, and without memory, and where a
+/// limit is out of its bounds, the buffer and `len` stay.
+#[unsafe(no_mangle)]
+pub extern "C" fn lamwiest_script(
+    alloc: Global,
+    limits: &RawLimits,
+    script: &[u8],
+    buffer: &mut [u8],
+    len: &mut u64,
+    fault: &mut FaultFields,
+) -> u32
+    ensures { IsPlayed limits.now script.now buffer.old buffer.new len.old len.new (IsAnswered result fault.new) }
+{
+    let made = play(alloc, limits, script, buffer, len);
+    tell(made, fault)
 }

@@ -1,6 +1,10 @@
-/* Loaded before a test program, it refuses one growth of memory, or one start of a thread: that of the number that the
+/* Loaded before a program, it refuses one growth of memory, or one start of a thread: that of the number that the
    variable REFUSE_GROWTH or REFUSE_THREAD gives, counted from 1. Where it did, it leaves an empty file of the name that
-   REFUSE_REPORT gives. Each call of a function below counts, also one that asks for less memory than before. */
+   REFUSE_REPORT gives. Each call of a function below counts, also one that asks for less memory than before.
+
+   With REFUSE_READ or REFUSE_WRITE each call moves one byte of standard input or to standard output, but for the read
+   of that number, or the writes from that number on. These end with the number of an error that REFUSE_ERROR gives, or
+   move nothing where that is 0. A write is interrupted once. */
 #define _GNU_SOURCE
 #include <dlfcn.h>
 #include <errno.h>
@@ -14,15 +18,17 @@
 
 static atomic_long growths;
 static atomic_long threads;
+static atomic_long moves;
 
-/* Counts one call more, and tells whether it is the one that a variable names. */
-static bool is_refused(atomic_long *counter, const char *variable)
+/* Counts one call more, and tells whether it is the one that a variable names, or one behind it where all fail then. */
+static bool is_refused(atomic_long *counter, const char *variable, bool all)
 {
     const char *number = getenv(variable);
     const char *report = getenv("REFUSE_REPORT");
+    const long behind = number ? atomic_fetch_add(counter, 1) + 1 - atol(number) : -1;
     int file;
 
-    if (!number || atomic_fetch_add(counter, 1) + 1 != atol(number))
+    if (behind < 0 || (behind > 0 && !all))
         return false;
     file = report ? open(report, O_CREAT | O_WRONLY, 0666) : -1;
     if (file >= 0)
@@ -35,7 +41,7 @@ static bool is_refused(atomic_long *counter, const char *variable)
 #define REFUSING(counter, variable, answer, type, name, parameters, arguments)                                         \
     type name parameters                                                                                               \
     {                                                                                                                  \
-        if (is_refused(&counter, variable)) {                                                                          \
+        if (is_refused(&counter, variable, false)) {                                                                   \
             errno = ENOMEM;                                                                                            \
             return answer;                                                                                             \
         }                                                                                                              \
@@ -55,3 +61,19 @@ GROWING(ENOMEM, int, posix_memalign, (void **at, size_t align, size_t size), (at
 REFUSING(threads, "REFUSE_THREAD", EAGAIN, int, pthread_create,
          (pthread_t *thread, const pthread_attr_t *attributes, void *(*start)(void *), void *argument),
          (thread, attributes, start, argument))
+
+/* A call that moves bytes of a stream, which is refused by a variable. */
+#define MOVING(stream, variable, all, name, bytes)                                                                     \
+    ssize_t name(int file, bytes at, size_t len)                                                                       \
+    {                                                                                                                  \
+        const bool is_meant = file == stream && getenv(variable) != NULL;                                              \
+        const int error = is_meant ? atoi(getenv("REFUSE_ERROR")) : 0;                                                 \
+        if (is_meant && is_refused(&moves, variable, (all) && error != EINTR)) {                                       \
+            errno = error;                                                                                             \
+            return error != 0 ? -1 : 0;                                                                                \
+        }                                                                                                              \
+        return ((ssize_t(*)(int, bytes, size_t))dlsym(RTLD_NEXT, #name))(file, at, is_meant && len > 1 ? 1 : len);     \
+    }
+
+MOVING(STDIN_FILENO, "REFUSE_READ", false, read, void *)
+MOVING(STDOUT_FILENO, "REFUSE_WRITE", true, write, const void *)

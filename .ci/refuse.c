@@ -2,9 +2,9 @@
    variable REFUSE_GROWTH or REFUSE_THREAD gives, counted from 1. Where it did, it leaves an empty file of the name that
    REFUSE_REPORT gives. Each call of a function below counts, also one that asks for less memory than before.
 
-   With REFUSE_READ or REFUSE_WRITE each call moves one byte of standard input or to standard output, but for the read
-   of that number, or the writes from that number on. These end with the number of an error that REFUSE_ERROR gives, or
-   move nothing where that is 0. A write is interrupted once. */
+   With REFUSE_READ or REFUSE_WRITE each call moves one byte of standard input or to standard output. The read of that
+   number fails, and so do the writes from that number on; with REFUSE_ONCE that write alone. REFUSE_ERROR is the number
+   of the error. Where that is 0 nothing is moved. */
 #define _GNU_SOURCE
 #include <dlfcn.h>
 #include <errno.h>
@@ -67,10 +67,10 @@ REFUSING(threads, "REFUSE_THREAD", EAGAIN, int, pthread_create,
     ssize_t name(int file, bytes at, size_t len)                                                                       \
     {                                                                                                                  \
         const bool is_meant = file == stream && getenv(variable) != NULL;                                              \
-        const int error = is_meant ? atoi(getenv("REFUSE_ERROR")) : 0;                                                 \
-        if (is_meant && is_refused(&moves, variable, (all) && error != EINTR)) {                                       \
-            errno = error;                                                                                             \
-            return error != 0 ? -1 : 0;                                                                                \
+        const char *error = getenv("REFUSE_ERROR");                                                                    \
+        if (is_meant && is_refused(&moves, variable, (all) && getenv("REFUSE_ONCE") == NULL)) {                        \
+            errno = error ? atoi(error) : 0;                                                                           \
+            return errno != 0 ? -1 : 0;                                                                                \
         }                                                                                                              \
         return ((ssize_t(*)(int, bytes, size_t))dlsym(RTLD_NEXT, #name))(file, at, is_meant && len > 1 ? 1 : len);     \
     }

@@ -45,7 +45,7 @@ uint32_t lw_version(void);
 /* ---- Statuses ---- */
 
 /* What a call answers: LW_DONE, or why it was refused. A refused call fills in its fault, and changes nothing else.
-   lw_run alone keeps what it did before. */
+   But lw_run keeps what it did before, and lw_script writes what the lines before a fault print. */
 enum {
     LW_DONE = 0,           /* it is done */
     LW_MEMORY = 1,         /* no memory could be had. For one more lease, or for a list of more than one item, it is
@@ -67,8 +67,8 @@ enum {
     LW_QUEUE_FULL = 15,    /* a queue has no room for one more transfer; value: its number */
     LW_NO_REGION = 16,     /* no data region of that number is open; value: the number */
     LW_NO_LEASE = 17,      /* no lease of that number is out: there was none, or it was spent; value: the number */
-    LW_SCRIPT = 19,        /* a line of a script is at fault; item: what is wrong, LW_TOO_LONG to LW_UNCLOSED; value: the
-                              number of the line, from 1 on */
+    LW_SCRIPT = 19,        /* a line of a script is at fault; item: what is wrong with it, as told below; value:
+                              its number, from 1 on */
     LW_NO_DEVICE = 22,     /* there is no such device; value: its number */
     LW_ENDED = 32,         /* the handle has no table: none was made, or it was ended */
     LW_BAD_CLAUSE = 33,    /* the clause number of an item is none of the directive's; item. It is told before all else
@@ -83,15 +83,15 @@ enum {
 
 /* What is wrong with a line of a script. */
 enum {
-    LW_TOO_LONG = 1,       /* the line has more than 4,096 bytes */
-    LW_NOT_TEXT = 2,       /* a byte before any comment is no printable ASCII character, blank or tab */
-    LW_SYNTAX = 3,         /* a token does not fit, is missing, or is one too many */
-    LW_NUMBER = 4,         /* a number is out of its bounds */
-    LW_UNKNOWN_NAME = 5,   /* no earlier line declared the name */
-    LW_NAME_TAKEN = 6,     /* the name is declared already */
-    LW_HOST_FULL = 7,      /* the array does not end within host memory */
-    LW_NO_OPEN_REGION = 8, /* no data region is open */
-    LW_UNCLOSED = 9        /* the script ends with an open data region; the line is the one behind its last */
+    LW_LINE_TOO_LONG = 1,       /* it has more than 4,096 bytes */
+    LW_LINE_NOT_TEXT = 2,       /* a byte before any comment is no printable ASCII character, blank or tab */
+    LW_LINE_SYNTAX = 3,         /* a token does not fit, is missing, or is one too many */
+    LW_LINE_NUMBER = 4,         /* a number is out of its bounds */
+    LW_LINE_UNKNOWN_NAME = 5,   /* no earlier line declared the name */
+    LW_LINE_NAME_TAKEN = 6,     /* the name is declared already */
+    LW_LINE_HOST_FULL = 7,      /* the array does not end within host memory */
+    LW_LINE_NO_OPEN_REGION = 8, /* no data region is open */
+    LW_LINE_UNCLOSED = 9        /* the script ends with an open data region; the line is the one behind its last */
 };
 
 /* The name of a status, as "DeviceFull"; "Done" of LW_DONE, and "" of what is none. */
@@ -101,7 +101,8 @@ const char *lw_status_name(uint32_t status);
    alone tells it. */
 typedef struct lw_fault {
     uint32_t status; /* what the call answered */
-    uint64_t item;   /* the place of the item in its array, counted from 0; 0 where the refusal names none */
+    uint64_t item;   /* the place of the item in its array, counted from 0, or LW_LINE_TOO_LONG to LW_LINE_UNCLOSED of
+                        LW_SCRIPT; 0 where the refusal names none */
     uint64_t value;  /* the other number of the refusal, as told above; 0 where it has none */
 } lw_fault;
 
@@ -570,14 +571,16 @@ uint32_t lw_report(lw_table *table, char *buffer, size_t size, uint64_t *len, lw
 
 /* ---- Scripts ---- */
 
-/* Runs a script on a new table of these limits, as accrun does (docs/SCRIPTS.md), and writes what it prints into a
-   buffer, with a zero at its end. The table has ended then. Kernels run in this thread. Refused lines print so, and the
-   script goes on: it is LW_DONE. LW_SCRIPT at the first line that is at fault: the buffer has what the lines before it
-   print. All limits are as by default where limits is NULL.
+/* Runs a script on a new table of these limits, as accrun does (docs/SCRIPTS.md). What it prints is written into a
+   buffer, with a zero at its end. The table has ended then. Kernels run in this thread. All limits are as by default
+   where limits is NULL. The script needs no zero behind its length.
 
-   len: the text's length, without the zero, also where it is LW_SCRIPT; or LW_BAD_LENGTH, since the buffer is too
-   short: then nothing else is written, and fault->value is the size that is wanted. len may be NULL. Else it is
-   LW_BAD_VERSION, LW_BAD_CONFIG or LW_MEMORY, and nothing but the fault is written. */
+   It is LW_DONE where it runs to its end, also where lines were refused: these print so. It is LW_SCRIPT at the first
+   line that is at fault. The buffer has what the lines before it print.
+
+   len: the text's length without the zero, of both; it may be NULL. Where the buffer is too short it is LW_BAD_LENGTH.
+   Then len is told, nothing else is written, and fault->value is the size that is wanted. Run again, the script prints
+   the same. Else it is LW_BAD_VERSION, LW_BAD_CONFIG or LW_MEMORY, and nothing but the fault is written. */
 uint32_t lw_script(const lw_limits *limits, const char *script, size_t length, char *buffer, size_t size,
                    uint64_t *len, lw_fault *fault);
 

@@ -14,7 +14,7 @@
 
 namespace lamwiest {
 
-// A call was refused, and changed nothing.
+// A call was refused, and changed nothing; or a script ended at a fault.
 class Refused : public std::runtime_error {
 public:
     explicit Refused(const lw_fault &fault) : std::runtime_error(text(fault)), fault(fault) {}
@@ -354,9 +354,7 @@ inline void run_script(const std::string &script, std::string &printed, const lw
         len = 0;
     }
     printed.assign(text.data(), len);
-    if (fault.status != LW_DONE) {
-        throw Refused(fault);
-    }
+    must(fault.status, fault);
 }
 
 } // namespace lamwiest

@@ -290,14 +290,17 @@ static uint32_t look(lw_table *table, uint64_t what, lw_fault *fault)
 static void play(const lw_limits *limits)
 {
     static char text[REPORT];
+    const lw_limits *drawn = take(1) % 4 != 0 ? limits : NULL;
     const size_t size = take(2);
     lw_fault fault;
     uint64_t len = 0;
-    const uint32_t status = lw_script(limits, (const char *)input, left, text, size, &len, &fault);
+    const uint32_t status = lw_script(drawn, (const char *)input, left, text, size, &len, &fault);
 
     must(status == fault.status && *lw_status_name(status) != '\0');
     if (status == LW_DONE || status == LW_SCRIPT) {
         must(len < size && text[len] == '\0');
+    } else {
+        must(status == LW_BAD_LENGTH ? len >= size && fault.value == len + 1 : len == 0);
     }
     left = 0;
 }

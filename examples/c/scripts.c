@@ -60,17 +60,29 @@ static char *printed_by(const char *name, const char *script, size_t length)
     return printed;
 }
 
+/* The name of the file beside a script that has what it prints. */
+static char *name_beside(const char *name)
+{
+    const size_t len = strlen(name);
+    char *beside = room_for(len, name);
+
+    if (len < 4 || strcmp(name + len - 4, ".acc") != 0) {
+        give_up(name, "it is no NAME.acc");
+    }
+    memcpy(beside, name, len - 3);
+    strcpy(beside + len - 3, "out");
+    return beside;
+}
+
 int main(int count, char **names)
 {
     for (int i = 1; i < count; i++) {
-        const size_t stem = strlen(names[i]) - strlen("acc");
-        char *beside = room_for(stem + strlen("out"), names[i]), *script, *wanted, *printed;
         size_t length, len;
+        char *beside = name_beside(names[i]);
+        char *script = read_file(names[i], &length);
+        char *wanted = read_file(beside, &len);
+        char *printed = printed_by(names[i], script, length);
 
-        sprintf(beside, "%.*sout", (int)stem, names[i]);
-        script = read_file(names[i], &length);
-        wanted = read_file(beside, &len);
-        printed = printed_by(names[i], script, length);
         if (strcmp(printed, wanted) != 0) {
             give_up(names[i], "it prints something else");
         }

@@ -66,12 +66,13 @@ impl Limits {
     }
 }
 
-/// A call was refused, and changed nothing.
+/// A call was refused, and changed nothing; or a script ended at a fault.
 #[derive(Clone, Copy, Debug, PartialEq, Eq)]
 pub struct Refused {
     /// The status of `lamwiest.h`.
     pub status: u32,
-    /// The place of the item that is refused; 0 where the refusal names none.
+    /// The place of the item that is refused, or what is wrong with a script's line, from 1 to 9; 0 where the refusal
+    /// names none.
     pub item: u64,
     /// The other number of the refusal; 0 where it has none.
     pub value: u64,
@@ -82,6 +83,12 @@ impl Refused {
     pub fn name(&self) -> &'static str {
         // SAFETY: the name is static, and ends with a zero.
         unsafe { CStr::from_ptr(raw::lw_status_name(self.status)) }.to_str().unwrap_or("")
+    }
+}
+
+impl From<raw::Fault> for Refused {
+    fn from(fault: raw::Fault) -> Refused {
+        Refused { status: fault.status, item: fault.item, value: fault.value }
     }
 }
 
@@ -107,7 +114,7 @@ fn made(call: impl FnOnce(&mut u64, &mut raw::Fault) -> u32) -> Result<u64, Refu
     if call(&mut number, &mut fault) == raw::DONE {
         Ok(number)
     } else {
-        Err(Refused { status: fault.status, item: fault.item, value: fault.value })
+        Err(fault.into())
     }
 }
 
@@ -130,11 +137,8 @@ pub fn run_script(limits: Limits, script: &str) -> (String, Result<(), Refused>)
         len = 0;
     }
     text.truncate(len as usize);
-    let ended = made(|_, told| {
-        *told = fault;
-        fault.status
-    });
-    (String::from_utf8_lossy(&text).into_owned(), ended.map(|_| ()))
+    let ended = if fault.status == raw::DONE { Ok(()) } else { Err(fault.into()) };
+    (String::from_utf8_lossy(&text).into_owned(), ended)
 }
 
 /// What may stand in an array.

@@ -25,7 +25,7 @@ pub const ABSENT: u32 = 35;
 /// The program was compiled with another header than the library's.
 pub const BAD_VERSION: u32 = 36;
 
-/// Why a call from C was refused. A refused call changes nothing.
+/// Why a call from C was refused. A refused call changes nothing; a script that ends at a fault has printed.
 #[derive(Clone, Copy)]
 pub enum Refusal {
     /// The handle has no table.

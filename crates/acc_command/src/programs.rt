@@ -2,7 +2,7 @@
 //! reach.
 
 use crate::endings::Mishap;
-use crate::runs::{Ends, find_column, limits, options_for, read_file};
+use crate::runs::{Ends, find_column, limits, read_script};
 use acc_base::{Config, Fault};
 use acc_follow::{Page, RowCounts, count_rows};
 use acc_script::{Sink, Status, write_all};
@@ -42,8 +42,7 @@ pub fn write_rows<'a, R: Threads + Wait + Sync + AllocGlobal, O: Sink, E: Sink, 
 ) -> Result<Status, Mishap<'a>> {
     let mut rows = RowCounts::new(rt.alloc());
     for name in options.rows {
-        let script = read_file(ends.files, name)?;
-        let options = options_for(rt.alloc(), options, name, &script, ends.told)?;
+        let (script, options) = read_script(rt.alloc(), options, name, ends.files, ends.told)?;
         let config = limits(options)?;
         rows = match count_rows(rt.alloc(), config, &script, rows) {
             Ok(rows) => rows,

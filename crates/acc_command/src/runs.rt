@@ -209,6 +209,23 @@ pub fn read_file<'a, D: FileStore>(files: &D, name: &'a str) -> Result<Vec<u8>, 
     }
 }
 
+/// Reads a file's script, and returns it with the options that it has beside those of the command line.
+///
+/// # Errors
+///
+/// Those of [`read_file`] and [`options_for`].
+pub fn read_script<'a, D: FileStore>(
+    alloc: Global,
+    options: Options<'a>,
+    name: &'a str,
+    files: &D,
+    told: &mut Told,
+) -> Result<(Vec<u8>, Options<'a>), Mishap<'a>> {
+    let script = read_file(files, name)?;
+    let options = options_for(alloc, options, name, &script, told)?;
+    Ok((script, options))
+}
+
 /// Reads the expected output from a file, or from standard input where that is named `-`.
 ///
 /// # Errors

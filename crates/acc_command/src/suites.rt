@@ -180,16 +180,29 @@ impl<'a, R: Threads + Wait + Sync + AllocGlobal, D: FileStore + Sync> Tester<'a,
     ) -> Result<Trial, Fault> {
         let alloc = self.rt.alloc();
         let lines = lines_of(alloc, script)?;
-        if let Some(trial) = options.machine().unmet(alloc, name, &lines)? {
-            return Ok(trial);
+        match options.machine().unmet(alloc, name, &lines)? {
+            Some(trial) => Ok(trial),
+            None => self.run_lines(options, name, script, &lines, told),
         }
+    }
+
+    /// Runs a script, and judges what it prints by the comments in its lines.
+    fn run_lines<'x>(
+        &self,
+        options: Options<'_>,
+        name: &'x str,
+        script: &[u8],
+        lines: &'x [&'x [u8]],
+        told: &mut Told,
+    ) -> Result<Trial, Fault> {
+        let alloc = self.rt.alloc();
         let mut sink = MemorySink::new(alloc);
         let place = self.play(options, script, &mut sink, told)?;
         let printed = lines_of(alloc, sink.as_slice())?;
         told.lines.resize(printed.len().saturating_add(1), place)?;
         self.judge(Played {
             name,
-            lines: &lines,
+            lines,
             printed: &printed,
             places: &told.lines,
         })

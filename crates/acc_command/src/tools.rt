@@ -6,7 +6,7 @@ use crate::endings::{Mishap, tell_difference, tell_mishap, tell_sizes};
 use crate::picture_files::Shown;
 use crate::programs::{write_random, write_rows};
 use crate::runs::{
-    Ends, Told, keep_apart, limits, options_for, read_expected, read_file, run_text, use_script,
+    Ends, Told, keep_apart, limits, read_expected, read_script, run_text, use_script,
 };
 use crate::suites::Tester;
 use acc_base::Fault;
@@ -237,8 +237,7 @@ fn run_file<'a, R: Threads + Wait + Sync + AllocGlobal, O: Sink, E: Sink, D: Fil
     name: &'a str,
     ends: Ends<'_, O, E, D>,
 ) -> Result<Status, Mishap<'a>> {
-    let script = read_file(ends.files, name)?;
-    let options = options_for(rt.alloc(), options, name, &script, ends.told)?;
+    let (script, options) = read_script(rt.alloc(), options, name, ends.files, ends.told)?;
     run_text(rt, options, &script, ends)
 }
 

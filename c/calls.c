@@ -158,6 +158,21 @@ uint32_t lw_table_reset(lw_table *table, lw_fault *fault)
     return begin(table, &fields, fault);
 }
 
+uint32_t lw_table_copy(lw_table *from, lw_table *to, lw_fault *fault)
+{
+    uint32_t status = lamwiest_table_copy(from, to, PLACE(fault));
+
+    if (status == LW_DONE) {
+        to->arrays = from->arrays;
+    }
+    return status;
+}
+
+uint32_t lw_table_same(lw_table *one, lw_table *other, uint64_t *same, lw_fault *fault)
+{
+    return lamwiest_table_same(one, other, same, PLACE(fault));
+}
+
 uint32_t lw_limits_of(lw_table *table, lw_limits *limits)
 {
     const size_t first = offsetof(lw_limits, host);

@@ -21,6 +21,8 @@ typedef struct limit_fields {
 } limit_fields;
 
 uint32_t lamwiest_table_new(lw_table *table, const limit_fields *limits, lw_fault *fault);
+uint32_t lamwiest_table_copy(lw_table *from, lw_table *to, lw_fault *fault);
+uint32_t lamwiest_table_same(lw_table *one, lw_table *other, uint64_t *same, lw_fault *fault);
 uint32_t lamwiest_limits_of(lw_table *table, limit_fields *limits);
 uint32_t lamwiest_rebase(lw_table *table, uint64_t *folded, lw_fault *fault);
 uint32_t lamwiest_array(lw_table *table, uint64_t used, uint64_t len, uint64_t *start, lw_fault *fault);

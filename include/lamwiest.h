@@ -34,10 +34,10 @@ extern "C" {
 
 /* ---- Versions ---- */
 
-/* The version of this header, 0.2.4: a million times the first number, a thousand times the second, and the third. A
+/* The version of this header, 0.2.5: a million times the first number, a thousand times the second, and the third. A
    library with the same first two numbers, and this third one or a greater one, takes programs that were compiled with
    this header. One with a lesser third takes those that make no call which came since. */
-#define LW_VERSION 2004
+#define LW_VERSION 2005
 
 /* The version of the library that the program is linked with. */
 uint32_t lw_version(void);
@@ -164,6 +164,18 @@ uint32_t lw_table_reset(lw_table *table, lw_fault *fault);
 
 /* Ends a table with its leases, and gives back all of its memory. A handle without a table stays so. */
 void lw_table_end(lw_table *table);
+
+/* Puts a copy of a table into another handle: its limits, all memories, all that is on record, the stored trace, and
+   where lw_array goes on. What that handle had is ended. Then each table goes its own way. It is no event. LW_ENDED
+   where there is no table to copy. LW_LENT where leases of it are out, since none can be had twice; value: the block of
+   the one of least number. Else LW_MEMORY. In these three cases the other handle stays as it is. */
+uint32_t lw_table_copy(lw_table *from, lw_table *to, lw_fault *fault);
+
+/* same: 1 where two tables have the same limits, the same bytes in all memories, and the same on record; else 0. That
+   is blocks, mapped ranges with their counters, attached pointers, open regions, copies that wait, loans, and the
+   numbers that come next. Their traces may differ, and so may the bytes of leases and what lw_array handed out. For a
+   moment there is memory for a copy of both. LW_ENDED where one of them has no table, or LW_MEMORY. It is no event. */
+uint32_t lw_table_same(lw_table *one, lw_table *other, uint64_t *same, lw_fault *fault);
 
 /* Folds all events into a base, so that there is room in the trace again. Tickets do not come back. It is no event.
    folded: how many there were. */
@@ -292,8 +304,8 @@ uint32_t lw_lease_write(lw_table *table, uint64_t lease, const void *bytes, size
 /* Where the bytes of a lease lie, and how many they are, so that a kernel reads and writes them there, and none is
    copied. LW_NO_LEASE where no lease of that number is out. The address may have any alignment. They do not move until
    lw_gather spends the lease: neither lw_rebase nor a refused lw_gather moves them. Then the address is nobody's, and
-   so it is behind lw_table_end, lw_table_new and lw_table_reset. They are the caller's between calls: while any thread
-   is in a call on the table no other one reads or writes them. It is no event. */
+   so it is once the table has ended or begun anew. They are the caller's between calls: while any thread is in a call
+   on the table no other one reads or writes them. It is no event. */
 uint32_t lw_lease_bytes(lw_table *table, uint64_t lease, void **bytes, uint64_t *len, lw_fault *fault);
 
 /* Brings a lease back: the device has its bytes again, as they were last written. A lease that is refused stays.
@@ -597,8 +609,8 @@ uint32_t lw_shared_new(lw_shared **shared, const lw_limits *limits, lw_fault *fa
 void lw_shared_end(lw_shared *shared);
 
 /* Waits until no other thread has the lock, takes it, and returns the table. NULL where this thread has it already. The
-   table is this thread's until lw_shared_leave or lw_shared_wait; it is not ended by lw_table_end, nor
-   begun anew by lw_table_new or lw_table_reset. */
+   table is this thread's until lw_shared_leave or lw_shared_wait; it is not ended by lw_table_end, begun anew by
+   lw_table_new or lw_table_reset, nor replaced by lw_table_copy. */
 lw_table *lw_shared_take(lw_shared *shared);
 
 /* Leaves the table to the others. */

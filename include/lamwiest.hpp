@@ -82,6 +82,12 @@ public:
     // All limits as by default.
     Table() { begin(nullptr); }
     explicit Table(const lw_limits &limits) { begin(&limits); }
+    // A copy, with the trace, which goes its own way from then on. A region that is open in it is exited by lw_exit.
+    explicit Table(Table &from)
+    {
+        lw_fault fault;
+        must(lw_table_copy(&from.table, &table, &fault), fault);
+    }
     Table(const Table &) = delete;
     Table &operator=(const Table &) = delete;
     ~Table() { lw_table_end(&table); }
@@ -196,6 +202,15 @@ public:
         uint64_t present = 0;
         lw_is_present(&table, device, section.start, section.len(), &present);
         return present != 0;
+    }
+
+    // Whether another table has the same limits, and the same in all memories and on record. Their traces may differ.
+    bool is_same_as(Table &other)
+    {
+        uint64_t same = 0;
+        lw_fault fault;
+        must(lw_table_same(&table, &other.table, &same, &fault), fault);
+        return same != 0;
     }
 
     // Makes room in the trace again, and returns how many events it had.

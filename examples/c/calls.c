@@ -2,7 +2,7 @@
  * Each call of the library, right and wrong, with what it has to answer. A row is one call; the rows of a scene are
  * made in their order on one table. A refused call has to leave the report of the table as it was. Before a call is
  * made for good it is made with each of its growths of memory refused: then it is LW_MEMORY, or what it is
- * refused for in any case.
+ * refused for in any case. Each row is made on a copy of its table, too.
  */
 #include "lamwiest.h"
 #include "refusing.h"
@@ -1064,6 +1064,17 @@ static void report_of(lw_table *table, char *text)
     check(text[len] == '\0' && strlen(text) == len, "report", "it does not end with a zero");
 }
 
+/* Whether two tables have the same. */
+static bool is_same(lw_table *one, lw_table *other)
+{
+    uint64_t same = UNTOUCHED;
+    lw_fault fault;
+
+    check(lw_table_same(one, other, &same, &fault) == LW_DONE && fault.status == LW_DONE && same <= 1, "comparison",
+          "it is refused");
+    return same == 1;
+}
+
 /* The directive of a row as an event names it. The kind is none of a directive's where the row makes another call. */
 static lw_stored_event directive_of(const row *row)
 {
@@ -1255,32 +1266,28 @@ typedef struct recording {
     size_t bytes_before[RECORDED_EVENTS + 1];
 } recording;
 
-/* Makes the rows, and reads their trace. The table ends, and what it had is told. */
-static void record(const scene *scene, recording *recording, char *report, uint8_t *host)
+/* Makes the rows on a new table, and reads their trace. */
+static void record(lw_table *table, const scene *scene, recording *recording)
 {
-    lw_table table = LW_NO_TABLE;
     size_t items = 0, bytes = 0, n = 0;
     uint64_t number = UNTOUCHED;
     lw_fault fault;
 
-    lw_table_new(&table, &scene->limits, &fault);
+    lw_table_new(table, &scene->limits, &fault);
     for (size_t i = 0; i < scene->count; i++) {
-        scene->rows[i].make(&table, &scene->rows[i], &number, &fault);
+        scene->rows[i].make(table, &scene->rows[i], &number, &fault);
     }
-    for (; n < RECORDED_EVENTS && lw_event(&table, n, &recording->events[n]) == LW_DONE; n++) {
-        for (uint64_t i = 0; lw_event_item(&table, n, i, &recording->items[items]) == LW_DONE; i++) {
+    for (; n < RECORDED_EVENTS && lw_event(table, n, &recording->events[n]) == LW_DONE; n++) {
+        for (uint64_t i = 0; lw_event_item(table, n, i, &recording->items[items]) == LW_DONE; i++) {
             items++;
         }
-        lw_event_bytes(&table, n, recording->bytes + bytes, recording->events[n].stored, &fault);
+        lw_event_bytes(table, n, recording->bytes + bytes, recording->events[n].stored, &fault);
         bytes += recording->events[n].stored;
         recording->items_before[n + 1] = items;
         recording->bytes_before[n + 1] = bytes;
     }
-    check(n == RECORDED_EVENTS && lw_event(&table, n, &recording->events[n]) == LW_ABSENT, "run",
+    check(n == RECORDED_EVENTS && lw_event(table, n, &recording->events[n]) == LW_ABSENT, "run",
           "the trace has another length");
-    report_of(&table, report);
-    check(lw_host_read(&table, LW_HOST_BASE, host, HOST_SIZE, &fault) == LW_DONE, "run", "host memory");
-    lw_table_end(&table);
 }
 
 /* Runs what is recorded from an event on. */
@@ -1293,16 +1300,14 @@ static uint32_t run_from(lw_table *table, const recording *recording, uint64_t f
 }
 
 /* Runs it on a new table with each growth refused in turn, and then what is left of it. The second table has what the
-   first one had. */
-static void check_same(const scene *scene, const recording *recording, const char *report, const uint8_t *host)
+   first one has. */
+static void check_runs(lw_table *first, const scene *scene, const recording *recording)
 {
     bool is_short = true;
 
     for (size_t growth = 1; is_short; growth++) {
         lw_table table = LW_NO_TABLE;
         uint64_t done = UNTOUCHED, rest = UNTOUCHED;
-        uint8_t has[HOST_SIZE];
-        char text[TEXT];
         lw_fault fault;
         uint32_t status;
 
@@ -1316,9 +1321,7 @@ static void check_same(const scene *scene, const recording *recording, const cha
         check(is_short || done == RECORDED_EVENTS, "run", "it is refused with memory");
         check(run_from(&table, recording, done, &rest, NULL) == LW_DONE && done + rest == RECORDED_EVENTS, "run",
               "what is left is refused");
-        report_of(&table, text);
-        lw_host_read(&table, LW_HOST_BASE, has, HOST_SIZE, NULL);
-        check(strcmp(text, report) == 0 && memcmp(has, host, HOST_SIZE) == 0, "run", "the tables differ");
+        check(is_same(first, &table), "run", "the tables differ");
         lw_table_end(&table);
         refused_growths += is_short;
     }
@@ -1366,16 +1369,114 @@ static void check_wrong_runs(const scene *scene, const recording *right)
           "without events");
 }
 
-static void check_run(void)
+/* ---- Copies ---- */
+
+/* Makes the rows of a scene, each on the table and then on a copy that was made just before. Between both calls the two
+   have the same where the row is refused, and not where a region is entered or exited; behind them they have. No copy
+   is made while a lease is out. */
+static void make_on_copies(const scene *scene)
+{
+    lw_table table = LW_NO_TABLE, copy = LW_NO_TABLE;
+
+    lw_table_new(&table, &scene->limits, NULL);
+    for (size_t i = 0; i < scene->count; i++) {
+        const row *row = &scene->rows[i];
+        const bool is_refused = row->status != LW_DONE;
+        lw_lent_lease lent = {.block = 0};
+        const uint32_t wanted = lw_lease(&table, 0, &lent) == LW_DONE ? LW_LENT : LW_DONE;
+        lw_fault fault;
+        answer first, second;
+
+        check(lw_table_copy(&table, &copy, &fault) == wanted && fault.status == wanted && fault.item == 0 &&
+                  fault.value == lent.block, "copy", row->says);
+        first = answer_of(&table, row, 0);
+        if (wanted == LW_LENT) {
+            continue;
+        }
+        if (is_refused || row->make == enter || row->make == leave) {
+            check(is_same(&table, &copy) == is_refused, "copy that is behind", row->says);
+        }
+        second = answer_of(&copy, row, 0);
+        check(is_told(&first, row) && is_told(&second, row) && is_same(&table, &copy), "call on a copy", row->says);
+    }
+    lw_table_end(&table);
+    lw_table_end(&copy);
+}
+
+/* With each growth of a copy refused in turn, the handle keeps what it had. Then each of a comparison is refused. */
+static void check_short_copies(lw_table *table)
+{
+    lw_table copy = LW_NO_TABLE, before = LW_NO_TABLE;
+    uint64_t same = UNTOUCHED;
+    lw_fault fault;
+    bool is_short = true;
+
+    lw_table_new(&copy, NULL, NULL);
+    lw_table_new(&before, NULL, NULL);
+    for (size_t growth = 1; is_short; growth++) {
+        refuse_growth(growth);
+        lw_table_copy(table, &copy, &fault);
+        is_short = was_growth_refused();
+        refuse_growth(0);
+        check(fault.status == (is_short ? LW_MEMORY : LW_DONE) && is_same(&copy, is_short ? &before : table), "copy",
+              "a growth is refused");
+        refused_growths += is_short;
+    }
+    is_short = true;
+    for (size_t growth = 1; is_short; growth++) {
+        refuse_growth(growth);
+        lw_table_same(table, &copy, &same, &fault);
+        is_short = was_growth_refused();
+        refuse_growth(0);
+        check(fault.status == (is_short ? LW_MEMORY : LW_DONE) && same == (is_short ? UNTOUCHED : 1), "comparison",
+              "a growth is refused");
+        refused_growths += is_short;
+    }
+    check(!is_same(&before, &copy), "comparison", "other limits are not seen");
+    lw_table_end(&copy);
+    lw_table_end(&before);
+}
+
+/* Without a table nothing is copied or compared, and what the other handle has stays. */
+static void check_no_copies(lw_table *table)
+{
+    lw_table none = LW_NO_TABLE, copy = LW_NO_TABLE;
+    uint64_t same = UNTOUCHED;
+    lw_fault fault;
+
+    check(lw_table_copy(table, &copy, NULL) == LW_DONE && lw_table_copy(&none, &copy, &fault) == LW_ENDED &&
+              fault.status == LW_ENDED && lw_table_copy(&none, &copy, NULL) == LW_ENDED && is_same(table, &copy),
+          "copy", "of no table");
+    check(lw_table_same(table, &none, &same, &fault) == LW_ENDED && fault.status == LW_ENDED &&
+              lw_table_same(&none, table, &same, &fault) == LW_ENDED && fault.status == LW_ENDED &&
+              lw_table_same(&none, table, &same, NULL) == LW_ENDED && same == UNTOUCHED,
+          "comparison", "with no table");
+    lw_table_end(&copy);
+}
+
+/* A table with regions, attached pointers, copies that wait and a full trace, also behind a base of them. */
+static void check_copies(lw_table *table)
+{
+    uint64_t folded;
+
+    check_short_copies(table);
+    check(lw_rebase(table, &folded, NULL) == LW_DONE && lw_host_write(table, A, "byte", 4, NULL) == LW_DONE, "copy",
+          "rebase");
+    check_short_copies(table);
+    check_no_copies(table);
+}
+
+static void check_recorded(void)
 {
     static const scene scene = {"recorded", LIMITS(HOST_SIZE, 64, 2, 1000, 2, 1, 1000, 1, 2), ROWS(RECORDED)};
     static recording recording;
-    static uint8_t host[HOST_SIZE];
-    static char report[TEXT];
+    lw_table first = LW_NO_TABLE;
 
-    record(&scene, &recording, report, host);
-    check_same(&scene, &recording, report, host);
+    record(&first, &scene, &recording);
+    check_runs(&first, &scene, &recording);
     check_wrong_runs(&scene, &recording);
+    check_copies(&first);
+    lw_table_end(&first);
 }
 
 /* ---- Tables without memory ---- */
@@ -1526,7 +1627,7 @@ static void check_versions(void)
 
         check(lw_table_new(&table, &limits, &fault) == LW_BAD_VERSION && fault.value == LW_VERSION, "versions",
               "wrong limits are taken");
-        check(strcmp(lw_fault_text(&fault, text, sizeof text, NULL), "36 BadVersion library 2004") == 0, "versions",
+        check(strcmp(lw_fault_text(&fault, text, sizeof text, NULL), "36 BadVersion library 2005") == 0, "versions",
               "the text");
         check(lw_table_new(&table, &limits, NULL) == LW_BAD_VERSION && table.at == NULL, "versions", "without a fault");
         check(lw_limits_of(&table, &limits) == LW_BAD_VERSION, "versions", "limits are told in wrong ones");
@@ -1830,11 +1931,12 @@ int main(void)
     for (size_t i = 0; i < sizeof SCENES / sizeof *SCENES; i++) {
         play(&SCENES[i]);
         bring_back(&SCENES[i]);
+        make_on_copies(&SCENES[i]);
         is_by_event = true;
         play(&SCENES[i]);
         is_by_event = false;
     }
-    check_run();
+    check_recorded();
     check_short_tables(false);
     check_short_tables(true);
     check_ends(false);

@@ -155,7 +155,23 @@ static uint32_t run(lw_table *table, lw_fault *fault)
     return fault->status;
 }
 
-/* Writes, loans and folds. */
+/* Goes on with a copy of the table, which has the same. */
+static uint32_t copy_back(lw_table *table, lw_fault *fault)
+{
+    lw_table copy = LW_NO_TABLE;
+    uint64_t same = 0;
+    uint32_t status = lw_table_copy(table, &copy, fault);
+
+    if (status == LW_DONE) {
+        must(lw_table_same(table, &copy, &same, NULL) == LW_DONE && same == 1);
+        status = lw_table_copy(&copy, table, fault);
+        must(status == LW_DONE);
+    }
+    lw_table_end(&copy);
+    return status;
+}
+
+/* Writes, loans, folds and copies. */
 static uint32_t move(lw_table *table, uint64_t what, lw_fault *fault)
 {
     uint8_t bytes[BYTES];
@@ -163,7 +179,7 @@ static uint32_t move(lw_table *table, uint64_t what, lw_fault *fault)
     uint64_t told;
 
     memset(bytes, (int)take(1), sizeof bytes);
-    switch (what % 9) {
+    switch (what % 10) {
     case 0:
         return lw_host_write(table, address(), bytes, len, fault);
     case 1:
@@ -180,6 +196,8 @@ static uint32_t move(lw_table *table, uint64_t what, lw_fault *fault)
         return take(1) % 8 == 0 ? lw_table_reset(table, fault) : lw_gather(table, number(), fault);
     case 7:
         return run(table, fault);
+    case 8:
+        return copy_back(table, fault);
     default:
         return lw_array(table, take(1) % 4 == 0 ? take(8) : take(1), &told, fault);
     }

@@ -42,6 +42,16 @@ void fail_in_region(lamwiest::Table &table, Doubles b)
     throw std::runtime_error("the kernel failed");
 }
 
+// A copy goes its own way: what is done on it is not seen in the table.
+void end_on_a_copy(lamwiest::Table &table, Doubles b)
+{
+    lamwiest::Table copy(table);
+
+    std::cout << "the same: " << copy.is_same_as(table);
+    copy.exit_data({lamwiest::delete_(b)});
+    std::cout << ", and then: " << copy.is_same_as(table) << '\n';
+}
+
 // Elements that lie where the machine wants none: the kernel has a copy of them, which comes back.
 void add_at_an_odd_address(lamwiest::Region &region, Doubles odd)
 {
@@ -92,6 +102,7 @@ void run()
     table.update({lamwiest::self(b.part(0, 2))}, lw_queue(3));
     std::cout << "copies made: " << table.wait(3) << '\n';
     show("half of b", table.read(b));
+    end_on_a_copy(table, b);
     try {
         fail_in_region(table, b);
     } catch (const std::runtime_error &failure) {

@@ -51,6 +51,10 @@ fn run() -> Result<(), Refused> {
     println!("{:?} {:?}", table.read(a)?, table.read(b)?);
     print!("{}", table.report()?);
     println!("events folded: {}", table.rebase()?);
+    let mut copy = table.try_clone()?;
+    print!("the same: {}", copy.is_same_as(&mut table)?);
+    copy.write(b, &[1, 2])?;
+    println!(", and then: {}", copy.is_same_as(&mut table)?);
     let script = format!("array a 64\n{}", "show a\n".repeat(100));
     let (printed, ended) = lamwiest::run_script(Limits::default(), &script);
     println!("printed: {} bytes, {ended:?}", printed.len());

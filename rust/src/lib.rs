@@ -333,6 +333,22 @@ impl Table {
         Ok(table)
     }
 
+    /// A copy, with the trace, which goes its own way from then on. A region that is open in it has no [`Region`]: it
+    /// stays open until the copy ends or begins anew. It is `Lent` where a kernel that panicked left a block lent.
+    pub fn try_clone(&mut self) -> Result<Table, Refused> {
+        let mut copy = Table(raw::Table::NONE);
+        // SAFETY: as `Table` tells.
+        made(|_, fault| unsafe { raw::lw_table_copy(&mut self.0, &mut copy.0, fault) })?;
+        Ok(copy)
+    }
+
+    /// Whether another table has the same limits, and the same in all memories and on record. Their traces may differ.
+    pub fn is_same_as(&mut self, other: &mut Table) -> Result<bool, Refused> {
+        // SAFETY: as `Table` tells.
+        let same = made(|same, fault| unsafe { raw::lw_table_same(&mut self.0, &mut other.0, same, fault) })?;
+        Ok(same != 0)
+    }
+
     /// Host addresses for an array.
     pub fn array<E: Element>(&mut self, count: usize) -> Result<Span<E>, Refused> {
         let len = Span::<E>::at(0, count).len();

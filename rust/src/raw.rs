@@ -81,7 +81,7 @@ pub const EXITED_DATA: u32 = 4;
 pub const UPDATED: u32 = 5;
 pub const WAITED: u32 = 6;
 
-pub const VERSION: u32 = 2004;
+pub const VERSION: u32 = 2005;
 pub const DONE: u32 = 0;
 pub const BAD_LENGTH: u32 = 34;
 pub const FAULT_TEXT_SIZE: usize = 66;
@@ -94,6 +94,8 @@ extern "C" {
     pub fn lw_table_new(table: &mut Table, limits: &Limits, fault: &mut Fault) -> u32;
     pub fn lw_table_reset(table: &mut Table, fault: &mut Fault) -> u32;
     pub fn lw_table_end(table: &mut Table);
+    pub fn lw_table_copy(from: &mut Table, to: &mut Table, fault: &mut Fault) -> u32;
+    pub fn lw_table_same(one: &mut Table, other: &mut Table, same: &mut u64, fault: &mut Fault) -> u32;
     pub fn lw_rebase(table: &mut Table, folded: &mut u64, fault: &mut Fault) -> u32;
     pub fn lw_array(table: &mut Table, len: u64, start: &mut u64, fault: &mut Fault) -> u32;
     pub fn lw_enter(

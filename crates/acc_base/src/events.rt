@@ -66,7 +66,7 @@ pub struct Did {
 }
 
 /// One accepted call: what the call named, and what each of its items did, in written order.
-#[derive(Debug, Drop)]
+#[derive(Clone, Debug, Drop)]
 pub enum Event {
     /// Entry to a data region.
     Entered {

@@ -76,6 +76,23 @@ impl<T> List<T> {
     }
 }
 
+/// A copy has the same elements, and takes as much memory as [`List::from_slice`].
+impl<T: Copy> Clone for List<T> {
+    ghost use Rattle.std.specs.Prelude.{◌≡◌};
+
+    ghost is_clone = { λ list copy. copy ≡ list };
+
+    fn clone(&self) -> Result<List<T>, AllocError> {
+        match &self.kept {
+            Kept::One([item]) => Ok(List::one(*item)),
+            Kept::Many(items) => {
+                let alloc = *items.allocator();
+                Ok(List::from_vec(Vec::from_slice(alloc, items)?))
+            }
+        }
+    }
+}
+
 impl<T: Copy> List<T> {
     /// The elements of a slice, in its order. Takes no memory for one element, and for others as much as they need.
     ///

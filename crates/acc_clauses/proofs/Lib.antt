@@ -47,3 +47,5 @@ pub mod AimsJudged
 pub mod AimsTargeted
 pub mod Lends
 pub mod Crossing
+mod Copied
+mod Alike

@@ -3,6 +3,7 @@ use Rattle.std.specs.Prelude.{ℕ, ◌≡◌, List, [], replicate}
 use Rattle.acc_base.specs.Limits.{Limits}
 use Rattle.acc_base.specs.Records.{State}
 use Rattle.acc_base.specs.Devices.{OneDevice, new_device}
+use Rattle.acc_dev.specs.Device.{IsUnchanged}
 use Rattle.acc_clauses.specs.declared.environments.Environment.{Environment}
 use Rattle.acc_clauses.specs.Contents.{Contents, Numbers, Room, beside, room_of, AreSizedBy, ArePartsSound}
 use Rattle.acc_clauses.specs.Stored.{IsStoreSound}
@@ -33,6 +34,15 @@ pub record IsNewEnvironment (l : Limits) (x : Environment) : Type 0 where
   pub sized : AreSizedBy l (beside x [])
   pub empty : device_of x ≡ new_device
   pub marks : x.device.marks ≡ []
+
+-- two environments are the same, but for room
+pub record IsSameEnvironment (x y : Environment) : Type 0 where
+  pub table : y.present.table ≡ x.present.table
+  pub device : IsUnchanged x.device y.device
+  pub counter_max : y.attached.counter_max ≡ x.attached.counter_max
+  pub attached : y.attached.attached ≡ x.attached.attached
+  pub cap : y.queues.cap ≡ x.queues.cap
+  pub queues : y.queues.queues ≡ x.queues.queues
 
 -- ---- beside host memory
 

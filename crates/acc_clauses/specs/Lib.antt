@@ -7,6 +7,7 @@ pub mod Planned
 pub mod Acts
 pub mod Stored
 pub mod Devices
+pub mod Alike
 pub mod Lending
 pub mod Copies
 pub mod Aims

@@ -1,10 +1,14 @@
 //! What the devices of a table had at one moment.
 
-ghost use Rattle.std.specs.Prelude.{◌≡◌};
+ghost use Rattle.std.specs.Prelude.{◌≡◌, MatchBool};
+ghost use Rattle.std.specs.Cmp.{partial_equiv_from_equiv};
+ghost use Rattle.acc_clauses.specs.Alike.{are_same_records, is_same_device, is_same_base, device_equiv, base_equiv};
 
+use crate::comparing::{are_same_memories, are_same_regions};
 use acc_base::{Attachment, Block, Loan, Range, Transfer};
 use acc_dev::SavedBlock;
 use acc_present::OpenRegion;
+use std::alloc::AllocError;
 use std::marker::Model;
 
 /// What one device had at one moment: everything but bytes, and with full traces those of its blocks too.
@@ -51,7 +55,71 @@ impl Model for DeviceBase {
     } };
 }
 
+impl Clone for DeviceBase {
+    ghost is_clone = { λ base copy. copy ≡ base };
+
+    /// The same, in vectors of its own.
+    ///
+    /// # Errors
+    ///
+    /// [`AllocError`] where there is no memory for them.
+    #[tactic(auto, using(std::proofs::lemmas::List::Elements::same_from_all_zip, crate::proofs::Copied::same_of_clones))]
+    fn clone(&self) -> Result<DeviceBase, AllocError> {
+        Ok(DeviceBase {
+            ranges: self.ranges.clone()?,
+            blocks: self.blocks.clone()?,
+            attached: self.attached.clone()?,
+            births: self.births,
+            queues: self.queues.clone()?,
+            loans: self.loans.clone()?,
+            regions: self.regions.clone()?,
+            memories: self.memories.clone()?,
+        })
+    }
+}
+
+impl PartialEq for DeviceBase {
+    ghost eq = { is_same_device };
+
+    ghost laws = { partial_equiv_from_equiv device_equiv };
+
+    /// Whether both had the same: on record, in open regions, and of the bytes of blocks that were kept.
+    fn eq(&self, other: &DeviceBase) -> bool
+        ensures told { result ≡ is_same_device self.now other.now }
+        ensures exact { MatchBool result (self.now ≡ other.now) (self.now ≡ other.now → ⊥) }
+    {
+        self.has_records_of(other)
+            && are_same_regions(&self.regions, &other.regions)
+            && are_same_memories(&self.memories, &other.memories)
+    }
+}
+
+impl Eq for DeviceBase {
+    ghost laws = { device_equiv };
+}
+
 impl DeviceBase {
+    /// Whether the other one has the same on record, but for open regions.
+    fn has_records_of(&self, other: &DeviceBase) -> bool
+        ensures { result ≡ are_same_records self.now.records other.now.records }
+    {
+        (
+            &self.ranges,
+            &self.blocks,
+            &self.attached,
+            self.births,
+            &self.queues,
+            &self.loans,
+        ) == (
+            &other.ranges,
+            &other.blocks,
+            &other.attached,
+            other.births,
+            &other.queues,
+            &other.loans,
+        )
+    }
+
     /// The mapped ranges by rising host address, each with its block and both counters (OpenACC 3.3, section 2.6.7).
     pub fn ranges(&self) -> &[Range]
         ensures { result.now ≡ self.now.records.ranges }
@@ -92,6 +160,55 @@ impl Model for Base {
       state = record { devices = b.devices.items; next = b.next_region; serial = b.next_serial; host = b.host.items };
       events = b.events;
     } };
+}
+
+impl Clone for Base {
+    ghost is_clone = { λ base copy. copy ≡ base };
+
+    /// The same, in vectors of its own.
+    ///
+    /// # Errors
+    ///
+    /// [`AllocError`] where there is no memory for them.
+    fn clone(&self) -> Result<Base, AllocError> {
+        Ok(Base {
+            devices: self.devices.clone()?,
+            next_region: self.next_region,
+            next_serial: self.next_serial,
+            host: self.host.clone()?,
+            events: self.events,
+        })
+    }
+}
+
+impl PartialEq for Base {
+    ghost eq = { is_same_base };
+
+    ghost laws = { partial_equiv_from_equiv base_equiv };
+
+    /// Whether both have the same devices, numbers and bytes of host memory, and as many events had led there.
+    fn eq(&self, other: &Base) -> bool
+        ensures told { result ≡ is_same_base self.now other.now }
+        ensures exact { MatchBool result (self.now ≡ other.now) (self.now ≡ other.now → ⊥) }
+    {
+        (
+            &self.devices,
+            self.next_region,
+            self.next_serial,
+            &self.host,
+            self.events,
+        ) == (
+            &other.devices,
+            other.next_region,
+            other.next_serial,
+            &other.host,
+            other.events,
+        )
+    }
+}
+
+impl Eq for Base {
+    ghost laws = { base_equiv };
 }
 
 impl Base {

@@ -35,7 +35,7 @@ use acc_base::{Config, Fault, Loan};
 use acc_dev::HostMem;
 use acc_lend::Lease;
 use acc_present::Place;
-use std::alloc::Global;
+use std::alloc::{AllocError, Global};
 use std::marker::Model;
 
 /// What one device has, with its limits and its number. Its parts fit one another, whatever bytes host memory has.
@@ -59,6 +59,20 @@ impl Model for DeviceData {
     ghost view = { λ x. device_contents (limits_on x.number x.config) x.environment };
 
     ghost invariant = { λ x. IsDeviceSound (limits_on x.number x.config) x.environment x.lent };
+}
+
+impl Clone for DeviceData {
+    ghost is_clone = { λ source copy. (copy.limits ≡ source.limits) × (copy.device ≡ source.device) };
+
+    #[tactic(auto, using(crate::proofs::Copied::same_device_of, crate::proofs::Copied::same_device_sound))]
+    fn clone(&self) -> Result<DeviceData, AllocError> {
+        Ok(DeviceData {
+            config: self.config,
+            number: self.number,
+            environment: self.environment.clone()?,
+            lent: self.lent,
+        })
+    }
 }
 
 impl DeviceData {
@@ -102,13 +116,6 @@ impl DeviceData {
             next_serial,
             lent: self.lent,
         }
-    }
-
-    /// Whether events store all bytes of this run.
-    pub(crate) fn is_full(&self) -> bool
-        ensures { result ≡ self.now.limits.full }
-    {
-        self.config.full()
     }
 
     /// The records are sound, and the limits lie within their bounds. The blocks and the holes between them are the

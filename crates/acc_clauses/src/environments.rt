@@ -8,7 +8,7 @@ ghost use Rattle.acc_clauses.specs.Devices.{IsNewEnvironment};
 use acc_base::{Config, Fault};
 use acc_dev::Device;
 use acc_present::{Attached, Present, Queues};
-use std::alloc::Global;
+use std::alloc::{AllocError, Global};
 
 /// What one device has: the present table, the blocks of its memory, the attachment counters and the queues, side by
 /// side. How they fit one another, and host memory, is said by what holds them.
@@ -22,6 +22,21 @@ pub(crate) struct Environment {
     pub(crate) attached: Attached,
     /// The transfers that are yet to be made.
     pub(crate) queues: Queues,
+}
+
+impl Clone for Environment {
+    ghost use Rattle.acc_clauses.specs.Devices.{IsSameEnvironment};
+
+    ghost is_clone = { IsSameEnvironment };
+
+    fn clone(&self) -> Result<Environment, AllocError> {
+        Ok(Environment {
+            present: self.present.clone()?,
+            device: self.device.clone()?,
+            attached: self.attached.clone()?,
+            queues: self.queues.clone()?,
+        })
+    }
 }
 
 impl Environment {

@@ -10,6 +10,7 @@ mod acting;
 mod aim_effects;
 mod aims;
 mod bases;
+mod comparing;
 mod copies;
 mod devices;
 mod drafts;

@@ -7,7 +7,7 @@ ghost use Rattle.acc_base.specs.Limits.{limits_on};
 
 use crate::devices::DeviceData;
 use acc_base::{Config, Fault};
-use std::alloc::Global;
+use std::alloc::{AllocError, Global};
 use std::marker::Model;
 
 /// What one device of a table has while another is in use. A store has host memory, the numbers of the next region and
@@ -29,6 +29,24 @@ impl Model for Spare {
     ghost view = { λ s. record { limits = s.device.limits; device = s.device.device; next = s.next_region; serial = s.next_serial } };
 
     ghost invariant = { λ s. IsSpareSound s.device (record { region = s.next_region; serial = s.next_serial }) };
+}
+
+impl Clone for Spare {
+    ghost is_clone = { λ spare copy. copy ≡ spare };
+
+    /// A device that has the same and stands apart too.
+    ///
+    /// # Errors
+    ///
+    /// [`AllocError`] where there is no memory for it.
+    #[tactic(auto, using(crate::proofs::Copied::same_store_sound))]
+    fn clone(&self) -> Result<Spare, AllocError> {
+        Ok(Spare {
+            device: self.device.clone()?,
+            next_region: self.next_region,
+            next_serial: self.next_serial,
+        })
+    }
 }
 
 impl Spare {

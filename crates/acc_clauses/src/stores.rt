@@ -30,7 +30,7 @@ use crate::views::View;
 use acc_base::{Config, Directive, Fault, Loan, Section};
 use acc_dev::HostMem;
 use acc_lend::Lease;
-use std::alloc::Global;
+use std::alloc::{AllocError, Global};
 use std::marker::Model;
 use std::mem;
 
@@ -67,6 +67,25 @@ impl Model for Store {
     ghost view = { λ s. contents_beside s.device s.host (record { region = s.next_region; serial = s.next_serial }) };
 
     ghost invariant = { λ s. IsStoreSound (contents_beside s.device s.host (record { region = s.next_region; serial = s.next_serial })) };
+}
+
+impl Clone for Store {
+    ghost is_clone = { λ store copy. (copy.limits ≡ store.limits) × (copy.state ≡ store.state) };
+
+    /// A store of the same state, which may have no room for more. It shares no memory with this one.
+    ///
+    /// # Errors
+    ///
+    /// [`AllocError`] where there is no memory for it.
+    #[tactic(auto, using(crate::proofs::Copied::same_store_sound))]
+    fn clone(&self) -> Result<Store, AllocError> {
+        Ok(Store {
+            host: self.host.clone()?,
+            next_region: self.next_region,
+            next_serial: self.next_serial,
+            device: self.device.clone()?,
+        })
+    }
 }
 
 impl Store {
@@ -330,16 +349,16 @@ impl Store {
         self.host.read(section)
     }
 
-    /// The bytes of host memory, where traces are full; else none.
+    /// The bytes of host memory with `bytes`; else none.
     ///
     /// # Errors
     ///
     /// [`Fault::Memory`] alone.
-    pub fn saved_host(&self, alloc: Global) -> Result<Vec<u8>, Fault>
-        ensures ok { IfOk result (λ bytes. bytes.items ≡ recorded self.now.limits.full self.now.state.host) }
+    pub fn saved_host(&self, alloc: Global, bytes: bool) -> Result<Vec<u8>, Fault>
+        ensures ok { IfOk result (λ saved. saved.items ≡ recorded bytes self.now.state.host) }
         ensures only { IfErr result (λ fault. fault ≡ Memory) }
     {
-        if self.device.is_full() {
+        if bytes {
             self.host.copy(alloc)
         } else {
             Ok(Vec::new(alloc))

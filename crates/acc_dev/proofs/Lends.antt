@@ -22,9 +22,9 @@ pub lent_at : (s : List (Option Stored)) (xs : List (ℕ × ℕ)) (n k : ℕ) (l
 lent_at s xs n k loan is rise backed slot here some = ap (λ (o : Option Loan). is_some o) (loan_of_slot s xs n k rise backed slot ∙ sym here) ∙ some
 
 -- where it returns no, there is no loan
-pub none_here : (o : Option Loan) → is_some o ≡ false → o ≡ None
+pub none_here : {T : Type 0} (o : Option T) → is_some o ≡ false → o ≡ None
 none_here None e = refl
-none_here (Some l) e = cc
+none_here (Some x) e = cc
 
 -- a section of a block that is not lent lies within the bytes of its slot
 pub section_within : (s : List (Option Stored)) (xs : List (ℕ × ℕ)) (n k offset len : ℕ) → IsIndexRising xs → AreBacked s xs → IsSlotOf xs n k → is_lent n (loans_in s xs) ≡ false → offset + len ≤ len_of n (blocks_in s xs) → offset + len ≤ length (stored_bytes (get_or s k None))

@@ -12,4 +12,5 @@ pub mod Lends
 pub mod EndedPlaces
 pub mod Ending
 pub mod Copied
+pub mod Cloned
 pub mod Crossing

@@ -57,6 +57,15 @@ abbrev pub stored_loan : Option Stored → Option Loan
 stored_loan None = None
 stored_loan (Some s) = s.loan
 
+-- the copy of what a slot has is the same, with bytes in a vector of its own
+pub record IsStoredCopy (s copy : Stored) : Type 0 where
+  pub place : copy.place ≡ s.place
+  pub len : copy.len ≡ s.len
+  pub bytes : copy.bytes.items ≡ s.bytes.items
+  pub pins : copy.pins ≡ s.pins
+  pub ended : copy.ended ≡ s.ended
+  pub loan : copy.loan ≡ s.loan
+
 -- the lease brings the block of a slot of this device back
 abbrev pub is_back_at : Bool → ℕ → Leased → Option Stored → Bool
 is_back_at kept d lease slot = is_loan_of lease (stored_loan slot) && (stored_len slot == length lease.bytes) && (lease.device == d) && (not kept || is_kept_outside lease (stored_bytes slot))

@@ -11,7 +11,7 @@ use crate::entries::{Stored, loan_at};
 use acc_base::{Block, Fault, Loan};
 use acc_index::Index;
 use slab::Slab;
-use std::alloc::Global;
+use std::alloc::{AllocError, Global};
 
 /// The bytes that a block has at one moment.
 pub struct SavedBlock {
@@ -25,6 +25,20 @@ pub struct SavedBlock {
 impl Drop for SavedBlock {
     fn drop(self) {
         let SavedBlock { block: _, bytes: _ } = self;
+    }
+}
+
+impl Clone for SavedBlock {
+    ghost is_clone = { λ saved copy. memory_saved copy ≡ memory_saved saved };
+
+    /// The same bytes of the same block.
+    ///
+    /// # Errors
+    ///
+    /// [`AllocError`] where there is no memory for the bytes.
+    fn clone(&self) -> Result<Self, AllocError> {
+        let bytes = Vec::from_slice(*self.bytes.allocator(), &self.bytes)?;
+        Ok(SavedBlock { bytes, ..*self })
     }
 }
 

@@ -24,7 +24,7 @@ use acc_base::{DEVICE_BASE, Ended, Fault, Free, Hole, MEMORY_MAX};
 use acc_index::Index;
 use acc_placement::{Holes, rounded};
 use slab::Slab;
-use std::alloc::Global;
+use std::alloc::{AllocError, Global};
 use std::collections::VecDeque;
 use std::marker::Model;
 
@@ -94,6 +94,32 @@ impl Model for Device {
     } };
 
     ghost invariant = { λ d. AreSlotsKept d.holes d.slab.slots d.index.entries × AreNumbersBorn d.index.entries d.births × HasRoom d × AreEndedKept d.ended_blocks (blocks_in d.slab.slots d.index.entries) (marks_in d.slab.slots d.index.entries) d.births };
+}
+
+impl Clone for Device {
+    ghost is_clone = { IsUnchanged };
+
+    /// The same device, without the room for births that was made.
+    ///
+    /// # Errors
+    ///
+    /// [`AllocError`] where there is no memory for its blocks and their bytes.
+    fn clone(&self) -> Result<Self, AllocError> {
+        let holes = self.holes.clone()?;
+        let index = self.index.clone()?;
+        let ended_blocks = self.ended_blocks.clone()?;
+        let slab = self.slab.clone()?;
+        prove!(slab.len() <= slab.capacity());
+        Ok(Device {
+            alloc: self.alloc,
+            holes,
+            slab,
+            index,
+            ended_blocks,
+            births: self.births,
+            ready: VecDeque::new(self.alloc),
+        })
+    }
 }
 
 impl Device {

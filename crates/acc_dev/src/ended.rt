@@ -5,7 +5,7 @@ ghost use Rattle.acc_ordered.specs.Listing.{KeysRise, keyed, at_key, first_from,
 
 use acc_base::Fault;
 use acc_ordered::{OrderedList, Place};
-use std::alloc::Global;
+use std::alloc::{AllocError, Global};
 use std::marker::Model;
 
 /// The blocks whose mapping has ended, and how many are mapped.
@@ -27,6 +27,21 @@ impl Model for EndedBlocks {
     ghost view = { λ e. record { entries = e.numbers.entries; mapped = e.mapped; room = e.numbers.room - e.mapped } };
 
     ghost invariant = { λ e. e.mapped ≤ e.numbers.room };
+}
+
+impl Clone for EndedBlocks {
+    ghost is_clone = { λ ended copy. (copy.entries ≡ ended.entries) × (copy.mapped ≡ ended.mapped) };
+
+    fn clone(&self) -> Result<Self, AllocError> {
+        let mut numbers = self.numbers.clone()?;
+        if numbers.reserve(self.mapped).is_err() {
+            return Err(AllocError);
+        }
+        Ok(EndedBlocks {
+            numbers,
+            mapped: self.mapped,
+        })
+    }
 }
 
 impl EndedBlocks {

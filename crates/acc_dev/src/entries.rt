@@ -19,7 +19,7 @@ use acc_index::Index;
 use acc_lend::Lease;
 use acc_placement::Holes;
 use slab::Slab;
-use std::alloc::Global;
+use std::alloc::{AllocError, Global};
 use std::mem;
 
 /// What a block has, in a slot of its own.
@@ -37,6 +37,17 @@ pub struct Stored {
     pub ended: bool,
     /// The loan, where the block is lent.
     pub loan: Option<Loan>,
+}
+
+impl Clone for Stored {
+    ghost use Rattle.acc_dev.specs.Kept.{IsStoredCopy};
+
+    ghost is_clone = { IsStoredCopy };
+
+    fn clone(&self) -> Result<Self, AllocError> {
+        let bytes = Vec::from_slice(*self.bytes.allocator(), &self.bytes)?;
+        Ok(Stored { bytes, ..*self })
+    }
 }
 
 /// The slot of a block, if it has one.

@@ -8,7 +8,7 @@ ghost use Rattle.acc_base.specs.Overwriting.{overwritten};
 ghost use Rattle.acc_dev.specs.Host.{IsInHost, IsOutOfHost, IsRead, IsWritten, bytes_in};
 
 use acc_base::{Fault, HOST_BASE, Section};
-use std::alloc::Global;
+use std::alloc::{AllocError, Global};
 use std::marker::Model;
 
 /// Host memory: a byte at each host address from [`HOST_BASE`] on (OpenACC 3.3, section 2.6, data environment).
@@ -32,6 +32,20 @@ impl Model for HostMem {
     ghost Value = { List ℕ };
 
     ghost view = { λ memory. memory.bytes.items };
+}
+
+impl Clone for HostMem {
+    ghost is_clone = { λ memory copy. copy ≡ memory };
+
+    /// A memory of the same bytes.
+    ///
+    /// # Errors
+    ///
+    /// [`AllocError`] where there is no memory for its bytes.
+    fn clone(&self) -> Result<Self, AllocError> {
+        let bytes = Vec::from_slice(*self.bytes.allocator(), &self.bytes)?;
+        Ok(HostMem { bytes })
+    }
 }
 
 impl HostMem {

@@ -1,1 +1,2 @@
 pub mod Indexing
+pub mod Copied

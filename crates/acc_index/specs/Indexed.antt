@@ -1,5 +1,6 @@
 -- A list of values by rising number: what is found in it, how it changes, and how it is kept.
-use Rattle.std.specs.Prelude.{ℕ, ◌≡◌, ◌<◌, ◌==◌, Bool, not, false, is_some, if◌then◌else◌, nat_lt, List, [], ◌∷◌, map, filter, find, length, slice_index_or, Option, Some, None, option_map}
+use Rattle.std.specs.Prelude.{ℕ, ◌≡◌, ◌<◌, ◌==◌, Bool, not, false, is_some, IsSomeAnd, if◌then◌else◌, nat_lt, List, [], ◌∷◌, map, filter, find, length, slice_index_or, Option, Some, None, option_map}
+use Rattle.std.specs.List.{AllZip}
 use Rattle.acc_base.specs.Accounts.{EachPair}
 use Rattle.acc_index.specs.declared.index.IndexEntry.{IndexEntry}
 
@@ -37,6 +38,10 @@ module _ {T : Type 0} where
   abbrev pub with_other : ℕ → T → List (ℕ × T) → List (ℕ × T)
   with_other number value entries = map (λ (e : ℕ × T). if e.0 == number then (number, value) else e) entries
 
+  -- a copy has as many values, each a clone under the same number
+  abbrev pub AreEntryClones : (T → T → Type 0) → List (ℕ × T) → List (ℕ × T) → Type 0
+  AreEntryClones is_clone entries copies = AllZip (λ (e : ℕ × T) (d : ℕ × T). (d.0 ≡ e.0) × is_clone e.1 d.1) entries copies
+
   -- ---- how they are kept
 
   -- the value of a place before others, unless it is gone
@@ -58,6 +63,15 @@ module _ {T : Type 0} where
   ends_gone [] = false
   ends_gone (e ∷ []) = not (is_some e.value)
   ends_gone (e ∷ f ∷ es) = ends_gone (f ∷ es)
+
+  -- a copy has the number, and a clone of the value unless it is gone
+  abbrev pub IsValueClone : (T → T → Type 0) → Option T → Option T → Type 0
+  IsValueClone is_clone None copy = copy ≡ None
+  IsValueClone is_clone (Some value) copy = IsSomeAnd copy (is_clone value)
+
+  pub record IsPlaceClone (is_clone : T → T → Type 0) (e copy : IndexEntry T) : Type 0 where
+    pub number : copy.number ≡ e.number
+    pub value : IsValueClone is_clone e.value copy.value
 
   -- a place with another value
   abbrev pub with_own : IndexEntry T → T → IndexEntry T

@@ -4,10 +4,10 @@ ghost use Rattle.std.specs.Prelude.{◌≡◌, ℕ, ◌+◌, ◌-◌, ◌*◌, �
 ghost use Rattle.std.specs.Borrow.{Lends, sem};
 ghost use Rattle.std.specs.Bool.{OnTrue};
 ghost use Rattle.std.specs.List.{AllByRecursion};
-ghost use Rattle.acc_index.specs.Indexed.{IsIndexRising, value_at, last_number, with_value, without_number, live_entries, AreEntriesRising, IsNumberAt, ends_gone};
+ghost use Rattle.acc_index.specs.Indexed.{IsIndexRising, value_at, last_number, with_value, without_number, live_entries, AreEntriesRising, IsNumberAt, ends_gone, AreEntryClones, IsPlaceClone};
 
 use acc_base::Fault;
-use std::alloc::Global;
+use std::alloc::{AllocError, Global};
 use std::marker::Model;
 
 /// A place for the value of a number.
@@ -36,6 +36,29 @@ pub struct Index<T> {
 impl<T: Drop> Drop for Index<T> {
     fn drop(self) {
         let Index { items: _, count: _ } = self;
+    }
+}
+
+impl<T: Clone> Clone for IndexEntry<T> {
+    ghost is_clone = { IsPlaceClone T.is_clone };
+
+    fn clone(&self) -> Result<IndexEntry<T>, AllocError> {
+        Ok(IndexEntry {
+            number: self.number,
+            value: self.value.clone()?,
+        })
+    }
+}
+
+// The places that are gone are copied too, so that a place that was told is as good in the copy.
+impl<T: Clone> Clone for Index<T> {
+    ghost is_clone = { λ index copy. AreEntryClones T.is_clone index.entries copy.entries };
+
+    fn clone(&self) -> Result<Index<T>, AllocError> {
+        Ok(Index {
+            items: self.items.clone()?,
+            count: self.count,
+        })
     }
 }
 

@@ -1,4 +1,4 @@
-//! Copies of all entries in rows.
+//! Copies of all entries in rows, and of keys.
 ghost use Rattle.std.specs.Prelude.{◌≡◌, length, IfOk, IfErr};
 ghost use Rattle.acc_ordered.specs.Laid.{side_by_side};
 ghost use Rattle.acc_ordered.specs.Listing.{told_in};
@@ -7,7 +7,7 @@ use crate::entries::Telling;
 use crate::keys::Key;
 use crate::rows::Row;
 use acc_base::Fault;
-use std::alloc::Global;
+use std::alloc::{AllocError, Global};
 use std::collections::VecDeque;
 
 /// A copy of each of the `len` entries in rows, in a vector of their own.
@@ -26,4 +26,14 @@ pub fn copy_rows<K: Key, T: Copy, U: Copy, C: Telling<K, T, U>>(
         rows[number].copy_into(telling, &mut copied)?;
     }
     Ok(copied)
+}
+
+/// A copy of keys in a queue.
+pub fn copy_keys<K: Copy>(alloc: Global, keys: &VecDeque<K>) -> Result<VecDeque<K>, AllocError>
+    ensures { IfOk result (λ copied. copied.items ≡ keys.now.items) }
+{
+    let (front, behind) = keys.as_slices();
+    let mut copied = Vec::from_slice(alloc, front)?;
+    copied.extend_from_slice(behind)?;
+    Ok(VecDeque::from_vec(copied))
 }

@@ -3,14 +3,14 @@ ghost use Rattle.std.specs.Prelude.{ℕ, ◌≡◌, ◌↔◌, IsTrue, ◌+◌, 
 ghost use Rattle.acc_ordered.specs.Listing.{KeysRise, keyed, at_key, first_from, last_before, with_entry, without_key, with_value, told_in, seen};
 
 use crate::changes::{make_place, make_rows, put, start, take_out, write};
-use crate::copying::copy_rows;
+use crate::copying::{copy_keys, copy_rows};
 use crate::entries::{KeyValueRef, Neighbors, Telling};
 use crate::finding::{ahead, entry_at, entry_from, find_near, locate, neighbors, place_of};
 use crate::keys::Key;
 use crate::places::Place;
 use crate::rows::Row;
 use acc_base::{Fault, Steps};
-use std::alloc::Global;
+use std::alloc::{AllocError, Global};
 use std::collections::VecDeque;
 use std::marker::Model;
 
@@ -61,6 +61,24 @@ impl<K: Key, T: Copy> Model for OrderedList<K, T> {
     ghost view = { listing_in_rows };
 
     ghost invariant = { AreSoundRows K.number };
+}
+
+impl<K: Key, T: Copy> Clone for OrderedList<K, T> {
+    ghost is_clone = { λ list copy. copy.entries ≡ list.entries };
+
+    fn clone(&self) -> Result<OrderedList<K, T>, AllocError> {
+        let firsts = copy_keys(self.alloc, &self.firsts)?;
+        let rows = self.rows.clone()?;
+        // The invariant wants a place among the rows that wait for each row.
+        let spare = Vec::with_capacity(self.alloc, rows.len())?;
+        Ok(OrderedList {
+            alloc: self.alloc,
+            firsts,
+            rows,
+            spare,
+            len: self.len,
+        })
+    }
 }
 
 impl<K: Key, T: Copy> OrderedList<K, T> {

@@ -8,7 +8,7 @@ use crate::entries::{KeyValueRef, Telling};
 use crate::keys::Key;
 use crate::search::count_below;
 use acc_base::{Fault, Steps};
-use std::alloc::Global;
+use std::alloc::{AllocError, Global};
 use std::marker::Model;
 
 /// How many entries a row has place for.
@@ -33,6 +33,19 @@ impl<K: Key, T> Model for Row<K, T> {
     ghost view = { entries_of K.number };
 
     ghost invariant = { IsPaired };
+}
+
+impl<K: Key, T: Copy> Clone for Row<K, T> {
+    ghost is_clone = { λ row copy. copy ≡ row };
+
+    fn clone(&self) -> Result<Row<K, T>, AllocError> {
+        // Only memory can be missing.
+        let Ok(mut copy) = Row::new(*self.keys.allocator()) else {
+            return Err(AllocError);
+        };
+        copy.append(self);
+        Ok(copy)
+    }
 }
 
 /// Puts an item at a place of a list that has room for it, before those that stood there. It takes fewer steps than an

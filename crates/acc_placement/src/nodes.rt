@@ -1,10 +1,10 @@
 //! Nodes of a tree of holes, what each keeps of the trees on its sides, and the steps that hang these on it and take
 //! them off.
-ghost use Rattle.std.specs.Prelude.{◌≡◌, ◌+◌, ◌^◌, ◌<◌, ◌≤◌, [], ◌∷◌, ◌++◌, max, length, Some, IfSome};
+ghost use Rattle.std.specs.Prelude.{◌≡◌, ◌+◌, ◌^◌, ◌<◌, ◌≤◌, [], ◌∷◌, ◌++◌, max, length, Some, IfSome, IfOk};
 ghost use Rattle.acc_base.specs.Holes.{greatest as greatest_of};
 ghost use Rattle.acc_placement.specs.Nodes.{holes_in, height_of, length_of, IsTall, IsTree, IsLeaf, IsChain};
 
-use std::alloc::Global;
+use std::alloc::{AllocError, Global};
 use std::marker::Model;
 
 /// A tree or a chain, which may be empty.
@@ -157,6 +157,28 @@ pub fn new_node(alloc: Global) -> Option<Box<Node>>
         Ok(node) => Some(node),
         Err(_) => None,
     }
+}
+
+/// Copies a tree into nodes of its own.
+///
+/// # Errors
+///
+/// [`AllocError`] where there is no memory for them.
+pub fn copy(tree: &Link, alloc: Global) -> Result<Link, AllocError>
+    requires is_tree { IsTree tree.now }
+    ensures holes { IfOk result (λ copy. holes_in copy ≡ holes_in tree.now) }
+    ensures height { IfOk result (λ copy. height_of copy ≡ height_of tree.now) }
+    ensures is_tree { IfOk result IsTree }
+{
+    let Some(top) = tree else { return Ok(None) };
+    let top: &Node = top;
+    let node = Node {
+        left: copy(&top.left, alloc)?,
+        right: copy(&top.right, alloc)?,
+        next: None,
+        ..*top
+    };
+    Ok(Some(Box::new(alloc, node)?))
 }
 
 /// Puts a node without subtrees before a chain.

@@ -13,7 +13,7 @@ use crate::hole_iter::HoleIter;
 use crate::rounding::rounded;
 use crate::tree::Tree;
 use acc_base::{Fault, Free, MEMORY_MAX, Steps};
-use std::alloc::Global;
+use std::alloc::{AllocError, Global};
 use std::marker::Model;
 
 /// A space of device addresses: some ranges of it are taken, and the others are its holes.
@@ -54,6 +54,24 @@ impl Model for Holes {
     ghost view = { space_of };
 
     ghost invariant = { AreHolesSound };
+}
+
+impl Clone for Holes {
+    ghost is_clone = { IsSameSpace };
+
+    /// A space with the same holes, and with the room to give each taken range back.
+    ///
+    /// # Errors
+    ///
+    /// [`AllocError`] where there is no memory for its nodes.
+    fn clone(&self) -> Result<Holes, AllocError> {
+        let mut holes = self.holes.clone()?;
+        let nodes = self.taken + 1;
+        if holes.reserve(nodes.saturating_sub(holes.len())).is_err() {
+            return Err(AllocError);
+        }
+        Ok(Holes { holes, ..*self })
+    }
 }
 
 impl Holes {

@@ -5,17 +5,17 @@ ghost use Rattle.acc_placement.specs.Listing.{at_place, first_from, last_before,
 ghost use Rattle.acc_placement.specs.Changes.{MayGrow};
 ghost use Rattle.acc_placement.specs.Nodes.{length_of, IsChain};
 
-use crate::nodes::{Link, height_law, new_node, pop, push};
+use crate::nodes::{Link, copy, height_law, new_node, pop, push};
 use crate::{changes, nodes, walks};
 use acc_base::{Fault, Steps};
-use std::alloc::Global;
+use std::alloc::{AllocError, Global};
 use std::marker::Model;
 
 /// Holes by rising place, each its place and its size in bytes, and nodes that wait for more of them. No two holes
 /// touch, and all end at 2^41 at most.
 ///
-/// Memory is asked for by [`Tree::reserve`] alone: a hole goes into a node that waits, and its node waits again once it
-/// is removed. Contracts see a tree as the list of its holes, and how many more there is room for.
+/// Memory is asked for by [`Tree::reserve`] and `clone` alone: a hole goes into a node that waits, and its node waits
+/// again once it is removed. Contracts see a tree as the list of its holes, and how many more there is room for.
 ///
 /// A walk visits at most two nodes for each binary digit of the number of holes. Two calls go down twice, so they visit
 /// at most four: [`Tree::first_fit_from`], and [`Tree::take_front`] where nothing of the hole is left.
@@ -50,6 +50,24 @@ impl Drop for Tree {
             len: _,
             nodes: _,
         } = self;
+    }
+}
+
+impl Clone for Tree {
+    ghost is_clone = { λ tree copy. copy.holes ≡ tree.holes };
+
+    /// A tree of the same holes, without room.
+    ///
+    /// # Errors
+    ///
+    /// [`AllocError`] where there is no memory for its nodes.
+    fn clone(&self) -> Result<Tree, AllocError> {
+        Ok(Tree {
+            root: copy(&self.root, self.alloc)?,
+            spare: None,
+            nodes: self.len,
+            ..*self
+        })
     }
 }
 

@@ -7,4 +7,5 @@ pub mod Keyed
 pub mod Bounded
 pub mod Keeping
 mod Changed
+pub mod Copied
 pub mod Crossing

@@ -8,7 +8,7 @@ use crate::counters::{CounterList, LocatedCounter};
 use crate::left::Left;
 use acc_base::{Aim, Attachment, Fault};
 use acc_ordered::Place;
-use std::alloc::Global;
+use std::alloc::{AllocError, Global};
 use std::marker::Model;
 
 /// The attachment counters of the pointers in the blocks of a device (OpenACC 3.3, sections 2.6.8 and 2.7.2).
@@ -17,7 +17,8 @@ use std::marker::Model;
 /// counter is zero until the pointer is attached. Targets are device addresses.
 ///
 /// Contracts see the counters above zero, and beside them for how many more of them there is room. A refused call
-/// leaves the counters as they were. Only `attach`, `reserve` and `copy_counters` allocate, the last for its result.
+/// leaves the counters as they were. Only `attach`, `reserve`, `copy_counters` and `clone` allocate, the last two for
+/// their results. A clone has the limit and the counters, and may have no room for more.
 ///
 /// Counters are searched for by their keys, and stand in rows of up to 64. One that becomes one or zero moves others of
 /// its row. The list of rows moves too where a full row is split, or a row becomes empty or is joined with one beside it.
@@ -49,6 +50,17 @@ impl Model for Attached {
     } };
 
     ghost invariant = { λ a. AreAttached a.counter_max a.counters.counters };
+}
+
+impl Clone for Attached {
+    ghost is_clone = { λ attached copy. (copy.counter_max ≡ attached.counter_max) × (copy.attached ≡ attached.attached) };
+
+    fn clone(&self) -> Result<Attached, AllocError> {
+        Ok(Attached {
+            counter_max: self.counter_max,
+            counters: self.counters.clone()?,
+        })
+    }
 }
 
 impl Attached {

@@ -8,7 +8,7 @@ ghost use Rattle.acc_present.specs.KeptCounters.{is_from, counter_in, key_of as 
 
 use acc_base::{Attachment, Fault};
 use acc_ordered::{OrderedList, Place, Telling};
-use std::alloc::Global;
+use std::alloc::{AllocError, Global};
 use std::marker::Model;
 
 /// The keys of two blocks that follow one another lie so far apart: one for each host address.
@@ -60,7 +60,7 @@ pub struct LocatedCounter {
     pub place: Place,
 }
 
-/// The counters above zero, and room for more of them.
+/// The counters above zero, and room for more of them. A clone has the counters, and may have no room for more.
 #[derive(Drop)]
 pub struct CounterList {
     // Each count stands under the key of its pointer.
@@ -77,6 +77,17 @@ impl Model for CounterList {
     ghost view = { λ c. record { counters = counters_in c.counts.entries; room = c.counts.room } };
 
     ghost invariant = { λ c. AreUpTo c.highest c.counts.entries };
+}
+
+impl Clone for CounterList {
+    ghost is_clone = { λ list copy. copy.counters ≡ list.counters };
+
+    fn clone(&self) -> Result<CounterList, AllocError> {
+        Ok(CounterList {
+            counts: self.counts.clone()?,
+            highest: self.highest,
+        })
+    }
 }
 
 impl CounterList {

@@ -18,14 +18,15 @@ use crate::register::{OpenRegion, Register};
 use acc_base::{Counter, Counters, Fault, Found, Holding, Range, Section, Steps};
 use acc_index::Index;
 use acc_ordered::{KeyValueRef, OrderedList, Place};
-use std::alloc::Global;
+use std::alloc::{AllocError, Global};
 use std::marker::Model;
 
 /// The present table of a device (OpenACC 3.3, section 2.6). It has the ranges of host memory that are mapped to blocks
 /// of device memory, each with its two reference counters. And it has the register of open data regions.
 ///
 /// Contracts see the table, and the room that was made for more beside it. A refused call leaves the table as it was.
-/// Only `new`, `add`, `enter` and `reserve` allocate for it, and `copy_ranges` and `copy_regions` for their results.
+/// Only `new`, `add`, `enter` and `reserve` allocate for it, and `copy_ranges`, `copy_regions` and `clone` for their
+/// results. A clone has the table, and may have no room for more.
 ///
 /// The ranges stand in an [`OrderedList`] by rising start. The start of each block's range stands in an [`Index`] beside
 /// it, and is found mostly without a search.
@@ -78,6 +79,19 @@ impl Model for Present {
     } };
 
     ghost invariant = { λ p. (p.counter_max < 2 ^ 32) × AllByRecursion (IsWithinLimit p.counter_max) (ranges_in p.ranges.entries) × IsIndexed p.ranges.entries (start_in p.starts) };
+}
+
+impl Clone for Present {
+    ghost is_clone = { λ present copy. copy.table ≡ present.table };
+
+    fn clone(&self) -> Result<Present, AllocError> {
+        Ok(Present {
+            counter_max: self.counter_max,
+            ranges: self.ranges.clone()?,
+            starts: self.starts.clone()?,
+            register: self.register.clone()?,
+        })
+    }
 }
 
 /// The range that was found, if one was.

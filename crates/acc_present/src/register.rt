@@ -7,7 +7,7 @@ ghost use Rattle.acc_present.specs.Present.{AreNumbered, IsPlaceMissing, region_
 use crate::copying::copy_regions_of;
 use acc_base::{Fault, Holding};
 use acc_index::Index;
-use std::alloc::Global;
+use std::alloc::{AllocError, Global};
 use std::marker::Model;
 use std::mem;
 
@@ -29,10 +29,21 @@ impl Drop for OpenRegion {
     }
 }
 
+impl Clone for OpenRegion {
+    ghost is_clone = { λ region copy. region_of copy ≡ region_of region };
+
+    fn clone(&self) -> Result<OpenRegion, AllocError> {
+        Ok(OpenRegion {
+            number: self.number,
+            holdings: self.holdings.clone()?,
+        })
+    }
+}
+
 /// The open regions.
 ///
 /// What they hold stands in an [`Index`], by their numbers. So the newest region is found at once, and an older one
-/// mostly is. A region that is left moves no other one.
+/// mostly is. A region that is left moves no other one. A clone has the regions, and may have no room for more.
 #[derive(Drop)]
 pub struct Register {
     alloc: Global,
@@ -50,6 +61,18 @@ impl Model for Register {
     ghost view = { λ r. record { regions = regions_in r.regions.entries; gone = r.regions.gone; room = r.regions.room; holdings = vec_capacity r.spare } };
 
     ghost invariant = { λ r. r.spare.items ≡ [] };
+}
+
+impl Clone for Register {
+    ghost is_clone = { λ register copy. copy.regions ≡ register.regions };
+
+    fn clone(&self) -> Result<Register, AllocError> {
+        Ok(Register {
+            alloc: self.alloc,
+            regions: self.regions.clone()?,
+            spare: Vec::new(self.alloc),
+        })
+    }
 }
 
 impl Register {

@@ -4,13 +4,13 @@ ghost use Rattle.std.specs.Prelude.{◌≡◌, ◌+◌, ◌<◌, ◌≤◌, [], 
 ghost use Rattle.std.specs.Option.{option_copied};
 
 use acc_base::{Fault, Transfer};
-use std::alloc::Global;
+use std::alloc::{AllocError, Global};
 use std::collections::VecDeque;
 use std::marker::Model;
 
 /// One queue: its transfers, the one that is next at the front.
 ///
-/// Contracts see beside them for how many more there is room.
+/// Contracts see beside them for how many more there is room. A clone has the transfers, and may have no room for more.
 #[derive(Drop)]
 pub struct Ring {
     waiting: VecDeque<Transfer>,
@@ -27,6 +27,16 @@ impl Model for Ring {
       transfers = r.waiting.items;
       spare = deque_capacity r.waiting - deque_len r.waiting;
     } };
+}
+
+impl Clone for Ring {
+    ghost is_clone = { λ ring copy. copy.transfers ≡ ring.transfers };
+
+    fn clone(&self) -> Result<Ring, AllocError> {
+        Ok(Ring {
+            waiting: self.waiting.clone()?,
+        })
+    }
 }
 
 impl Ring {

@@ -10,7 +10,7 @@ ghost use Rattle.acc_present.specs.Queued.{AreQueues, judge_put, spare_at, AreRo
 use crate::ring::Ring;
 use crate::rings::{copy_rings, make_room, new_rings, pop_from, put_into};
 use acc_base::{Fault, QUEUE_COUNT, Transfer};
-use std::alloc::Global;
+use std::alloc::{AllocError, Global};
 use std::marker::Model;
 
 /// The sixteen queues in which transfers wait to be made (OpenACC 3.3, section 2.16, asynchronous behavior).
@@ -19,7 +19,8 @@ use std::marker::Model;
 /// most as many as a limit says.
 ///
 /// Contracts see the limit, the transfers of each queue, the next one first, and for how many more each queue has room.
-/// A refused call leaves the transfers as they were. Only `new`, `put`, `reserve` and `copy_queues` allocate.
+/// A refused call leaves the transfers as they were. Only `new`, `put`, `reserve`, `copy_queues` and `clone` allocate. A
+/// clone has the limit and the transfers, and may have no room for more.
 ///
 /// A look-up and a removal take the same time however many transfers wait. So does `put`, unless a queue's room grows:
 /// then that queue's transfers may move.
@@ -48,6 +49,18 @@ impl Model for Queues {
     } };
 
     ghost invariant = { λ q. AreQueues q.cap (queues_in q.rings.items) };
+}
+
+impl Clone for Queues {
+    ghost is_clone = { λ queues copy. (copy.cap ≡ queues.cap) × (copy.queues ≡ queues.queues) };
+
+    #[tactic(auto, using(crate::proofs::Copied::same_of_clones))]
+    fn clone(&self) -> Result<Queues, AllocError> {
+        Ok(Queues {
+            cap: self.cap,
+            rings: self.rings.clone()?,
+        })
+    }
 }
 
 impl Queues {

@@ -16,3 +16,4 @@ pub mod Tallied
 pub mod Lawful
 pub mod Apart
 pub mod Crossing
+mod Compared

@@ -9,3 +9,4 @@ pub mod Turns
 pub mod Turning
 pub mod Laws
 pub mod Replies
+pub mod Comparing

@@ -101,18 +101,23 @@ impl Devices {
         }
     }
 
-    /// What all devices have as a base, where so many events had led here: the bytes of all memories with full traces
-    /// alone.
-    pub(crate) fn base(&self, alloc: Global, config: &Config, events: u64) -> Result<Base, Fault>
+    /// What all devices have as a base, where so many events had led here: with the bytes of all memories, or without.
+    pub(crate) fn base(
+        &self,
+        alloc: Global,
+        config: &Config,
+        full: bool,
+        events: u64,
+    ) -> Result<Base, Fault>
         requires { AreSet config.now self.now }
-        ensures ok { IfOk result (λ base. base ≡ base_of config.now.full (whole_of self.now) events) }
+        ensures ok { IfOk result (λ base. base ≡ base_of full (whole_of self.now) events) }
         ensures only { IfErr result (λ fault. fault ≡ Memory) }
     {
-        let host = self.store.saved_host(alloc)?;
+        let host = self.store.saved_host(alloc, full)?;
         let mut saved = Vec::new(alloc);
         for device in 0..config.devices() {
             if let Some(view) = self.view(device) {
-                saved.push(view.saved(alloc)?)?;
+                saved.push(view.saved(alloc, full)?)?;
             }
         }
         Ok(Base::of(

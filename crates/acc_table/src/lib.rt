@@ -7,6 +7,7 @@
 #![tactic(auto)]
 
 mod calls;
+mod copying;
 mod devices;
 mod dry_runs;
 pub mod laws;

@@ -75,7 +75,8 @@ impl Table {
         let events = self.events();
         let data = &mut *self.data;
         let alloc = *data.trace.allocator();
-        let base = data.devices.base(alloc, &data.config, events)?;
+        let full = data.config.full();
+        let base = data.devices.base(alloc, &data.config, full, events)?;
         let base = mem::replace(&mut data.base, base);
         let events = mem::replace(&mut data.trace, Vec::new(alloc));
         Ok(Folded { base, events })

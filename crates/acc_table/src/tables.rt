@@ -76,7 +76,7 @@ fn new_data(alloc: Global, config: Config) -> Result<TableData, Fault>
 {
     config.laws();
     let devices = Devices::new(alloc, &config)?;
-    let base = devices.base(alloc, &config, 0)?;
+    let base = devices.base(alloc, &config, config.full(), 0)?;
     let plan = Box::new(alloc, Plan::new())?;
     Ok(TableData {
         config,

@@ -5,6 +5,7 @@ pub mod Leasing
 pub mod Copying
 pub mod Telling
 pub mod Looking
+pub mod Pairing
 pub mod Lasting
 pub mod Staying
 pub mod Copies

@@ -11,4 +11,5 @@ pub mod Events
 pub mod Holdings
 pub mod Named
 pub mod Begins
+pub mod Pairs
 pub mod Shows

@@ -19,6 +19,7 @@ mod loans;
 mod lookups;
 mod memories;
 mod named;
+mod pairs;
 mod parts;
 mod queries;
 mod statuses;

@@ -275,7 +275,7 @@ fn told_from(entry: &IndexEntry<KeptLease>, from: u64) -> Option<RawLease>
 }
 
 /// The lease of least number at or above a number, if one is out.
-fn lease_from(leases: &Index<KeptLease>, from: u64) -> Option<RawLease>
+pub fn lease_from(leases: &Index<KeptLease>, from: u64) -> Option<RawLease>
     ensures { result ≡ lease_from from (leases_in leases.now.entries) }
 {
     let items = leases.items();

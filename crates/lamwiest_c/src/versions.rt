@@ -3,8 +3,8 @@
 ghost use Rattle.std.specs.Prelude.{◌≡◌};
 ghost use Rattle.lamwiest_c.specs.declared.versions.TheConstants.{VERSION};
 
-/// Version 0.2.4: a million times the first number, a thousand times the second, and the third.
-const VERSION: u32 = 2004;
+/// Version 0.2.5: a million times the first number, a thousand times the second, and the third.
+const VERSION: u32 = 2005;
 
 /// Returns the version of the library that a program is linked with. The one that it was compiled with is `LW_VERSION`.
 #[unsafe(no_mangle)]

@@ -4,9 +4,10 @@
  *   stress PROFILE SEED CALLS FOLDER
  *
  * makes so many calls of a profile, and writes into the folder: `script`; `args`, the options with which accrun has to
- * run it; `stdout`, `stderr` and `status`, what it has to print and to end with. Behind each thousand calls the report
- * is asked for. On standard output the program says how often each status was answered to a statement, and how often to
- * a call that no script can say. It ends with status 1 where the library answers what it must not.
+ * run it; `stdout`, `stderr` and `status`, what it has to print and to end with. Behind each thousand calls the table
+ * is replaced by a copy, and the report is asked for. On standard output the program says how often each status was
+ * answered to a statement, and how often to a call that no script can say. It ends with status 1 where the library
+ * answers what it must not.
  */
 #include "stress.h"
 #include <inttypes.h>
@@ -191,12 +192,29 @@ static void write_counts(const run *run)
     }
 }
 
+/* Goes on with a copy of the table, which has the same. A lease that a full trace keeps out leaves no copy. */
+static void copy_back(run *run)
+{
+    lw_table copy = LW_NO_TABLE;
+    uint64_t same = 0;
+    lw_fault fault;
+    const uint32_t status = lw_table_copy(&run->table, &copy, &fault);
+
+    if (status != LW_LENT &&
+        (status != LW_DONE || lw_table_same(&run->table, &copy, &same, &fault) != LW_DONE || same != 1 ||
+         lw_table_copy(&copy, &run->table, &fault) != LW_DONE)) {
+        fail(run, "a copy of the table", fault.status);
+    }
+    lw_table_end(&copy);
+}
+
 static void make_calls(run *run, uint64_t calls)
 {
     say_arrays(run);
     for (uint64_t n = 1; n <= calls; n++) {
         say_statement(run, draw_kind(run));
         if (n % TURNS_TO_A_REPORT == 0 || n == calls) {
+            copy_back(run);
             say_report(run);
         }
     }

@@ -16,9 +16,9 @@ loop-device-preserved c =
     let there : d < length w.devices = omega (arith, c.loop-device-test.true, c.devices-device-end.ensures.value, c.requires.count, devices_count c.args.self.now) in
     elim c.match-view.branch [
       | in-Some+in_ok-saved+in_ok-push x ↦
-          let now : x.in_ok-saved.field-0 ≡ recorded_device l.full (device_at d w.devices) = x.in_ok-saved.ensures.ok ∙ ap (λ (v : Seen). recorded_device v.limits.full (device_in_view v.state)) (x.in-Some.ensures.there l c.requires) in
+          let now : x.in_ok-saved.field-0 ≡ recorded_device c.args.full (device_at d w.devices) = x.in_ok-saved.ensures.ok ∙ ap (λ (v : Seen). recorded_device c.args.full (device_in_view v.state)) (x.in-Some.ensures.there l c.requires) in
           let items : c.match-view.saved.items ≡ c.loop-device.saved.items ++ x.in_ok-saved.field-0 ∷ [] = ap (λ (v : Vec OneDevice Global). v.items) x.saved-is ∙ x.in_ok-push.ensures.items in
-          subst (λ (ds : List OneDevice). ds ++ map (recorded_device l.full) (drop (d + 1) w.devices) ≡ map (recorded_device l.full) w.devices) (sym items) (saved_more l.full d w.devices c.loop-device.saved.items x.in_ok-saved.field-0 there c.loop-device.invariant now)
+          subst (λ (ds : List OneDevice). ds ++ map (recorded_device c.args.full) (drop (d + 1) w.devices) ≡ map (recorded_device c.args.full) w.devices) (sym items) (saved_more c.args.full d w.devices c.loop-device.saved.items x.in_ok-saved.field-0 there c.loop-device.invariant now)
       | in_default x ↦ absurd (let none : length c.args.self.now.spares.items ≤ d = x.in_default.ensures.none in omega (arith, there, none, devices_count c.args.self.now))
     ]
 
@@ -27,6 +27,6 @@ returns-clause-ok c =
     let l : Limits = c.args.config.now in
     let w : Whole = whole_of c.args.self.now in
     let all : length w.devices ≤ c.loop-device.device = omega (arith, c.loop-device-test.false, c.devices-device-end.ensures.value, c.requires.count, devices_count c.args.self.now) in
-    let devices = saved_all l.full c.loop-device.device w.devices c.loop-device.saved.items all c.loop-device.invariant in
-    let host : c.in_ok-host.host.items ≡ recorded l.full w.host = c.in_ok-host.ensures.ok ∙ ap (λ (m : Limits). recorded m.full w.host) c.requires.used in
-    c.of.ensures ∙ base_saved l.full w c.args.events c.next_region.result c.next_serial.result c.loop-device.saved.items c.in_ok-host.host.items devices c.next_region.ensures c.next_serial.ensures host
+    let devices = saved_all c.args.full c.loop-device.device w.devices c.loop-device.saved.items all c.loop-device.invariant in
+    let host : c.in_ok-host.host.items ≡ recorded c.args.full w.host = c.in_ok-host.ensures.ok in
+    c.of.ensures ∙ base_saved c.args.full w c.args.events c.next_region.result c.next_serial.result c.loop-device.saved.items c.in_ok-host.host.items devices c.next_region.ensures c.next_serial.ensures host

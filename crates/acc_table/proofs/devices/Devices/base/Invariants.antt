@@ -6,4 +6,4 @@ use Rattle.acc_table.proofs.devices.Devices.base.Given as goal
 
 -- the devices before this one were saved
 abbrev pub invariant-loop-device : goal.invariant-loop-device
-invariant-loop-device l = l.saved.items ++ map (recorded_device l.config.full) (drop l.device (whole_of l.self).devices) ≡ map (recorded_device l.config.full) (whole_of l.self).devices
+invariant-loop-device l = l.saved.items ++ map (recorded_device l.full) (drop l.device (whole_of l.self).devices) ≡ map (recorded_device l.full) (whole_of l.self).devices

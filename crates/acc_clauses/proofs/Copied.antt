@@ -1,0 +1,44 @@
+-- What is the same but for room is as sound, and lists of clones are the same where the clones are.
+use Rattle.std.proofs.Common.{ℕ, ◌≡◌, ◌∙◌, refl, sym, ap, subst, List, [], ◌∷◌, length, replicate}
+use Rattle.std.specs.Prelude.{map}
+use Rattle.std.specs.List.{AllZip, AllByRecursion}
+use Rattle.acc_base.specs.Limits.{Limits}
+use Rattle.acc_base.specs.Records.{State}
+use Rattle.acc_base.specs.Devices.{OneDevice}
+use Rattle.acc_dev.specs.Marks.{Mark}
+use Rattle.acc_present.specs.Present.{PresentTable}
+use Rattle.acc_clauses.specs.declared.environments.Environment.{Environment}
+use Rattle.acc_clauses.specs.Contents.{Contents, IsStateSound, IsMarkRight, bare_numbers}
+use Rattle.acc_clauses.specs.Devices.{device_of, state_beside, IsSameEnvironment, IsDeviceSound}
+use Rattle.acc_clauses.specs.Stored.{IsStoreSound}
+
+pub same_device_of : (x y : Environment) → IsSameEnvironment x y → device_of y ≡ device_of x
+same_device_of x y h = λ i. record {
+  records = record { ranges = (h.table i).ranges; blocks = h.device.blocks i; attached = h.attached i; births = h.device.births i; queues = h.queues i; loans = h.device.loans i };
+  regions = (h.table i).regions;
+  memories = h.device.memories i;
+}
+
+pub same_device_sound : (l : Limits) (x y : Environment) (lent : ℕ) → IsSameEnvironment x y → IsDeviceSound l x lent → IsDeviceSound l y lent
+same_device_sound l x y lent h s =
+    let same : device_of y ≡ device_of x = same_device_of x y h in
+    record {
+      bounds = s.bounds;
+      sized = record { counters = ap (λ (t : PresentTable). t.counter_max) h.table ∙ s.sized.counters; device = h.device.memory ∙ s.sized.device; pointers = h.counter_max ∙ s.sized.pointers; queues = h.cap ∙ s.sized.queues };
+      sound = subst (λ (d : OneDevice). IsStateSound l (state_beside d (replicate l.host 0) bare_numbers)) (sym same) s.sound;
+      marked = subst (λ (marks : List Mark). AllByRecursion (IsMarkRight y.present.table.ranges y.queues.queues) marks) (sym h.device.marks)
+          (subst (λ (d : OneDevice). AllByRecursion (IsMarkRight d.records.ranges d.records.queues) x.device.marks) (sym same) s.marked);
+      lent = s.lent ∙ ap (λ (d : OneDevice). length d.records.loans) (sym same);
+    }
+
+pub same_store_sound : (c d : Contents) → d.limits ≡ c.limits → d.state ≡ c.state → IsStoreSound c → IsStoreSound d
+same_store_sound c d limits state h =
+    subst (λ (l : Limits). IsStoreSound (record { limits = l; state = d.state; room = d.room })) (sym limits)
+    (subst (λ (s : State). IsStoreSound (record { limits = c.limits; state = s; room = d.room })) (sym state) (record { sound = h.sound; few = h.few; holdings = h.holdings }))
+
+-- what each clone has in common with its source, the lists have
+pub same_of_clones : {X B : Type 0} (R : X → X → Type 0) (v : X → B) (xs ys : List X) → AllZip R xs ys → ((x y : X) → R x y → v y ≡ v x) → map v ys ≡ map v xs
+same_of_clones R v [] [] h same = refl
+same_of_clones R v [] (y ∷ ys) h same = absurd h
+same_of_clones R v (x ∷ xs) [] h same = absurd h
+same_of_clones R v (x ∷ xs) (y ∷ ys) h same = λ i. same x y h.0 i ∷ same_of_clones R v xs ys h.1 same i

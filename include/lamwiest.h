@@ -20,7 +20,7 @@
  *     one is in a call on the table. Nor does any once the lease is spent, or the table has ended or begun anew.
  *   - A thread has 256 KiB of stack for a call.
  * All else that is wrong is told: as a status, with no change. So is a call that the program's own memory functions
- * make on the same handle: it is LW_ENDED.
+ * make on the same handle: it is LW_ENDED. They make none on a handle into which a table is made or copied.
  */
 #ifndef LAMWIEST_H
 #define LAMWIEST_H
@@ -165,16 +165,18 @@ uint32_t lw_table_reset(lw_table *table, lw_fault *fault);
 /* Ends a table with its leases, and gives back all of its memory. A handle without a table stays so. */
 void lw_table_end(lw_table *table);
 
-/* Puts a copy of a table into another handle: its limits, all memories, all that is on record, the stored trace, and
-   where lw_array goes on. What that handle had is ended. Then each table goes its own way. It is no event. LW_ENDED
-   where there is no table to copy. LW_LENT where leases of it are out, since none can be had twice; value: the block of
-   the one of least number. Else LW_MEMORY. In these three cases the other handle stays as it is. */
+/* Puts a copy of a table into another handle. It has the limits, all memories, all that is on record and the stored
+   trace, and lw_array goes on as there. What that handle had is ended, with its leases. Then each table goes its own
+   way, with the same next numbers of regions and leases. It is no event. LW_ENDED where there is no table to copy.
+   LW_LENT where leases of it are out, since none can be had twice; value: the block of the one of least number. Else
+   LW_MEMORY. In these three cases the other handle stays as it is. */
 uint32_t lw_table_copy(lw_table *from, lw_table *to, lw_fault *fault);
 
 /* same: 1 where two tables have the same limits, the same bytes in all memories, and the same on record; else 0. That
    is blocks, mapped ranges with their counters, attached pointers, open regions, copies that wait, loans, and the
    numbers that come next. Their traces may differ, and so may the bytes of leases and what lw_array handed out. For a
-   moment there is memory for a copy of both. LW_ENDED where one of them has no table, or LW_MEMORY. It is no event. */
+   moment it takes memory for a copy of both. LW_ENDED where one of the two handles has no table, or LW_MEMORY. It is no
+   event. */
 uint32_t lw_table_same(lw_table *one, lw_table *other, uint64_t *same, lw_fault *fault);
 
 /* Folds all events into a base, so that there is room in the trace again. Tickets do not come back. It is no event.

@@ -82,7 +82,8 @@ public:
     // All limits as by default.
     Table() { begin(nullptr); }
     explicit Table(const lw_limits &limits) { begin(&limits); }
-    // A copy, with the trace, which goes its own way from then on. A region that is open in it is exited by lw_exit.
+    // A copy, with the trace, which goes its own way from then on. A region that is open in it is exited by lw_exit. It
+    // throws with LW_LENT while a Lease of the table is there.
     explicit Table(Table &from)
     {
         lw_fault fault;
@@ -207,6 +208,9 @@ public:
     // Whether another table has the same limits, and the same in all memories and on record. Their traces may differ.
     bool is_same_as(Table &other)
     {
+        if (&other == this) {
+            return true;
+        }
         uint64_t same = 0;
         lw_fault fault;
         must(lw_table_same(&table, &other.table, &same, &fault), fault);

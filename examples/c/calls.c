@@ -2,7 +2,7 @@
  * Each call of the library, right and wrong, with what it has to answer. A row is one call; the rows of a scene are
  * made in their order on one table. A refused call has to leave the report of the table as it was. Before a call is
  * made for good it is made with each of its growths of memory refused: then it is LW_MEMORY, or what it is
- * refused for in any case. Each row is made on a copy of its table, too.
+ * refused for in any case. While no lease is out each row is made on a copy of its table, too.
  */
 #include "lamwiest.h"
 #include "refusing.h"
@@ -1387,6 +1387,7 @@ static void make_on_copies(const scene *scene)
         lw_fault fault;
         answer first, second;
 
+        lw_table_end(&copy);
         check(lw_table_copy(&table, &copy, &fault) == wanted && fault.status == wanted && fault.item == 0 &&
                   fault.value == lent.block, "copy", row->says);
         first = answer_of(&table, row, 0);
@@ -1444,6 +1445,7 @@ static void check_no_copies(lw_table *table)
     uint64_t same = UNTOUCHED;
     lw_fault fault;
 
+    lw_table_new(&copy, NULL, NULL);
     check(lw_table_copy(table, &copy, NULL) == LW_DONE && lw_table_copy(&none, &copy, &fault) == LW_ENDED &&
               fault.status == LW_ENDED && lw_table_copy(&none, &copy, NULL) == LW_ENDED && is_same(table, &copy),
           "copy", "of no table");

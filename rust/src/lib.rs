@@ -334,7 +334,8 @@ impl Table {
     }
 
     /// A copy, with the trace, which goes its own way from then on. A region that is open in it has no [`Region`]: it
-    /// stays open until the copy ends or begins anew. It is `Lent` where a kernel that panicked left a block lent.
+    /// stays open until the copy ends or begins anew. It is `Lent` where a block stayed lent, since its kernel panicked
+    /// or was refused at its end. Else it is `Memory`, where there is none for it.
     pub fn try_clone(&mut self) -> Result<Table, Refused> {
         let mut copy = Table(raw::Table::NONE);
         // SAFETY: as `Table` tells.
@@ -343,6 +344,7 @@ impl Table {
     }
 
     /// Whether another table has the same limits, and the same in all memories and on record. Their traces may differ.
+    /// It is `Memory` where there is none for a copy of both.
     pub fn is_same_as(&mut self, other: &mut Table) -> Result<bool, Refused> {
         // SAFETY: as `Table` tells.
         let same = made(|same, fault| unsafe { raw::lw_table_same(&mut self.0, &mut other.0, same, fault) })?;

@@ -4,10 +4,10 @@
  *   stress PROFILE SEED CALLS FOLDER
  *
  * makes so many calls of a profile, and writes into the folder: `script`; `args`, the options with which accrun has to
- * run it; `stdout`, `stderr` and `status`, what it has to print and to end with. Behind each thousand calls the table
- * is replaced by a copy, and the report is asked for. On standard output the program says how often each status was
- * answered to a statement, and how often to a call that no script can say. It ends with status 1 where the library
- * answers what it must not.
+ * run it; `stdout`, `stderr` and `status`, what it has to print and to end with. Behind each thousand calls the
+ * report is asked for, and a copy takes the place of the table unless a lease is out. On standard output the program
+ * says how often each status was answered to a statement, and how often to a call that no script can say. It ends with
+ * status 1 where the library answers what it must not.
  */
 #include "stress.h"
 #include <inttypes.h>

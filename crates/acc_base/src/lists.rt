@@ -76,12 +76,16 @@ impl<T> List<T> {
     }
 }
 
-/// A copy has the same elements, and takes as much memory as [`List::from_slice`].
 impl<T: Copy> Clone for List<T> {
     ghost use Rattle.std.specs.Prelude.{◌≡◌};
 
     ghost is_clone = { λ list copy. copy ≡ list };
 
+    /// A list of the same elements.
+    ///
+    /// # Errors
+    ///
+    /// [`AllocError`] where there is no memory for more than one element.
     fn clone(&self) -> Result<List<T>, AllocError> {
         match &self.kept {
             Kept::One([item]) => Ok(List::one(*item)),

@@ -1,7 +1,6 @@
--- What is the same but for room is as sound, and lists of clones are the same where the clones are.
-use Rattle.std.proofs.Common.{ℕ, ◌≡◌, ◌∙◌, refl, sym, ap, subst, List, [], ◌∷◌, length, replicate}
-use Rattle.std.specs.Prelude.{map}
-use Rattle.std.specs.List.{AllZip, AllByRecursion}
+-- What is the same but for room is as sound.
+use Rattle.std.proofs.Common.{ℕ, ◌≡◌, ◌∙◌, sym, ap, subst, List, length, replicate}
+use Rattle.std.specs.List.{AllByRecursion}
 use Rattle.acc_base.specs.Limits.{Limits}
 use Rattle.acc_base.specs.Records.{State}
 use Rattle.acc_base.specs.Devices.{OneDevice}
@@ -35,10 +34,3 @@ pub same_store_sound : (c d : Contents) → d.limits ≡ c.limits → d.state �
 same_store_sound c d limits state h =
     subst (λ (l : Limits). IsStoreSound (record { limits = l; state = d.state; room = d.room })) (sym limits)
     (subst (λ (s : State). IsStoreSound (record { limits = c.limits; state = s; room = d.room })) (sym state) (record { sound = h.sound; few = h.few; holdings = h.holdings }))
-
--- what each clone has in common with its source, the lists have
-pub same_of_clones : {X B : Type 0} (R : X → X → Type 0) (v : X → B) (xs ys : List X) → AllZip R xs ys → ((x y : X) → R x y → v y ≡ v x) → map v ys ≡ map v xs
-same_of_clones R v [] [] h same = refl
-same_of_clones R v [] (y ∷ ys) h same = absurd h
-same_of_clones R v (x ∷ xs) [] h same = absurd h
-same_of_clones R v (x ∷ xs) (y ∷ ys) h same = λ i. same x y h.0 i ∷ same_of_clones R v xs ys h.1 same i

@@ -11,7 +11,7 @@ use acc_present::OpenRegion;
 use std::alloc::AllocError;
 use std::marker::Model;
 
-/// What one device had at one moment: everything but bytes, and with full traces those of its blocks too.
+/// What one device had at one moment: everything but bytes, and those of its blocks too where they were asked for.
 pub struct DeviceBase {
     pub(crate) ranges: Vec<Range>,
     pub(crate) blocks: Vec<Block>,
@@ -63,7 +63,7 @@ impl Clone for DeviceBase {
     /// # Errors
     ///
     /// [`AllocError`] where there is no memory for them.
-    #[tactic(auto, using(std::proofs::lemmas::List::Elements::same_from_all_zip, crate::proofs::Copied::same_of_clones))]
+    #[tactic(auto, using(std::proofs::lemmas::List::Elements::same_from_all_zip, acc_present::proofs::Copied::same_of_clones))]
     fn clone(&self) -> Result<DeviceBase, AllocError> {
         Ok(DeviceBase {
             ranges: self.ranges.clone()?,
@@ -128,8 +128,8 @@ impl DeviceBase {
     }
 }
 
-/// What a table had when so many events had led there: everything but bytes, and with full traces all memories too. The
-/// events since are counted from here on.
+/// What a table had when so many events had led there: everything but bytes, and all memories too where these were asked
+/// for, as with full traces. The events since are counted from here on.
 pub struct Base {
     devices: Vec<DeviceBase>,
     next_region: u64,

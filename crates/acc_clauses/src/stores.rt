@@ -349,16 +349,16 @@ impl Store {
         self.host.read(section)
     }
 
-    /// The bytes of host memory with `bytes`; else none.
+    /// The bytes of host memory with `full`; else none.
     ///
     /// # Errors
     ///
     /// [`Fault::Memory`] alone.
-    pub fn saved_host(&self, alloc: Global, bytes: bool) -> Result<Vec<u8>, Fault>
-        ensures ok { IfOk result (λ saved. saved.items ≡ recorded bytes self.now.state.host) }
+    pub fn saved_host(&self, alloc: Global, full: bool) -> Result<Vec<u8>, Fault>
+        ensures ok { IfOk result (λ saved. saved.items ≡ recorded full self.now.state.host) }
         ensures only { IfErr result (λ fault. fault ≡ Memory) }
     {
-        if bytes {
+        if full {
             self.host.copy(alloc)
         } else {
             Ok(Vec::new(alloc))

@@ -103,13 +103,13 @@ impl View<'_> {
         self.environment.device.copy_loans(alloc)
     }
 
-    /// What the device has at this moment: the bytes of its blocks only with `bytes`.
+    /// What the device has at this moment: the bytes of its blocks only with `full`.
     ///
     /// # Errors
     ///
     /// [`Fault::Memory`] alone.
-    pub fn saved(&self, alloc: Global, bytes: bool) -> Result<DeviceBase, Fault>
-        ensures ok { IfOk result (λ saved. saved ≡ recorded_device bytes (device_in_view self.now.state)) }
+    pub fn saved(&self, alloc: Global, full: bool) -> Result<DeviceBase, Fault>
+        ensures ok { IfOk result (λ saved. saved ≡ recorded_device full (device_in_view self.now.state)) }
         ensures only { IfErr result (λ fault. fault ≡ Memory) }
     {
         let environment = self.environment;
@@ -119,7 +119,7 @@ impl View<'_> {
         let loans = self.saved_loans(alloc)?;
         let attached = environment.attached.copy_counters(alloc)?;
         let queues = environment.queues.copy_queues(alloc)?;
-        let memories = if bytes {
+        let memories = if full {
             environment.device.copy_memories(alloc)?
         } else {
             Vec::new(alloc)

@@ -2,7 +2,6 @@
 use Rattle.std.proofs.Common.{ℕ, zero, suc, ◌≡◌, refl, sym, ap, ap₂, ◌∙◌, List, [], ◌∷◌, length, get_or, Option, Some, None}
 use Rattle.std.specs.Prelude.{map, is_some, IsSome}
 use Rattle.std.specs.List.{AllZip}
-use Rattle.std.proofs.lemmas.List.Elements.{same_from_all_zip}
 use Rattle.acc_base.proofs.Elements.{AllByRecursion-weaker}
 use Rattle.acc_placement.specs.Space.{Space, IsCanonical, IsPartition, IsSameSpace}
 use Rattle.slab.specs.Slab.{IsSlotClone}
@@ -58,12 +57,6 @@ marks-copied s t xs all = made-alike mark_from s t xs (λ n a b is. rw (is.pins,
 loans-copied : (s t : List (Option Stored)) (xs : List (ℕ × ℕ)) → AreCopies s t → loans_in t xs ≡ loans_in s xs
 loans-copied s t [] all = refl
 loans-copied s t (x ∷ xs) all = ap₂ loan_before (alike_at s t x.1 all).loan (loans-copied s t xs all)
-
--- ---- the index
-
--- the copies of numbers with their slots are the same
-pub entries_same : (xs ys : List (ℕ × ℕ)) → AllZip (λ (e d : ℕ × ℕ). (d.0 ≡ e.0) × (d.1 ≡ e.1)) xs ys → ys ≡ xs
-entries_same xs ys all = same_from_all_zip _ xs ys all (λ e d is. ap₂ (λ (m n : ℕ). (m, n)) is.0 is.1)
 
 -- ---- the space
 

@@ -42,6 +42,11 @@ impl<T: Drop> Drop for Index<T> {
 impl<T: Clone> Clone for IndexEntry<T> {
     ghost is_clone = { IsPlaceClone T.is_clone };
 
+    /// A place of the same number, with a clone of its value.
+    ///
+    /// # Errors
+    ///
+    /// [`AllocError`] where there is no memory for that.
     fn clone(&self) -> Result<IndexEntry<T>, AllocError> {
         Ok(IndexEntry {
             number: self.number,
@@ -50,10 +55,15 @@ impl<T: Clone> Clone for IndexEntry<T> {
     }
 }
 
-// The places that are gone are copied too, so that a place that was told is as good in the copy.
 impl<T: Clone> Clone for Index<T> {
     ghost is_clone = { λ index copy. AreEntryClones T.is_clone index.entries copy.entries };
 
+    /// Clones of the values, under the same numbers. The places that are gone are copied too, so a place that was told
+    /// is as good in the copy.
+    ///
+    /// # Errors
+    ///
+    /// [`AllocError`] where there is no memory for them.
     fn clone(&self) -> Result<Index<T>, AllocError> {
         Ok(Index {
             items: self.items.clone()?,

@@ -22,7 +22,7 @@ const ROWS_MAX: u64 = 1 << 57;
 /// They stand in rows of up to 64, keys apart from values, and the least key of each row in a list of its own. A look-up
 /// is a search in that list and one in a row, and neither takes a branch by a key. A change moves entries of one row or
 /// two. If a row comes or goes, it also moves the list of rows before it or behind it, whichever are fewer. So a row at
-/// either end moves none. Memory for them is asked for by [`OrderedList::reserve`] alone. An entry more uses up at most one row that waits. Many more
+/// either end moves none. Memory for them is asked for by [`OrderedList::reserve`] and `clone` alone. An entry more uses up at most one row that waits. Many more
 /// need fewer rows, since two rows beside each other have more than 32 entries.
 ///
 /// A call that takes a [`Place`] looks there first.
@@ -66,6 +66,11 @@ impl<K: Key, T: Copy> Model for OrderedList<K, T> {
 impl<K: Key, T: Copy> Clone for OrderedList<K, T> {
     ghost is_clone = { λ list copy. copy.entries ≡ list.entries };
 
+    /// The same entries, in rows of their own; no row waits.
+    ///
+    /// # Errors
+    ///
+    /// [`AllocError`] where there is no memory for them.
     fn clone(&self) -> Result<OrderedList<K, T>, AllocError> {
         let firsts = copy_keys(self.alloc, &self.firsts)?;
         let rows = self.rows.clone()?;

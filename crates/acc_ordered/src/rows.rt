@@ -38,6 +38,11 @@ impl<K: Key, T> Model for Row<K, T> {
 impl<K: Key, T: Copy> Clone for Row<K, T> {
     ghost is_clone = { λ row copy. copy ≡ row };
 
+    /// A row of the same entries.
+    ///
+    /// # Errors
+    ///
+    /// [`AllocError`] where there is no memory for it.
     fn clone(&self) -> Result<Row<K, T>, AllocError> {
         // Only memory can be missing.
         let Ok(mut copy) = Row::new(*self.keys.allocator()) else {

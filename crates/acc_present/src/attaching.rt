@@ -55,6 +55,11 @@ impl Model for Attached {
 impl Clone for Attached {
     ghost is_clone = { λ attached copy. (copy.counter_max ≡ attached.counter_max) × (copy.attached ≡ attached.attached) };
 
+    /// The same counters, which may have no room for more.
+    ///
+    /// # Errors
+    ///
+    /// [`AllocError`] where there is no memory for them.
     fn clone(&self) -> Result<Attached, AllocError> {
         Ok(Attached {
             counter_max: self.counter_max,

@@ -84,6 +84,11 @@ impl Model for Present {
 impl Clone for Present {
     ghost is_clone = { λ present copy. copy.table ≡ present.table };
 
+    /// The same table, which may have no room for more.
+    ///
+    /// # Errors
+    ///
+    /// [`AllocError`] where there is no memory for it.
     fn clone(&self) -> Result<Present, AllocError> {
         Ok(Present {
             counter_max: self.counter_max,

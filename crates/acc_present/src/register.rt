@@ -32,6 +32,11 @@ impl Drop for OpenRegion {
 impl Clone for OpenRegion {
     ghost is_clone = { λ region copy. region_of copy ≡ region_of region };
 
+    /// The same region.
+    ///
+    /// # Errors
+    ///
+    /// [`AllocError`] where there is no memory for what it holds.
     fn clone(&self) -> Result<OpenRegion, AllocError> {
         Ok(OpenRegion {
             number: self.number,

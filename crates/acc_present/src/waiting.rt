@@ -19,8 +19,7 @@ use std::marker::Model;
 /// most as many as a limit says.
 ///
 /// Contracts see the limit, the transfers of each queue, the next one first, and for how many more each queue has room.
-/// A refused call leaves the transfers as they were. Only `new`, `put`, `reserve`, `copy_queues` and `clone` allocate. A
-/// clone has the limit and the transfers, and may have no room for more.
+/// A refused call leaves the transfers as they were. Only `new`, `put`, `reserve`, `copy_queues` and `clone` allocate.
 ///
 /// A look-up and a removal take the same time however many transfers wait. So does `put`, unless a queue's room grows:
 /// then that queue's transfers may move.
@@ -54,6 +53,11 @@ impl Model for Queues {
 impl Clone for Queues {
     ghost is_clone = { λ queues copy. (copy.cap ≡ queues.cap) × (copy.queues ≡ queues.queues) };
 
+    /// The same transfers, which may have no room for more.
+    ///
+    /// # Errors
+    ///
+    /// [`AllocError`] where there is no memory for them.
     #[tactic(auto, using(crate::proofs::Copied::same_of_clones))]
     fn clone(&self) -> Result<Queues, AllocError> {
         Ok(Queues {

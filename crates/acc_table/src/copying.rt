@@ -63,7 +63,7 @@ impl Clone for Table {
     ghost is_clone = { λ table copy. copy ≡ table };
 
     /// A table of the same limits, history and state, which shares no memory with this one. It allocates for all that
-    /// this one has, but for no more. A lease that is out fits both; it can be brought back to one of them.
+    /// this one has, and for little more. A lease that is out fits both; it can be brought back to one of them.
     ///
     /// # Errors
     ///
@@ -76,7 +76,7 @@ impl Clone for Table {
 }
 
 impl Table {
-    /// All that the devices have, and all memories, in plain vectors.
+    /// All that the devices have, and all memories, in plain vectors. It counts no events.
     fn saved(&self) -> Result<Base, Fault>
         ensures ok { IfOk result (λ saved. saved ≡ base_of true self.now.state 0) }
         ensures only { IfErr result (λ fault. fault ≡ Memory) }

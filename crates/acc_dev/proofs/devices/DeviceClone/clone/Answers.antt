@@ -3,7 +3,8 @@ use Rattle.std.specs.Prelude.{map, vec_capacity}
 use Rattle.acc_dev.specs.Device.{DeviceState, IsUnchanged}
 use Rattle.acc_dev.specs.Kept.{blocks_in, marks_in}
 use Rattle.acc_dev.specs.Room.{room_ready}
-use Rattle.acc_dev.proofs.Cloned.{blocks-copied, marks-copied, entries_same, copied_kept, copied_unchanged}
+use Rattle.acc_index.proofs.Copied.{same_entries}
+use Rattle.acc_dev.proofs.Cloned.{blocks-copied, marks-copied, copied_kept, copied_unchanged}
 use Rattle.acc_dev.proofs.EndedPlaces.{ended_same}
 use Rattle.acc_dev.proofs.Keeping.{device_of}
 use Rattle.acc_dev.proofs.devices.DeviceClone.clone.Goals as goal
@@ -16,7 +17,7 @@ invariant_of-result c =
     let kept = c.self.invariant in
     let all = c.in_ok-slab.ensures.cases.slots in
     let ended = c.in_ok-ended_blocks.ensures.cases in
-    rw (entries_same xs c.in_ok-index.index.entries c.in_ok-index.ensures.cases) (
+    rw (same_entries _ xs c.in_ok-index.index.entries c.in_ok-index.ensures.cases (λ x y k. k)) (
       copied_kept s.holes c.in_ok-holes.holes s.slab.slots t xs c.in_ok-holes.ensures.cases all kept.0,
       kept.1,
       search rules,
@@ -31,5 +32,5 @@ returns c =
     let room = map (λ v. vec_capacity v) c.new.result.items in
     record {
       cases = subst (λ (d : DeviceState). IsUnchanged d (device_of c.in_ok-holes.holes c.in_ok-slab.slab.slots ys s.births room)) c.self.view_is
-          (copied_unchanged s.holes c.in_ok-holes.holes s.slab.slots c.in_ok-slab.slab.slots xs ys s.births (room_ready s) room c.in_ok-holes.ensures.cases c.in_ok-slab.ensures.cases.slots (entries_same xs ys c.in_ok-index.ensures.cases));
+          (copied_unchanged s.holes c.in_ok-holes.holes s.slab.slots c.in_ok-slab.slab.slots xs ys s.births (room_ready s) room c.in_ok-holes.ensures.cases c.in_ok-slab.ensures.cases.slots (same_entries _ xs ys c.in_ok-index.ensures.cases (λ x y k. k)));
     }

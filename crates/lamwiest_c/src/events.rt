@@ -87,92 +87,75 @@ fn bytes_in(event: &Event) -> &[u8]
     }
 }
 
-/// What is told of a directive that has items, beside what is told of each event.
-fn asked_beside(event: &Event, told: RawEvent) -> RawEvent
-    ensures { result ≡ asked_beside event.now told }
+/// Tells what there is of a directive that has items, beside what is told of each event.
+fn tell_asked(event: &Event, told: &mut RawEvent)
+    ensures { told.new ≡ asked_beside event.now told.old }
 {
     match event {
-        Event::Entered { number, .. } => RawEvent {
-            region: *number,
-            ..told
-        },
-        Event::Left { number, .. } => RawEvent {
-            region: *number,
-            ..told
-        },
-        Event::EnteredData { queue, .. } => RawEvent {
-            queue: queue_or_none(*queue),
-            ..told
-        },
+        Event::Entered { number, .. } | Event::Left { number, .. } => told.region = *number,
+        Event::EnteredData { queue, .. } => told.queue = queue_or_none(*queue),
         Event::ExitedData {
             finalize,
             queue,
             ..
-        } => RawEvent {
-            option: option_number(*finalize),
-            queue: queue_or_none(*queue),
-            ..told
-        },
+        } => {
+            told.option = option_number(*finalize);
+            told.queue = queue_or_none(*queue);
+        }
         Event::Updated {
             if_present,
             queue,
             ..
-        } => RawEvent {
-            option: option_number(*if_present),
-            queue: queue_or_none(*queue),
-            ..told
-        },
-        _ => told,
+        } => {
+            told.option = option_number(*if_present);
+            told.queue = queue_or_none(*queue);
+        }
+        _ => {}
     }
 }
 
-/// What is told of an event alone, beside what is told of each.
-fn told_beside(event: &Event, told: RawEvent) -> RawEvent
-    ensures { result ≡ told_beside event.now told }
+/// Tells what there is of an event alone, beside what is told of each.
+fn tell_beside(event: &Event, told: &mut RawEvent)
+    ensures { told.new ≡ told_beside event.now told.old }
 {
     match event {
-        Event::Waited { queue, count, .. } => RawEvent {
-            queue: queue_or_none(*queue),
-            count: *count,
-            ..told
-        },
-        Event::Stepped { queue, block, .. } => RawEvent {
-            queue: *queue,
-            block: *block,
-            ..told
-        },
-        Event::HostWritten { addr, len, .. } => RawEvent {
-            start: *addr,
-            len: *len,
-            ..told
-        },
+        Event::Waited { queue, count, .. } => {
+            told.queue = queue_or_none(*queue);
+            told.count = *count;
+        }
+        Event::Stepped { queue, block, .. } => {
+            told.queue = *queue;
+            told.block = *block;
+        }
+        Event::HostWritten { addr, len, .. } => {
+            told.start = *addr;
+            told.len = *len;
+        }
         Event::Lent {
             region,
             section,
             block,
             serial,
             ..
-        } => RawEvent {
-            region: *region,
-            lease: *serial,
-            block: *block,
-            start: section.start,
-            len: section.len,
-            ..told
-        },
-        Event::Gathered { serial, block, .. } => RawEvent {
-            lease: *serial,
-            block: *block,
-            ..told
-        },
-        _ => asked_beside(event, told),
+        } => {
+            told.region = *region;
+            told.lease = *serial;
+            told.block = *block;
+            told.start = section.start;
+            told.len = section.len;
+        }
+        Event::Gathered { serial, block, .. } => {
+            told.lease = *serial;
+            told.block = *block;
+        }
+        _ => tell_asked(event, told),
     }
 }
 
 fn raw_event(event: &Event) -> RawEvent
     ensures { result ≡ raw_event event.now }
 {
-    let told = RawEvent {
+    let mut told = RawEvent {
         kind: kind_of(event),
         option: 0,
         device: event.device(),
@@ -185,7 +168,8 @@ fn raw_event(event: &Event) -> RawEvent
         count: event.did().len() as u64,
         stored: bytes_in(event).len() as u64,
     };
-    told_beside(event, told)
+    tell_beside(event, &mut told);
+    told
 }
 
 fn region_number(clause: RegionClause) -> u32

@@ -158,46 +158,23 @@ impl Refusal {
     pub fn fields(self) -> FaultFields
         ensures { result ≡ fields_of self }
     {
-        let status = self.status();
-        match self {
-            Refusal::Ended | Refusal::Absent => FaultFields {
-                status,
-                item: 0,
-                value: 0,
-            },
-            Refusal::BadClause { item } => FaultFields {
-                status,
-                item,
-                value: 0,
-            },
-            Refusal::BadLength { len: value } | Refusal::BadVersion { library: value } => {
-                FaultFields {
-                    status,
-                    item: 0,
-                    value,
-                }
-            }
-            Refusal::OfTable(fault) => FaultFields {
-                status,
-                item: item_of(fault),
-                value: value_of(fault),
-            },
+        let (item, value) = match self {
+            Refusal::Ended | Refusal::Absent => (0, 0),
+            Refusal::BadClause { item } => (item, 0),
+            Refusal::BadLength { len: value } | Refusal::BadVersion { library: value } => (
+                0, value,
+            ),
+            Refusal::OfTable(fault) => (item_of(fault), value_of(fault)),
+        };
+        FaultFields {
+            status: self.status(),
+            item,
+            value,
         }
     }
 }
 
 impl FaultFields {
-    /// The fields where nothing was refused.
-    pub fn none() -> FaultFields
-        ensures { result ≡ record { status = 0; item = 0; value = 0 } }
-    {
-        FaultFields {
-            status: DONE,
-            item: 0,
-            value: 0,
-        }
-    }
-
     /// The refusal that has these fields, if its status is that of one.
     pub fn refusal(&self) -> Option<Refusal>
         ensures { result ≡ refusal_in self.now }
@@ -292,7 +269,11 @@ pub fn tell(made: Result<u64, Refusal>, fault: &mut FaultFields) -> u32
 {
     match made {
         Ok(_) => {
-            *fault = FaultFields::none();
+            *fault = FaultFields {
+                status: DONE,
+                item: 0,
+                value: 0,
+            };
             DONE
         }
         Err(refusal) => {

@@ -22,14 +22,15 @@ impl fmt::Display for Refusal {
     ghost output = { λ refusal. Some (text_of refusal) };
 
     fn fmt<W: fmt::Write>(&self, f: &mut fmt::Formatter<W>) -> fmt::Result {
-        match self {
-            Refusal::Ended => f.write_str("32 Ended"),
-            Refusal::BadClause { item } => write!(f, "33 BadClause item {item}"),
-            Refusal::BadLength { len } => write!(f, "34 BadLength len {len}"),
-            Refusal::Absent => f.write_str("35 Absent"),
-            Refusal::BadVersion { library } => write!(f, "36 BadVersion library {library}"),
-            Refusal::OfTable(fault) => write!(f, "{fault}"),
-        }
+        let (name, number) = match self {
+            Refusal::Ended => return f.write_str("32 Ended"),
+            Refusal::BadClause { item } => ("33 BadClause item ", *item),
+            Refusal::BadLength { len } => ("34 BadLength len ", *len),
+            Refusal::Absent => return f.write_str("35 Absent"),
+            Refusal::BadVersion { library } => ("36 BadVersion library ", *library),
+            Refusal::OfTable(fault) => return write!(f, "{fault}"),
+        };
+        write!(f, "{name}{number}")
     }
 }
 

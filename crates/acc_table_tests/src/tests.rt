@@ -5,7 +5,6 @@ use language::Row;
 use playing::play_row;
 use std::fmt::Debug;
 use std::process::Abort;
-use std::test::Fail;
 
 mod checks;
 mod example;
@@ -35,7 +34,7 @@ fn play_each(rt: &(impl Abort + AllocGlobal), rows: &'static [Row]) -> Result<()
 }
 
 #[test]
-fn each_row_holds_after_a_refused_growth(rt: HostRuntime) -> Result<(), Fail> {
+fn each_row_holds_after_a_refused_growth(rt: HostRuntime) -> Result<(), Fault> {
     for rows in rows::tables() {
         play_each(&rt, rows)?;
     }

@@ -180,17 +180,14 @@ impl<'a, Regions: Limited, Tickets: Ledger, Events: Ledger, R: Abort + Wait + Al
         match deed {
             Deed::Enter(clause) => self.enter(clause),
             Deed::Exit => self.exit(),
-            Deed::EnterData => self.enter_data(),
-            Deed::ExitData(queue) => self.exit_data(queue),
-            Deed::Update(clause, queue) => self.update(clause, queue),
             Deed::Wait(queue) => runtime.wait(rt, &mut self.caller, 0, queue),
-            Deed::Step(queue) => runtime.step(rt, &mut self.caller, 0, queue).map(u64::from),
-            Deed::Write(byte) => self.write(byte),
+            Deed::Step(queue) => Ok(u64::from(runtime.step(rt, &mut self.caller, 0, queue)?)),
             Deed::Reads(byte) => self.reads(byte),
             Deed::Lend => self.lend(),
             Deed::Gather => self.gather(),
             Deed::Rebase => runtime.rebase(rt),
             Deed::Look(asked) => Ok(self.look(asked)),
+            _ => self.direct(deed).and(Ok(0)),
         }
     }
 
@@ -218,33 +215,27 @@ impl<'a, Regions: Limited, Tickets: Ledger, Events: Ledger, R: Abort + Wait + Al
         }
     }
 
-    fn enter_data(&mut self) -> Result<u64, Fault> {
-        let items = items(self.rt.alloc(), EnterClause::Copyin)?;
-        self.runtime
-            .enter_data(self.rt, &mut self.caller, 0, items, None)?;
-        Ok(0)
-    }
-
-    fn exit_data(&mut self, queue: u64) -> Result<u64, Fault> {
-        let items = items(self.rt.alloc(), ExitClause::Copyout)?;
-        self.runtime
-            .exit_data(self.rt, &mut self.caller, 0, items, true, Some(queue))?;
-        Ok(0)
-    }
-
-    fn update(&mut self, clause: UpdateClause, queue: Option<u64>) -> Result<u64, Fault> {
-        let items = items(self.rt.alloc(), clause)?;
-        let if_present = queue.is_none();
-        self.runtime
-            .update(self.rt, &mut self.caller, 0, items, if_present, queue)?;
-        Ok(0)
-    }
-
-    fn write(&mut self, byte: u8) -> Result<u64, Fault> {
-        let bytes = Vec::from_slice(self.rt.alloc(), &[byte; 16])?;
-        self.runtime
-            .host_write(self.rt, &mut self.caller, ARRAY.start, bytes)?;
-        Ok(0)
+    /// Makes a call that returns no number: the array is mapped, where it is none of the others.
+    fn direct(&mut self, deed: Deed) -> Result<(), Fault> {
+        let (rt, runtime) = (self.rt, self.runtime);
+        match deed {
+            Deed::ExitData(queue) => {
+                let items = items(rt.alloc(), ExitClause::Copyout)?;
+                runtime.exit_data(rt, &mut self.caller, 0, items, true, Some(queue))
+            }
+            Deed::Update(clause, queue) => {
+                let items = items(rt.alloc(), clause)?;
+                runtime.update(rt, &mut self.caller, 0, items, queue.is_none(), queue)
+            }
+            Deed::Write(byte) => {
+                let bytes = Vec::from_slice(rt.alloc(), &[byte; 16])?;
+                runtime.host_write(rt, &mut self.caller, ARRAY.start, bytes)
+            }
+            _ => {
+                let items = items(rt.alloc(), EnterClause::Copyin)?;
+                runtime.enter_data(rt, &mut self.caller, 0, items, None)
+            }
+        }
     }
 
     fn reads(&self, byte: u8) -> Result<u64, Fault> {
@@ -289,24 +280,22 @@ impl<'a, Regions: Limited, Tickets: Ledger, Events: Ledger, R: Abort + Wait + Al
         )
     }
 
-    /// Makes a call, and once more where memory was refused for it. No event is stored then, and no block is kept.
-    fn make_again(&mut self, deed: Deed, stored: u64) -> Result<u64, Fault> {
-        let used = self.look(Asked::Used);
-        let made = self.make(deed);
-        if made != Err(Fault::Memory) || !self.may_lack {
-            return made;
-        }
-        let found = (self.look(Asked::Stored), self.look(Asked::Used));
-        same(self.rt, found, (stored, used));
-        self.make(deed)
-    }
-
-    /// Makes the call of a row, which returns what the row says, and stores an event where it has to.
+    /// Makes the call of a row, which returns what the row says, and stores an event where it has to. Where memory was
+    /// refused for it, no event is stored and no block is kept, and it is made once more.
     pub fn make_row(&mut self, row: Row) {
-        let before = self.look(Asked::Stored);
-        let made = self.make_again(row.0, before);
+        let before = (self.look(Asked::Stored), self.look(Asked::Used));
+        let mut made = self.make(row.0);
+        if made == Err(Fault::Memory) && self.may_lack {
+            let found = (self.look(Asked::Stored), self.look(Asked::Used));
+            same(self.rt, found, before);
+            made = self.make(row.0);
+        }
         let behind = self.look(Asked::Stored);
-        same(self.rt, (made, behind), (row.1, stored_behind(row, before)));
+        same(
+            self.rt,
+            (made, behind),
+            (row.1, stored_behind(row, before.0)),
+        );
     }
 
     /// Makes the calls of rows.

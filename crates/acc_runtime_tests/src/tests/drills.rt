@@ -1,6 +1,6 @@
 //! Drills: what they return and leave, and that their threads work at the same time.
 
-use crate::tests::actors::{Actor, Asked, Deed};
+use crate::tests::actors::{Actor, Asked, Deed, Row};
 use crate::tests::gates::Meeting;
 use crate::tests::same;
 use crate::tests::scenes::{Scene, play_each};
@@ -12,23 +12,41 @@ use std::sync::Wait;
 use std::sync::ledger::Ledger;
 use std::thread::Threads;
 
+/// What a drill of two threads leaves: the array mapped once, and no region.
+const LEFT: Drilled = Drilled {
+    allowance: 64,
+    events: 13,
+    structured: 0,
+    dynamic: 1,
+};
+
 /// A drill in which no thread is held.
-const FREE: [Scene; 1] = [Scene::Drill(2, None, 13)];
+const FREE: [Scene; 1] = [Scene::Drill(2, None, Ok(LEFT))];
 
 /// Any thread may be the first that is done, while the others are held.
 const HELD: [Scene; 3] = [
-    Scene::Drill(2, Some(0), 13),
-    Scene::Drill(2, Some(1), 13),
-    Scene::Drill(4, Some(3), 25),
+    Scene::Drill(2, Some(0), Ok(LEFT)),
+    Scene::Drill(2, Some(1), Ok(LEFT)),
+    Scene::Drill(4, Some(3), Ok(Drilled { events: 25, ..LEFT })),
 ];
 
 /// The threads meet different faults. The drill returns that of the first by number, whichever came first.
 const FAULTS: [Scene; 4] = [
-    Scene::LentDrill(2, 0, Fault::Lent { block: 1 }),
-    Scene::LentDrill(2, 1, Fault::CounterFull { item: 0 }),
-    Scene::LentDrill(4, 0, Fault::Lent { block: 1 }),
-    Scene::LentDrill(4, 3, Fault::CounterFull { item: 0 }),
+    Scene::Drill(2, Some(0), Err(Fault::Lent { block: 1 })),
+    Scene::Drill(2, Some(1), Err(Fault::CounterFull { item: 0 })),
+    Scene::Drill(4, Some(0), Err(Fault::Lent { block: 1 })),
+    Scene::Drill(4, Some(3), Err(Fault::CounterFull { item: 0 })),
 ];
+
+/// Before a drill with a fault the array is lent in a region, so the thread of the number cannot exit. The counter is
+/// at its limit then, so the others cannot enter.
+pub const LENT: [Row; 2] = [
+    (Deed::Enter(RegionClause::Create { zero: true }), Ok(1)),
+    (Deed::Lend, Ok(1)),
+];
+
+/// The region of the thread of the number is open behind that, too.
+pub const OPEN: [Row; 1] = [(Deed::Look(Asked::Regions), Ok(2))];
 
 impl<
     Regions: Limited + Send + Sync,
@@ -38,7 +56,7 @@ impl<
 > Actor<'_, Regions, Tickets, Events, R> {
     /// Makes a drill of three rounds, in which all threads wait for the one of the number, if any. It returns what it has
     /// to, but where memory may be refused for it.
-    fn drill(
+    pub fn drill(
         &mut self,
         threads: usize,
         first: Option<usize>,
@@ -60,32 +78,6 @@ impl<
         let wanted = (wanted, first.and(Some(0)));
         same(self.rt, (found, meeting.took_place()), wanted);
         Ok(())
-    }
-
-    /// A drill that leaves the array mapped once, no region, and so many events.
-    pub fn drill_well(
-        &mut self,
-        threads: usize,
-        first: Option<usize>,
-        events: u64,
-    ) -> Result<(), Fault> {
-        let left = Drilled {
-            allowance: 64,
-            events,
-            structured: 0,
-            dynamic: 1,
-        };
-        self.drill(threads, first, Ok(left))
-    }
-
-    /// The array is lent in a region, so the thread of the number cannot exit. The counter is at its limit then, so the
-    /// others cannot enter.
-    pub fn drill_lent(&mut self, threads: usize, first: usize, fault: Fault) -> Result<(), Fault> {
-        let clause = RegionClause::Create { zero: true };
-        self.make_rows(&[(Deed::Enter(clause), Ok(1)), (Deed::Lend, Ok(1))]);
-        let drilled = self.drill(threads, Some(first), Err(fault));
-        self.make_row((Deed::Look(Asked::Regions), Ok(2)));
-        drilled
     }
 }
 

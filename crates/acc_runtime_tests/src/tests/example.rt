@@ -81,7 +81,7 @@ const ONE_STEP: Served = Served {
 };
 
 /// What is found behind both, where the region of the first is exited.
-const LEFT: [Row; 4] = [
+pub const LEFT: [Row; 4] = [
     (Deed::Look(Asked::Regions), Ok(1)),
     (Deed::Exit, Ok(0)),
     (Deed::Look(Asked::Regions), Ok(0)),
@@ -165,7 +165,6 @@ impl<
         self.caller.merge(two);
         self.region = region.or(other);
         same(self.rt, meeting.took_place(), Some(0));
-        self.make_rows(&LEFT);
         served.and(also)
     }
 }

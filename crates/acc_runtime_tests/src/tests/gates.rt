@@ -106,11 +106,6 @@ pub struct Watch<'a, Regions: Limited, Tickets: Ledger, Events: Ledger> {
 }
 
 impl<Regions: Limited, Tickets: Ledger, Events: Ledger> Watch<'_, Regions, Tickets, Events> {
-    /// It was called as often as it should be, for the right words in order, and folded each time what it should.
-    pub fn saw_all(&self) -> bool {
-        self.calls.load(Ordering::SeqCst) == self.wanted.len() as u64
-    }
-
     /// Folds the events, once more where memory is refused for that, and returns how many they were.
     fn fold<R: Wait>(&self, rt: &R) -> Option<u64> {
         match self.runtime.rebase(rt) {

@@ -6,7 +6,7 @@ ghost use Rattle.acc_lend.specs.ImageLaws.{each_byte-append, length-each_byte};
 use crate::tests::gates::Meeting;
 use crate::tests::same;
 use acc_base::Fault;
-use acc_lend::{Cuts, Gate, Kernel, Lease, Number, Open, Pointwise, run_parts};
+use acc_lend::{Cuts, Kernel, Lease, Number, Pointwise, run_parts};
 use std::process::Abort;
 use std::rt::Clock;
 use std::sync::Wait;
@@ -36,23 +36,18 @@ impl Pointwise for Counting<'_> {
 }
 
 /// Numbers eight bytes in four parts, where memory for the bytes and for the cuts is not refused.
-fn number_eight<R: Threads + Wait + Sync + AllocGlobal, G: Gate<R> + Sync>(
+fn number_eight<R: Threads + Wait + Sync + AllocGlobal + Clock>(
     rt: &R,
-    count: &AtomicU64,
-    gate: &G,
+    meeting: &Meeting,
 ) -> Result<(), Fault> {
     let bytes = vec![in rt.alloc(); 0u8; 8]?;
     let cuts = Cuts::even(rt.alloc(), 8, 4)?;
     let mut lease = Lease::of(1, 1, 0, 8, bytes, 0);
-    let number = Number(1);
-    run_parts(
-        rt,
-        &mut lease,
-        &cuts,
-        &Counting { number, count },
-        &[],
-        gate,
-    );
+    let kernel = Counting {
+        number: Number(1),
+        count: &meeting.work,
+    };
+    run_parts(rt, &mut lease, &cuts, &kernel, &[], meeting);
     lease.abandon();
     Ok(())
 }
@@ -63,7 +58,7 @@ fn number_first<R: Threads + Wait + Sync + AllocGlobal + Clock + Abort>(
     first: usize,
 ) -> Result<(), Fault> {
     let meeting = Meeting::new(Some(first), 4);
-    number_eight(rt, &meeting.work, &meeting)?;
+    number_eight(rt, &meeting)?;
     same(rt, meeting.took_place(), Some(2));
     Ok(())
 }
@@ -79,10 +74,10 @@ fn any_part_may_be_the_first(rt: HostRuntime) -> Result<(), Fault> {
 /// Each byte is numbered once, also where no thread can be started.
 #[test]
 fn a_refused_growth_leaves_no_part_out(rt: HostRuntime) -> Result<(), Fault> {
-    let count = AtomicU64::new(0);
-    if number_eight(&rt, &count, &Open).is_err() {
-        number_eight(&rt, &count, &Open)?;
+    let meeting = Meeting::new(None, 4);
+    if number_eight(&rt, &meeting).is_err() {
+        number_eight(&rt, &meeting)?;
     }
-    same(&rt, count.load(Ordering::SeqCst), 8);
+    same(&rt, meeting.work.load(Ordering::SeqCst), 8);
     Ok(())
 }

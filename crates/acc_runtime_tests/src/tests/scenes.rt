@@ -1,11 +1,12 @@
 //! Scenes that are played on new runtimes.
 
 use crate::tests::actors::{Actor, Row};
-use crate::tests::example::play_new;
+use crate::tests::drills::{LENT, OPEN};
+use crate::tests::example::{LEFT, play_new};
 use crate::tests::gates::Meeting;
 use crate::tests::serving::Service;
 use acc_base::{Config, Fault};
-use acc_runtime::Limited;
+use acc_runtime::{Drilled, Limited};
 use std::process::Abort;
 use std::rt::Clock;
 use std::sync::Wait;
@@ -21,21 +22,28 @@ pub enum Scene {
     Serve(Service),
     /// Two threads that do their parts, of which that of the number comes first.
     Pair(usize),
-    /// A drill that ends well: how many threads it has, which are held until that of the number is done, if any, and
-    /// how many events there are then.
-    Drill(usize, Option<usize>, u64),
-    /// A drill over an array that is lent: how many threads it has, which are held until that of the number is done,
-    /// and its fault.
-    LentDrill(usize, usize, Fault),
+    /// A drill: how many threads it has, which are held until that of the number is done, if any, and what it returns.
+    /// Where that is a fault, the array is lent.
+    Drill(usize, Option<usize>, Result<Drilled, Fault>),
 }
 
 /// The limits of the runtime of a scene.
 fn limits_of(scene: Scene) -> Result<Config, Fault> {
     let counter_max = match scene {
-        Scene::LentDrill(..) => 2,
+        Scene::Drill(_, _, Err(_)) => 2,
         _ => 64,
     };
     Config::new(4_096, 4_096, 64, 100, counter_max, 4, 262_144)
+}
+
+/// The calls that are made before a scene, and behind it.
+fn rows_around(scene: Scene) -> (&'static [Row], &'static [Row]) {
+    match scene {
+        Scene::Life(rows) => (rows, &[]),
+        Scene::Pair(_) => (&[], &LEFT),
+        Scene::Drill(_, _, Err(_)) => (&LENT, &OPEN),
+        Scene::Serve(_) | Scene::Drill(..) => (&[], &[]),
+    }
 }
 
 impl<
@@ -46,16 +54,16 @@ impl<
 > Actor<'_, Regions, Tickets, Events, R> {
     /// Plays a scene. Memory may be refused for a service or a drill, which is returned.
     pub fn play(&mut self, scene: Scene) -> Result<(), Fault> {
-        match scene {
-            Scene::Life(rows) => {
-                self.make_rows(rows);
-                Ok(())
-            }
+        let (before, behind) = rows_around(scene);
+        self.make_rows(before);
+        let played = match scene {
+            Scene::Life(_) => Ok(()),
             Scene::Serve(service) => self.serve_in(service, &Meeting::new(None, 1), 0),
             Scene::Pair(first) => self.pair(first),
-            Scene::Drill(threads, first, events) => self.drill_well(threads, first, events),
-            Scene::LentDrill(threads, first, fault) => self.drill_lent(threads, first, fault),
-        }
+            Scene::Drill(threads, first, wanted) => self.drill(threads, first, wanted),
+        };
+        self.make_rows(behind);
+        played
     }
 }
 

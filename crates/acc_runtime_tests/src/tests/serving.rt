@@ -7,11 +7,10 @@ use crate::tests::scenes::{Scene, play_each};
 use acc_base::{Fault, UpdateClause};
 use acc_runtime::{Limited, Served, serve};
 use crossbeam_channel::{Receiver, Sender, unbounded};
-use std::alloc::Global;
 use std::process::Abort;
 use std::rt::Clock;
 use std::sync::Wait;
-use std::sync::atomic::AtomicU64;
+use std::sync::atomic::{AtomicU64, Ordering};
 use std::sync::ledger::Ledger;
 
 /// What a worker does and receives.
@@ -59,20 +58,8 @@ const SERVICES: [Scene; 2] = [
     }),
 ];
 
-/// A channel in which these words wait, and which is closed behind them.
-fn bells<R: Wait>(rt: &R, alloc: Global, words: &[u64]) -> Result<Receiver<u64>, Fault> {
-    let Ok((to, from)) = unbounded::<u64, _>(alloc) else {
-        return Err(Fault::Memory);
-    };
-    if send_all(rt, &to, words) {
-        Ok(from)
-    } else {
-        Err(Fault::Memory)
-    }
-}
-
-/// Sends all words, and returns whether there was memory for them.
-fn send_all<R: Wait>(rt: &R, to: &Sender<u64>, words: &[u64]) -> bool {
+/// Sends all words, closes the channel behind them, and returns whether there was memory for them.
+fn send_all<R: Wait>(rt: &R, to: Sender<u64>, words: &[u64]) -> bool {
     let mut are_sent = true;
     for word in words {
         are_sent &= to.send(rt, *word).is_ok();
@@ -113,7 +100,9 @@ impl<
         };
         let words = from.iter(self.rt);
         let served = serve(self.rt, self.runtime, &mut self.caller, words, &watch);
-        self.must_serve(served, watch.saw_all(), service.served);
+        // For the right words in order, it folded what it should each time.
+        let saw_all = watch.calls.load(Ordering::SeqCst) == service.events.len() as u64;
+        self.must_serve(served, saw_all, service.served);
         self.make_rows(service.behind);
     }
 
@@ -124,9 +113,15 @@ impl<
         meeting: &Meeting,
         number: usize,
     ) -> Result<(), Fault> {
-        let from = bells(self.rt, self.rt.alloc(), service.words)?;
-        self.serve_from(&from, service, meeting, number);
-        Ok(())
+        let Ok((to, from)) = unbounded::<u64, _>(self.rt.alloc()) else {
+            return Err(Fault::Memory);
+        };
+        if send_all(self.rt, to, service.words) {
+            self.serve_from(&from, service, meeting, number);
+            Ok(())
+        } else {
+            Err(Fault::Memory)
+        }
     }
 }
 

@@ -10,20 +10,19 @@ use acc_dev::Device;
 use acc_placement::Holes;
 use acc_present::{Attached, Left, Present, Queues};
 use std::process::Abort;
-use std::test::Fail;
 
 /// Takes all of 64 bytes, in ranges of 16, and more.
-fn check_taken(rt: &impl Abort, holes: &mut Holes) {
+fn check_taken(rt: &(impl Abort + AllocGlobal)) -> Result<(), Fault> {
+    let mut holes = Holes::new(rt.alloc(), 0, 64)?;
     let found = [holes.take(16), holes.take(1), holes.take(32), holes.take(1)];
     let full = Fault::DeviceFull { item: 0, need: 16 };
     let wanted = [Ok(0), Ok(16), Ok(32), Err(full)];
-    same(rt, found, wanted, "four needs");
-}
-
-#[test]
-fn a_range_takes_the_first_hole_that_is_large_enough(rt: HostRuntime) -> Result<(), Fail> {
-    let mut holes = Holes::new(rt.alloc(), 0, 64)?;
-    check_taken(&rt, &mut holes);
+    same(
+        rt,
+        found,
+        wanted,
+        "ranges in the first holes that are large enough",
+    );
     Ok(())
 }
 
@@ -41,13 +40,6 @@ fn check_first_block(rt: &(impl Abort + AllocGlobal), zero: bool, byte: u8) -> R
     check_birth(rt, &mut device, zero, byte)
 }
 
-#[test]
-fn a_new_block_is_filled(rt: HostRuntime) -> Result<(), Fail> {
-    check_first_block(&rt, false, 0xa5)?;
-    check_first_block(&rt, true, 0)?;
-    Ok(())
-}
-
 /// A table of one region, where 16 bytes from 0x1000 on are mapped to block 1.
 fn present(rt: &(impl Abort + AllocGlobal)) -> Result<Present, Fault> {
     let array = section((0x1000, 16));
@@ -58,27 +50,22 @@ fn present(rt: &(impl Abort + AllocGlobal)) -> Result<Present, Fault> {
     Ok(present)
 }
 
-fn check_present(rt: &impl Abort, present: &Present) {
+fn check_present(rt: &(impl Abort + AllocGlobal)) -> Result<(), Fault> {
+    let present = present(rt)?;
     let (block, offset) = (1, 15);
-    let inside = Found::Inside { block, offset };
+    let found = (present.find(section((0x100f, 1))), present.regions());
     same(
         rt,
-        present.find(section((0x100f, 1))),
-        inside,
-        "the last byte",
+        found,
+        (Found::Inside { block, offset }, 1),
+        "the last byte, and regions",
     );
-    same(rt, present.regions(), 1, "regions");
-}
-
-#[test]
-fn a_section_is_found_and_a_region_is_open(rt: HostRuntime) -> Result<(), Fail> {
-    let present = present(&rt)?;
-    check_present(&rt, &present);
     Ok(())
 }
 
 /// Attaches a pointer of block 1 twice, and detaches it at once.
-fn check_pointer(rt: &impl Abort, attached: &mut Attached) {
+fn check_pointer(rt: &(impl Abort + AllocGlobal)) {
+    let mut attached = Attached::new(rt.alloc(), 2);
     let (pointer, block, target) = (0x1008, 1, 0x1_0000_0040);
     let new = Aim::New {
         pointer,
@@ -90,22 +77,17 @@ fn check_pointer(rt: &impl Abort, attached: &mut Attached) {
         attached.attach(block, pointer, target, target),
     ];
     let wanted = [Ok(new), Ok(Aim::Again { pointer, block })];
-    same(rt, found, wanted, "attached");
+    let left = attached.detach_now(block, pointer);
     same(
         rt,
-        attached.detach_now(block, pointer),
-        Left::Zero,
-        "detached",
+        (found, left),
+        (wanted, Left::Zero),
+        "a pointer that is detached at once",
     );
 }
 
-#[test]
-fn a_pointer_is_attached_again_and_detached_at_once(rt: HostRuntime) {
-    let mut attached = Attached::new(rt.alloc(), 2);
-    check_pointer(&rt, &mut attached);
-}
-
-fn check_queues(rt: &impl Abort, queues: &mut Queues) {
+fn check_queues(rt: &(impl Abort + AllocGlobal)) -> Result<(), Fault> {
+    let mut queues = Queues::new(rt.alloc(), 64)?;
     let transfer = Transfer {
         block: 1,
         offset: 0,
@@ -113,13 +95,22 @@ fn check_queues(rt: &impl Abort, queues: &mut Queues) {
         out: false,
     };
     let found = [queues.put(16, transfer), queues.put(3, transfer)];
-    same(rt, found, [Err(Fault::NoQueue { q: 16 }), Ok(())], "puts");
-    same(rt, queues.len(3), 1, "queue 3");
+    let wanted = [Err(Fault::NoQueue { q: 16 }), Ok(())];
+    same(
+        rt,
+        (found, queues.len(3)),
+        (wanted, 1),
+        "one of sixteen queues",
+    );
+    Ok(())
 }
 
 #[test]
-fn a_transfer_is_put_into_one_of_sixteen_queues(rt: HostRuntime) -> Result<(), Fail> {
-    let mut queues = Queues::new(rt.alloc(), 64)?;
-    check_queues(&rt, &mut queues);
-    Ok(())
+fn calls_of_each_layer_succeed(rt: HostRuntime) -> Result<(), Fault> {
+    check_taken(&rt)?;
+    check_first_block(&rt, false, 0xa5)?;
+    check_first_block(&rt, true, 0)?;
+    check_present(&rt)?;
+    check_pointer(&rt);
+    check_queues(&rt)
 }

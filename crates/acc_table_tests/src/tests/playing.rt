@@ -126,19 +126,25 @@ fn asked(line: Line) -> Option<(Ask, Answer)> {
     Some((ask, Answer::Replied { number, count }))
 }
 
-fn turns_of(alloc: Global, play: &Play, lines: &[Line]) -> Result<Vec<Turn>, Fault> {
-    let mut turns = Vec::with_capacity(alloc, lines.len())?;
+/// Puts the turns behind each other that some lines ask for.
+fn add_turns(
+    alloc: Global,
+    play: &Play,
+    lines: &[Line],
+    turns: &mut Vec<Turn>,
+) -> Result<(), Fault> {
     for &line in lines {
         if let Some((ask, _)) = asked(line) {
             turns.push(turn_of(alloc, &play.arrays, play.device, ask)?)?;
         }
     }
-    Ok(turns)
+    Ok(())
 }
 
 /// Makes the calls of some lines as a list of turns. Whether the answers are as the lines say.
 fn run(alloc: Global, play: &mut Play, lines: &[Line]) -> Result<bool, Fault> {
-    let turns = turns_of(alloc, play, lines)?;
+    let mut turns = Vec::new(alloc);
+    add_turns(alloc, play, lines, &mut turns)?;
     let answers = play.table.run(turns, &mut play.leases)?;
     are_said(answers.as_slice(), lines)
 }
@@ -149,7 +155,7 @@ fn are_said(answers: &[Answer], lines: &[Line]) -> Result<bool, Fault> {
         if answer == Answer::Refused(Fault::Memory) {
             return Err(Fault::Memory);
         }
-        is_so &= Some(answer) == asked(line).map(|asked| asked.1);
+        is_so &= matches!(asked(line), Some((_, wanted)) if wanted == answer);
     }
     Ok(is_so)
 }

@@ -23,7 +23,7 @@ fn counted(table: &Table, device: u64, at: At) -> Option<(u64, u64)> {
 
 /// How many ranges the base of a table has on the first device.
 fn ranges_in(table: &Table) -> Option<usize> {
-    Some(table.base().devices().get(0)?.ranges().len())
+    Some(table.base().devices().first()?.ranges().len())
 }
 
 /// Whether a table answers a query, of a device where it is asked of one, as the row says.

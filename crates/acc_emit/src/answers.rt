@@ -46,18 +46,22 @@ pub fn emit_bytes(emitter: &mut Emitter<'_>, own: &Table, section: Section, on_d
 
 /// Whether a line has two digits for each of so many bytes, where `?` is any digit.
 fn is_of_bytes(line: &[u8], count: u64) -> bool {
-    let is_digit = |byte: &u8| byte.is_ascii_hexdigit() || *byte == b'?';
-    line.len() as u64 == count.saturating_mul(2) && line.iter().all(is_digit)
+    for digit in line {
+        if !digit.is_ascii_hexdigit() && *digit != b'?' {
+            return false;
+        }
+    }
+    line.len() as u64 == count.saturating_mul(2)
 }
 
 /// Emits a question for the presence of a section.
 pub fn emit_present(emitter: &mut Emitter<'_>, own: &Table, section: Section) {
-    let word: &[u8] = if own.is_present(DEVICE, section) {
-        b"yes"
+    let word = if own.is_present(DEVICE, section) {
+        "yes"
     } else {
-        b"no"
+        "no"
     };
-    let answer = emitter.wanted.line.unwrap_or(word);
+    let answer = emitter.wanted.line.unwrap_or(word.as_bytes());
     emitter.sheet.ask("present", section, answer);
 }
 
@@ -73,7 +77,7 @@ fn put_bytes(
 ) {
     for (at, (byte, other)) in bytes.iter().zip(others).enumerate() {
         let from = at.saturating_mul(2);
-        let digits = line.and_then(|line| line.get(from..from.saturating_add(2)));
+        let digits = line.unwrap_or(&[]).get(from..from.saturating_add(2));
         let at = at as u64;
         let is_open = *byte != *other || marks.is_open(section.start.saturating_add(at));
         put_break(sheet, at);
@@ -110,26 +114,23 @@ fn put_pointers(
     let end = section.start.saturating_add(section.len) / POINTER_LEN;
     for nth in section.start.div_ceil(POINTER_LEN)..end {
         let place = nth.saturating_mul(POINTER_LEN);
-        if let Some(target) = marks.target(table, place, on_device) {
-            if marks.is_pointer(place) {
-                let is_attached = on_device && is_attached(table, place);
-                put_pointer(sheet, place, on_device, target, is_attached);
-            }
+        if marks.is_pointer(place)
+            && let Some(target) = marks.target(table, place, on_device)
+        {
+            let is_attached = on_device && is_attached(table, place);
+            put_pointer(sheet, place, on_device, target, is_attached);
         }
     }
 }
 
 /// Puts a question for a pointer. Attached it holds the device address of its target, and else the host address.
 fn put_pointer(sheet: &mut Sheet, place: u64, on_device: bool, target: u64, is_attached: bool) {
+    let host = sheet.language.pick("(void *)", "c_loc");
     let pieces = [
         Piece::Text(if on_device { "peek" } else { "show" }),
         Piece::Number(sheet.line),
         Piece::Start(pointer_section(place)),
-        Piece::Text(if is_attached {
-            "acc_deviceptr"
-        } else {
-            sheet.language.pick("(void *)", "c_loc")
-        }),
+        Piece::Text(if is_attached { "acc_deviceptr" } else { host }),
         Piece::Byte(target),
     ];
     sheet.call("%_pointer(%, %, %(%))", &pieces);

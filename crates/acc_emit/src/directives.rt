@@ -69,7 +69,9 @@ pub fn written_items(
 pub fn put_directive(sheet: &mut Sheet, frame: DirectiveFrame, items: &[Written]) {
     if fit_one_directive(&sheet.names, items) {
         put_clauses(sheet, frame, items);
-        put_opening(sheet, frame);
+        if frame.opens {
+            sheet.open_block();
+        }
         return;
     }
     for item in items {
@@ -90,7 +92,9 @@ fn put_item(sheet: &mut Sheet, frame: DirectiveFrame, item: Written) {
     } else if item.pointer().is_none() {
         sheet.remark("the pointer stays as it is: no action");
     }
-    put_opening(sheet, frame);
+    if frame.opens {
+        sheet.open_block();
+    }
     if item.zero && item.is_born() {
         put_fill(sheet, item.section());
     }
@@ -129,7 +133,9 @@ fn put_clauses(sheet: &mut Sheet, frame: DirectiveFrame, items: &[Written]) {
         put_clause(sheet, *item);
     }
     // All items of a directive have its queue.
-    if let Some(queue) = items.first().and_then(|item| item.task.queue()) {
+    if let Some(item) = items.first()
+        && let Some(queue) = item.task.queue()
+    {
         sheet.put(" async(%)", &[Piece::Number(queue)]);
     }
     sheet.put("%\n", &[Piece::Text(frame.option)]);
@@ -137,16 +143,8 @@ fn put_clauses(sheet: &mut Sheet, frame: DirectiveFrame, items: &[Written]) {
 
 fn put_clause(sheet: &mut Sheet, item: Written) {
     let text = if item.zero { " %(zero: %)" } else { " %(%)" };
-    sheet.put(
-        text,
-        &[Piece::Text(item.task.word()), Piece::Part(item.section())],
-    );
-}
-
-fn put_opening(sheet: &mut Sheet, frame: DirectiveFrame) {
-    if frame.opens {
-        sheet.open_block();
-    }
+    let pieces = [Piece::Text(item.task.word()), Piece::Part(item.section())];
+    sheet.put(text, &pieces);
 }
 
 /// Puts a `wait` for a queue, or for all (OpenACC 3.3, the wait directive).
@@ -163,11 +161,7 @@ pub fn put_wait(sheet: &mut Sheet, queue: Option<u64>) {
 /// Puts the call that attaches or detaches a pointer, if there is one.
 pub fn put_call(sheet: &mut Sheet, call: &str, pointer: Option<u64>) {
     if let Some(pointer) = pointer {
-        let start = Piece::Start(pointer_section(pointer));
-        sheet.line(
-            "%((void **)(%));\n",
-            "call %(%)\n",
-            &[Piece::Text(call), start],
-        );
+        let pieces = [Piece::Text(call), Piece::Start(pointer_section(pointer))];
+        sheet.line("%((void **)(%));\n", "call %(%)\n", &pieces);
     }
 }

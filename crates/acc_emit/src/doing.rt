@@ -69,6 +69,7 @@ fn emit_end(emitter: &mut Emitter<'_>, own: &Table, did: &[Did]) {
 
 /// Notes what the items of a directive did, in a queue or at once, and where a program cannot have it.
 fn note_all(emitter: &mut Emitter<'_>, own: &Table, items: &[Written]) {
+    let mut has_ended = false;
     for (nth, item) in items.iter().enumerate() {
         let before = items.get(..nth).unwrap_or(&[]);
         let (marks, twin) = (&emitter.marks, &emitter.twin.table);
@@ -78,8 +79,9 @@ fn note_all(emitter: &mut Emitter<'_>, own: &Table, items: &[Written]) {
         check_ended(emitter, *item);
         note(emitter, *item);
         check_attached(emitter, own, *item);
+        has_ended |= item.ended_block().is_some();
     }
-    if items.iter().any(|item| item.ended_block().is_some()) {
+    if has_ended {
         emitter.marks.give_up_lost(own);
     }
 }
@@ -129,9 +131,10 @@ fn check_attached(emitter: &mut Emitter<'_>, own: &Table, item: Written) {
 /// is there until such a copy is made.
 fn check_ended(emitter: &mut Emitter<'_>, item: Written) {
     let (ended, queue) = (item.ended_block(), item.task.queue());
-    let mut waits = emitter.marks.waits.iter();
-    if waits.any(|copy| ended == Some(copy.block) && queue != Some(copy.queue)) {
-        emitter.sheet.unfit(Reason::Unsettled);
+    for copy in &emitter.marks.waits {
+        if ended == Some(copy.block) && queue != Some(copy.queue) {
+            emitter.sheet.unfit(Reason::Unsettled);
+        }
     }
 }
 

@@ -166,8 +166,7 @@ fn emit_statement(
             ..
         } => emit_kernel(emitter, own, *kernel, *section),
         Statement::Write { addr, bytes } => {
-            let start = *addr;
-            let len = bytes.len() as u64;
+            let (start, len) = (*addr, bytes.len() as u64);
             emit_write(emitter, own, Section { start, len });
         }
         Statement::Point { addr, .. } => emit_point(emitter, own, pointer_section(*addr)),

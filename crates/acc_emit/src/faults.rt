@@ -3,7 +3,7 @@
 use acc_base::Fault;
 
 /// What an OpenACC program cannot have.
-#[derive(Clone, Copy, Debug, PartialEq, Eq)]
+#[derive(Clone, Copy)]
 pub enum Reason {
     /// The statement is refused, and a program that goes on cannot have it.
     Refused,
@@ -46,7 +46,7 @@ impl Reason {
 }
 
 /// Why a script gives no program.
-#[derive(Clone, Copy, Debug, PartialEq, Eq)]
+#[derive(Clone, Copy)]
 pub enum EmitFault {
     /// A fault of the script, or lack of memory.
     Run(Fault),

@@ -57,7 +57,7 @@ impl Written {
 
     /// Returns the host address of the pointer that it attached.
     pub fn attached(self) -> Option<u64> {
-        self.did.aim.pointer_attached().map(|(pointer, _)| pointer)
+        Some(self.did.aim.pointer_attached()?.0)
     }
 
     /// Returns the number of the block whose mapping it ended.
@@ -82,17 +82,19 @@ impl Written {
 /// Whether one directive can have all of the items: each names another array, as compilers ask. None has a pointer, since
 /// a call attaches it before the next item. None has the modifier `zero`, which not each compiler knows.
 pub fn fit_one_directive(names: &Names, items: &[Written]) -> bool {
-    let is_plain = |item: &Written| item.is_clause() && item.pointer().is_none() && !item.zero;
+    for (nth, item) in items.iter().enumerate() {
+        if !item.is_clause() || item.pointer().is_some() || item.zero {
+            return false;
+        }
+        for other in items.iter().take(nth) {
+            if array_start(names, other.section()) == array_start(names, item.section()) {
+                return false;
+            }
+        }
+    }
     !items.is_empty()
-        && items.iter().enumerate().all(|(nth, item)| is_plain(item)
-            && is_of_new_array(names, items, nth, item.section()))
-}
-
-fn is_of_new_array(names: &Names, items: &[Written], nth: usize, section: Section) -> bool {
-    items.iter().take(nth).all(|item| array_start(names, item.section())
-        != array_start(names, section))
 }
 
 fn array_start(names: &Names, section: Section) -> Option<u32> {
-    names.spot(section.start).map(|spot| spot.array.start)
+    Some(names.spot(section.start)?.array.start)
 }

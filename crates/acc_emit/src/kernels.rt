@@ -64,5 +64,5 @@ fn put_change(sheet: &mut Sheet, kernel: ScriptKernel, cell: Piece<'_>) {
 }
 
 fn number_of(by: u8) -> Piece<'static> {
-    Piece::Number(u64::from(by))
+    Piece::Number(by as u64)
 }

@@ -1,7 +1,7 @@
 //! The languages of programs.
 
 /// The language of a program.
-#[derive(Clone, Copy, Debug, PartialEq, Eq)]
+#[derive(Clone, Copy, PartialEq, Eq)]
 pub enum Language {
     /// C.
     C,

@@ -8,7 +8,7 @@ use acc_table::Table;
 use std::alloc::{AllocError, Global};
 
 /// How the bytes of a host address are compared: that in host memory, and those on the device that are mapped from it.
-#[derive(Clone, Copy, PartialEq, Eq)]
+#[derive(Clone, Copy)]
 enum Mark {
     /// Each by itself. Nothing was written.
     Plain,
@@ -50,13 +50,10 @@ impl Marks {
     /// Returns the marks of those bytes of a section that lie in host memory.
     fn within(&mut self, section: Section) -> &mut [Mark] {
         let from = section.start.saturating_sub(HOST_BASE) as usize;
-        let to = from
-            .saturating_add(section.len as usize)
-            .min(self.marked.len());
-        self.marked
-            .as_mut_slice()
-            .get_mut(from..to)
-            .unwrap_or(&mut [])
+        let end = from.saturating_add(section.len as usize);
+        let to = end.min(self.marked.len());
+        let marked = self.marked.as_mut_slice();
+        marked.get_mut(from..to).unwrap_or(&mut [])
     }
 
     /// Opens the bytes of a section of host memory: they are never compared again.
@@ -85,18 +82,23 @@ impl Marks {
     /// Whether the word at a host address is to be compared as a pointer.
     pub fn is_pointer(&self, place: u64) -> bool {
         let from = place.saturating_sub(HOST_BASE) as usize;
-        let word = self
-            .marked
-            .get(from..from.saturating_add(POINTER_LEN as usize));
+        let to = from.saturating_add(POINTER_LEN as usize);
+        for mark in self.marked.get(from..to).unwrap_or(&[Mark::Open]) {
+            if !matches!(*mark, Mark::Address) {
+                return false;
+            }
+        }
         !self.is_racing(pointer_section(place))
-            && word.is_some_and(|marks| marks.iter().all(|mark| *mark == Mark::Address))
     }
 
     /// Whether a copy of one of a section's bytes waits.
     pub fn is_racing(&self, section: Section) -> bool {
-        self.waits
-            .iter()
-            .any(|copy| copy.shared(section, None).len > 0)
+        for copy in &self.waits {
+            if copy.shared(section, None).len > 0 {
+                return true;
+            }
+        }
+        false
     }
 
     /// Notes that the bytes of a section are read or written in a queue, or at once. It opens those of which a copy
@@ -144,21 +146,31 @@ impl Marks {
             let is_sure = is_word && matches!(*mark, Mark::Plain | Mark::Address);
             *mark = if is_sure { Mark::Address } else { Mark::Open };
         }
-        let pointer = Pointer {
+        let stands = !self.is_racing(section);
+        self.keep(Pointer {
             place,
             target,
-            stands: !self.is_racing(section),
-        };
-        self.pointers
-            .retain(|other| other.place != place || other.target != target);
-        self.pointers.push(pointer)?;
-        Ok(())
+            stands,
+        })
+    }
+
+    /// Keeps a pointer in place of the same one, if there is one.
+    fn keep(&mut self, pointer: Pointer) -> Result<(), AllocError> {
+        for other in &mut self.pointers {
+            if other.place == pointer.place && other.target == pointer.target {
+                *other = pointer;
+                return Ok(());
+            }
+        }
+        Ok(self.pointers.push(pointer)?)
     }
 
     /// Forgets the copies of a queue, or of all queues, which a `wait` has made.
     pub fn forget_waits(&mut self, queue: Option<u64>) {
-        self.waits
-            .retain(|copy| queue.is_some_and(|queue| queue != copy.queue));
+        match queue {
+            Some(queue) => self.waits.retain(|copy| queue != copy.queue),
+            None => self.waits.clear(),
+        }
     }
 
     fn spoil(&mut self, section: Section) {
@@ -171,9 +183,12 @@ impl Marks {
 
     /// Whether `point` wrote the address of a target at a place, and it still stands there.
     pub fn has_pointer(&self, place: u64, target: u64) -> bool {
-        self.pointers.iter().any(|pointer| pointer.stands
-            && pointer.place == place
-            && pointer.target == target)
+        for pointer in &self.pointers {
+            if pointer.stands && pointer.place == place && pointer.target == target {
+                return true;
+            }
+        }
+        false
     }
 
     /// Returns the target of the pointer at a place, in host memory or on the device. The pointer holds its host
@@ -197,8 +212,10 @@ impl Marks {
     /// Gives up the attached pointers whose target's mapping has ended: a later one may lie elsewhere.
     pub fn give_up_lost(&mut self, table: &Table) {
         for nth in 0..self.pointers.len() {
-            let place = self.pointers.get(nth).map_or(0, |pointer| pointer.place);
-            if is_attached(table, place) && self.target(table, place, true).is_none() {
+            if let Some(Pointer { place, .. }) = self.pointers.get(nth).copied()
+                && is_attached(table, place)
+                && self.target(table, place, true).is_none()
+            {
                 self.write_over(pointer_section(place));
             }
         }

@@ -43,5 +43,5 @@ pub fn bytes_at(table: &Table, section: Section, on_device: bool) -> Option<&[u8
 /// Returns the address that the eight bytes at a place hold, the lowest byte first; 0 where they are not there.
 pub fn word_at(table: &Table, place: u64, on_device: bool) -> u64 {
     let bytes = bytes_at(table, pointer_section(place), on_device).unwrap_or(&[]);
-    <[u8; 8]>::try_from(bytes).map_or(0, |word| u64::from_le_bytes(word))
+    u64::from_le_bytes(<[u8; 8]>::try_from(bytes).unwrap_or([0; 8]))
 }

@@ -5,10 +5,13 @@ use crate::emitters::Emitter;
 use crate::faults::Reason;
 use crate::kernels::put_kernel;
 use crate::pieces::Piece;
-use crate::sheets::Sheet;
 use acc_base::Fault;
 use acc_read::Statement;
 use acc_table::Table;
+
+/// The choice of a device that is so many behind the last.
+const ABSENT_DEVICE: &str =
+    "acc_set_device_num(acc_get_num_devices(acc_get_device_type()) + %, acc_get_device_type())";
 
 /// Emits a statement that is refused, as the last one of the program. The command line has to ask for that, and OpenACC
 /// has to have the refusal too.
@@ -56,18 +59,10 @@ fn put_refused(emitter: &mut Emitter<'_>, own: &Table, statement: &Statement<'_>
             ..
         } => put_kernel(&mut emitter.sheet, *kernel, *section),
         Statement::Select(device) => {
-            let behind = device.saturating_sub(own.config().devices());
-            put_absent_device(&mut emitter.sheet, behind);
+            // A device that is not there on any machine (OpenACC 3.3, section 3.2.4): so many behind the first such.
+            let behind = Piece::Number(device.saturating_sub(own.config().devices()));
+            emitter.sheet.call(ABSENT_DEVICE, &[behind]);
         }
         _ => emitter.sheet.unfit(Reason::Limit),
     }
-}
-
-/// Puts the choice of a device that is not there on any machine (OpenACC 3.3, section 3.2.4): so many behind the first
-/// that is not.
-fn put_absent_device(sheet: &mut Sheet, behind: u64) {
-    sheet.call(
-        "acc_set_device_num(acc_get_num_devices(acc_get_device_type()) + %, acc_get_device_type())",
-        &[Piece::Number(behind)],
-    );
 }

@@ -39,8 +39,7 @@ impl NestedRegion {
     /// Closes its blocks, behind a directive that does not return.
     pub fn close_blocks(&self, sheet: &mut Sheet) {
         if self.is_one {
-            sheet.close_block(true);
-            return;
+            return sheet.close_block(true);
         }
         for item in self.items.iter().rev() {
             sheet.close_block(item.is_clause());

@@ -89,13 +89,12 @@ impl Sheet {
 
     /// Puts a text, in which a piece stands in place of each `%`.
     pub fn put(&mut self, text: &str, pieces: &[Piece<'_>]) {
-        let texts = text.as_bytes().split(|byte| *byte == b'%');
-        for (nth, text) in texts.enumerate() {
+        for (nth, text) in text.split('%').enumerate() {
             // The first text has no piece before it.
             if let Some(piece) = pieces.get(nth.wrapping_sub(1)) {
                 self.put_piece(*piece);
             }
-            self.body.bytes(text);
+            self.body.text(text);
         }
     }
 
@@ -240,8 +239,10 @@ fn put_title(page: &mut Page, language: Language, name: Option<&str>, script: &[
     if let Some(name) = name {
         put_remark(page, language, name.as_bytes());
     }
-    let lines = script.split(|byte| *byte == b'\n');
-    for comment in lines.map_while(|line| line.strip_prefix(b"#".as_slice())) {
+    for line in script.split(|byte| *byte == b'\n') {
+        let Some(comment) = line.strip_prefix(b"#".as_slice()) else {
+            return;
+        };
         put_remark(page, language, comment.trim_ascii());
     }
 }

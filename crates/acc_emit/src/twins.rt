@@ -25,17 +25,12 @@ const EVENTS: u64 = 16_777_216;
 ///
 /// [`Fault::Memory`] alone.
 pub fn twin_of(alloc: Global, config: Config) -> Result<Box<Session>, Fault> {
-    Ok(Box::new(alloc, Session::new(alloc, twin_config(config)?)?)?)
-}
-
-/// The limits of the twin. It has one region more, for fills, and room on its device for blocks that lie otherwise.
-fn twin_config(config: Config) -> Result<Config, Fault> {
+    // It has one region more, for fills, and room on its device for blocks that lie otherwise.
     let regions = config.regions().saturating_add(1).min(65_536);
-    let host = config.host();
-    let most = config.counter_max();
-    Config::new(host, MEMORY_MAX, regions, EVENTS, most, 4_096, EVENTS)?.with_devices(
-        config.devices(),
-    )
+    let (host, most) = (config.host(), config.counter_max());
+    let limits = Config::new(host, MEMORY_MAX, regions, EVENTS, most, 4_096, EVENTS)?;
+    let limits = limits.with_devices(config.devices())?;
+    Ok(Box::new(alloc, Session::new(alloc, limits)?)?)
 }
 
 /// Opens a region without items on the twin before the first line, for the kernels that flip.

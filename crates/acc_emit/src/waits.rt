@@ -29,12 +29,8 @@ impl WaitingCopy {
 /// Returns the bytes that two sections have in common.
 pub fn common(one: Section, other: Section) -> Section {
     let start = one.start.max(other.start);
-    let end = one
-        .start
-        .saturating_add(one.len)
-        .min(other.start.saturating_add(other.len));
-    Section {
-        start,
-        len: end.saturating_sub(start),
-    }
+    let end = one.start.saturating_add(one.len);
+    let other_end = other.start.saturating_add(other.len);
+    let len = end.min(other_end).saturating_sub(start);
+    Section { start, len }
 }

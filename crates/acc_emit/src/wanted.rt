@@ -2,7 +2,6 @@
 
 use crate::languages::Language;
 use acc_read::{Page, next_line};
-use std::fmt::Write;
 use std::slice;
 
 /// The output that a script has to have, where it is given.
@@ -25,7 +24,7 @@ impl<'a> Wanted<'a> {
 
     /// Whether the output has lines that are not printed yet.
     pub fn goes_on(&self) -> bool {
-        self.rest.is_some_and(|rest| !rest.is_empty())
+        !self.rest.unwrap_or(&[]).is_empty()
     }
 
     /// Passes as many lines as a line of the script printed; returns false where fewer are left.
@@ -33,15 +32,18 @@ impl<'a> Wanted<'a> {
         let Some(mut rest) = self.rest else {
             return true;
         };
-        let count = printed.iter().filter(|byte| **byte == b'\n').count();
+        let mut is_first = true;
         self.line = None;
-        for _ in 0..count {
-            if rest.is_empty() {
-                return false;
+        for byte in printed {
+            if *byte == b'\n' {
+                if rest.is_empty() {
+                    return false;
+                }
+                let (line, after) = next_line(rest);
+                self.line = is_first.then_some(line);
+                is_first = false;
+                rest = after;
             }
-            let (line, after) = next_line(rest);
-            self.line = Some(line).filter(|_| count == 1);
-            rest = after;
         }
         self.rest = Some(rest);
         true
@@ -61,8 +63,14 @@ pub fn put_literal(page: &mut Page, language: Language, piece: &[u8]) {
 }
 
 fn put_escape(page: &mut Page, language: Language, byte: u8) {
-    let _ = match language {
-        Language::C => write!(page, "\\{byte:03o}"),
-        Language::Fortran => write!(page, "\" // achar({byte}) // \""),
-    };
+    let byte = byte as u64;
+    if language == Language::Fortran {
+        page.text("\" // achar(");
+        page.number(byte);
+        return page.text(") // \"");
+    }
+    page.text("\\");
+    for place in [64, 8, 1] {
+        page.number(byte / place % 8);
+    }
 }

@@ -30,17 +30,10 @@ pub fn declare(alloc: Global, sheet: &mut Sheet, name: &[u8], array: Array) {
 
 /// Emits a write of the host of these bytes into a section.
 pub fn emit_write(emitter: &mut Emitter<'_>, own: &Table, section: Section) {
-    emitter.marks.write(section);
-    put_write(
-        &mut emitter.sheet,
-        section,
-        own.host_read(section).unwrap_or(&[]),
-    );
-}
-
-fn put_write(sheet: &mut Sheet, section: Section, bytes: &[u8]) {
+    let Emitter { marks, sheet, .. } = emitter;
+    marks.write(section);
     sheet.line("memcpy(%, \"", "call put(%, \"", &[Piece::Start(section)]);
-    for byte in bytes {
+    for byte in own.host_read(section).unwrap_or(&[]) {
         sheet.pick("\\x%", "%", &[Piece::Digits(*byte)]);
     }
     sheet.pick("\", %);\n", "\")\n", &[Piece::Number(section.len)]);

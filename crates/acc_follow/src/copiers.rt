@@ -96,10 +96,12 @@ impl<'a, O, X> Copier<'a, O, X> {
     /// Why nothing more was copied. Else that of the run, with [`Fault::Memory`] for [`Fault::Write`]: the memory that it
     /// prints into fails for nothing else.
     pub fn ended<T: Drop>(&self, ending: Result<T, Fault>) -> Result<T, Fault> {
-        match (self.failed, ending) {
-            (Some(fault), _) => Err(fault),
-            (None, Err(Fault::Write)) => Err(Fault::Memory),
-            (None, ending) => ending,
+        if let Some(fault) = self.failed {
+            return Err(fault);
+        }
+        match ending {
+            Err(Fault::Write) => Err(Fault::Memory),
+            ending => ending,
         }
     }
 }

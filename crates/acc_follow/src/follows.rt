@@ -5,7 +5,7 @@ ghost use Rattle.acc_script.specs.Told.{Took};
 
 use crate::copiers::{Copier, Printed};
 use crate::picture_sinks::{Frame, PictureSink, Stop};
-use crate::ran_lines::{RanLine, picture_of};
+use crate::ran_lines::{RanLine, draw_session};
 use crate::timelines::Timeline;
 use acc_base::{Config, Event, Fault, ScriptFault};
 use acc_check::{Check, Line, Telling};
@@ -51,9 +51,9 @@ pub struct Views {
 impl Views {
     /// Whether any of it is shown.
     fn show_any(self) -> bool {
-        let lines = self.echo || self.json || self.lines;
-        let pictures = self.picture || self.pictures || self.page;
-        lines || pictures || self.log || self.explain || self.check
+        let lines = self.echo | self.json | self.lines;
+        let pictures = self.picture | self.pictures | self.page;
+        lines | pictures | self.log | self.explain | self.check
     }
 
     /// Whether any of it names arrays.
@@ -113,22 +113,37 @@ pub fn follow<R: Threads + Wait + Sync + AllocGlobal, S: Source, O: Sink, E: Sin
     let kernels = ByCall(move |kernel: ScriptKernel, lease: Lease, src: &[u8]| {
         run_in_threads(rt, parts, kernel, lease, src)
     });
-    if !setting.views.show_any() {
-        beside.lines.clear();
-        let mut watcher = FaultWatcher {
-            alloc,
-            column: *beside.column,
-        };
-        let ending = run(alloc, &kernels, reader, out, config, &mut watcher);
-        *beside.column = watcher.column;
-        return Ok(ending?);
+    if setting.views.show_any() {
+        return run_shown(alloc, &kernels, setting, reader, out, beside);
     }
-    let mut follower = Follower::new(alloc, setting.views, beside);
+    beside.lines.clear();
+    let mut watcher = FaultWatcher {
+        alloc,
+        column: *beside.column,
+    };
+    let ending = run(alloc, &kernels, reader, out, config, &mut watcher);
+    *beside.column = watcher.column;
+    Ok(ending?)
+}
+
+/// Runs a script, and shows more of it.
+fn run_shown<K: KernelRunner, S: Source, O: Sink, E: Sink, G: PictureSink>(
+    alloc: Global,
+    kernels: &K,
+    setting: Setting,
+    reader: &mut S,
+    out: &mut O,
+    beside: Beside<'_, E, G>,
+) -> Result<Status, Stop>
+    requires { K.able kernels.now }
+{
+    let Setting { config, views, .. } = setting;
     let mut lines = Vec::new(alloc);
-    let ending = if setting.views.echo || setting.views.json || setting.views.lines {
+    let mut follower = Follower::new(alloc, views, beside);
+    let ending = if views.echo || views.json || views.lines {
         run_copied(
             alloc,
-            &kernels,
+            kernels,
             setting,
             reader,
             out,
@@ -136,7 +151,7 @@ pub fn follow<R: Threads + Wait + Sync + AllocGlobal, S: Source, O: Sink, E: Sin
             &mut follower,
         )
     } else {
-        run(alloc, &kernels, reader, out, config, &mut follower)
+        run(alloc, kernels, reader, out, config, &mut follower)
     };
     *follower.lines = lines;
     follower.ended(out, ending)
@@ -162,7 +177,7 @@ fn run_copied<K: KernelRunner, S: Source, O: Sink, X: Watcher<O>>(
 }
 
 /// Sees where a line is at fault. No line meets it before.
-#[derive(Drop)]
+#[derive(Clone, Copy)]
 struct FaultWatcher {
     alloc: Global,
     /// As in [`Beside`].
@@ -451,9 +466,7 @@ impl<E: Sink, G: PictureSink> Follower<'_, E, G> {
         if !self.is_picture_due(ran.session) {
             return Ok(());
         }
-        let picture = ran.picture(self.alloc, &self.names, self.check.as_ref())?;
-        self.pictures
-            .keep(Frame::Line(ran.number), picture.whole()?)
+        self.draw(ran.session, ran.caption(), Frame::Line(ran.number))
     }
 
     /// Whether there is a new event that is no write of the host.
@@ -466,16 +479,17 @@ impl<E: Sink, G: PictureSink> Follower<'_, E, G> {
 
     fn draw_last(&mut self, session: &Session) {
         if self.views.picture && self.stop.is_none() {
-            if let Err(stop) = self.draw(session) {
+            if let Err(stop) = self.draw(session, Caption::End, Frame::Last) {
                 self.halt(stop);
             }
         }
     }
 
-    fn draw(&self, session: &Session) -> Result<(), Stop> {
+    fn draw(&self, session: &Session, caption: Caption<'_>, frame: Frame) -> Result<(), Stop> {
+        let mut page = Page::new(self.alloc);
         let check = self.check.as_ref();
-        let picture = picture_of(self.alloc, session, &self.names, check, Caption::End)?;
-        self.pictures.keep(Frame::Last, picture.whole()?)
+        draw_session(&mut page, self.alloc, session, &self.names, check, caption)?;
+        self.pictures.keep(frame, page.as_slice())
     }
 
     /// Writes why the last line at fault is, behind the fault itself.
@@ -509,7 +523,7 @@ impl<E: Sink, G: PictureSink> Follower<'_, E, G> {
     fn keep_page(&self) -> Result<(), Stop> {
         let mut page = Page::new(self.alloc);
         self.timeline.put(&mut page)?;
-        self.pictures.keep(Frame::Each, page.whole()?)
+        self.pictures.keep(Frame::Each, page.as_slice())
     }
 
     /// Writes the last lines. Returns why something could not be shown; else how the run ended, if by a fault; else

@@ -67,54 +67,46 @@ impl<'a> RanLine<'a> {
         }
     }
 
-    /// What a line of this effect prints.
-    ///
-    /// # Errors
-    ///
-    /// [`Fault::Memory`] where there is none for it.
-    pub fn printed(self, alloc: Global, effect: Effect) -> Result<MemorySink, Fault> {
-        let mut printed = MemorySink::new(alloc);
-        // This sink fails for lack of memory alone.
-        if write_effect(&mut printed, self.number, &self.session.table, effect) {
-            Ok(printed)
-        } else {
-            Err(Fault::Memory)
+    /// Puts what a line of this effect prints; false where there was no memory for some of it.
+    pub fn print(self, printed: &mut MemorySink, effect: Effect) -> bool {
+        write_effect(printed, self.number, &self.session.table, effect)
+    }
+
+    /// What stands above the picture of what the line left.
+    pub fn caption(self) -> Caption<'a> {
+        Caption::Line {
+            number: self.number,
+            text: self.statement(),
         }
     }
 
-    /// The picture that the line left, with what a check knows of bytes.
-    ///
-    /// # Errors
-    ///
-    /// [`Fault::Memory`] where there is none for it.
-    pub fn picture(
+    /// Puts the picture that the line left; false where there was no memory for some of it.
+    pub fn draw(
         self,
+        page: &mut Page,
         alloc: Global,
         names: &Names,
         check: Option<&Check>,
-    ) -> Result<Page, Fault> {
-        let caption = Caption::Line {
-            number: self.number,
-            text: self.statement(),
-        };
-        picture_of(alloc, self.session, names, check, caption)
+    ) -> bool {
+        draw_session(page, alloc, self.session, names, check, self.caption()).is_ok()
     }
 }
 
-/// The picture of a session's memories, with what a check knows of bytes.
+/// Puts the picture of a session's memories, with what a check knows of bytes.
 ///
 /// # Errors
 ///
-/// [`Fault::Memory`] where there is none for it.
-pub fn picture_of(
+/// [`Fault::Memory`] where there was none for some of it.
+pub fn draw_session(
+    page: &mut Page,
     alloc: Global,
     session: &Session,
     names: &Names,
     check: Option<&Check>,
     caption: Caption<'_>,
-) -> Result<Page, Fault> {
-    let mut page = Page::new(alloc);
+) -> Result<(), Fault> {
     let known = check.map(Check::known);
-    put_picture(&mut page, alloc, &session.table, names, known, caption)?;
-    Ok(page)
+    put_picture(page, alloc, &session.table, names, known, caption)?;
+    page.whole()?;
+    Ok(())
 }

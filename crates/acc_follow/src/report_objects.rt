@@ -2,7 +2,7 @@
 
 ghost use Rattle.std.specs.Prelude.{◌≡◌, ◌≤◌, [], length};
 
-use acc_base::{Ended, QUEUE_COUNT, Section};
+use acc_base::{QUEUE_COUNT, Section};
 use acc_read::Page;
 use acc_script::Line;
 use acc_table::{Mapped, Place, Table};
@@ -11,14 +11,17 @@ use acc_table::{Mapped, Place, Table};
 /// are decimal numbers.
 pub fn put_report(page: &mut Page, table: &Table) {
     let config = table.config();
-    put_sizes(page, config.host(), config.device());
+    put_field(page, "{\"host\":", config.host());
+    put_field(page, ",\"device\":", config.device());
     if config.devices() > 1 {
         put_devices(page, table);
     } else {
         page.text(",");
         put_device(page, table, 0);
     }
-    put_totals(page, table.regions(), table.events());
+    put_field(page, ",\"regions\":", table.regions());
+    put_field(page, ",\"events\":", table.events());
+    page.text("}\n");
 }
 
 fn put_devices(page: &mut Page, table: &Table) {
@@ -47,17 +50,6 @@ fn put_comma(page: &mut Page, is_first: bool) {
     if !is_first {
         page.text(",");
     }
-}
-
-fn put_sizes(page: &mut Page, host: u64, device: u64) {
-    put_field(page, "{\"host\":", host);
-    put_field(page, ",\"device\":", device);
-}
-
-fn put_totals(page: &mut Page, regions: u64, events: u64) {
-    put_field(page, ",\"regions\":", regions);
-    put_field(page, ",\"events\":", events);
-    page.text("}\n");
 }
 
 /// Puts what stands before a number, with its name, and the number.
@@ -129,15 +121,11 @@ fn put_pointers(page: &mut Page, table: &Table, device: u64, mapped: Mapped) {
             return;
         };
         put_comma(page, nth == 0);
-        put_pointer(page, attached.pointer, attached.count);
+        put_field(page, "{\"address\":", attached.pointer);
+        put_field(page, ",\"count\":", attached.count);
+        page.text("}");
         start = attached.pointer.saturating_add(1);
     }
-}
-
-fn put_pointer(page: &mut Page, address: u64, count: u64) {
-    put_field(page, "{\"address\":", address);
-    put_field(page, ",\"count\":", count);
-    page.text("}");
 }
 
 /// The blocks whose mapping has ended, by rising place.
@@ -148,16 +136,12 @@ fn put_all_ended(page: &mut Page, table: &Table, device: u64) {
             return;
         };
         put_comma(page, nth == 0);
-        put_ended(page, ended);
+        put_field(page, "{\"place\":", ended.place);
+        put_field(page, ",\"size\":", ended.size);
+        put_field(page, ",\"pins\":", ended.pins);
+        page.text("}");
         from = ended.place.saturating_add(1);
     }
-}
-
-fn put_ended(page: &mut Page, ended: Ended) {
-    put_field(page, "{\"place\":", ended.place);
-    put_field(page, ",\"size\":", ended.size);
-    put_field(page, ",\"pins\":", ended.pins);
-    page.text("}");
 }
 
 /// The queues that are not empty, by rising number.
@@ -167,14 +151,10 @@ fn put_queues(page: &mut Page, table: &Table, device: u64) {
         let length = table.queue_len(device, queue);
         if length > 0 {
             put_comma(page, is_first);
-            put_queue(page, queue, length);
+            put_field(page, "{\"queue\":", queue);
+            put_field(page, ",\"length\":", length);
+            page.text("}");
             is_first = false;
         }
     }
-}
-
-fn put_queue(page: &mut Page, queue: u64, length: u64) {
-    put_field(page, "{\"queue\":", queue);
-    put_field(page, ",\"length\":", length);
-    page.text("}");
 }

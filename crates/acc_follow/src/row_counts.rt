@@ -3,7 +3,7 @@
 use acc_base::{Config, Fault};
 use acc_log::{Log, RowCounts};
 use acc_read::{Names, line_at, statement_text};
-use acc_script::{Effect, InOnePart, MemorySink, Session, Sink, Watcher, run_text};
+use acc_script::{Effect, InOnePart, MemorySink, Session, Sink, Status, Watcher, run_text};
 use std::alloc::Global;
 
 /// Runs a script, drops what it prints, and returns the counts with the rows of the clause tables that it reached.
@@ -26,19 +26,15 @@ pub fn count_rows(
         wants: false,
     };
     let mut printed = MemorySink::new(alloc);
-    match run_text(
+    let ending = run_text(
         alloc,
         &InOnePart,
         config,
         script,
         &mut printed,
         &mut counter,
-    ) {
-        // This sink fails for lack of memory alone.
-        Err(Fault::Write) => Err(Fault::Memory),
-        Err(fault) => Err(fault),
-        Ok(_) => counter.rows(),
-    }
+    );
+    counter.ended(ending)
 }
 
 #[derive(Drop)]
@@ -52,12 +48,16 @@ struct RowCounter {
 }
 
 impl RowCounter {
-    fn rows(&mut self) -> Result<RowCounts, Fault> {
+    /// The counts, by how the run ended.
+    fn ended(&mut self, ending: Result<Status, Fault>) -> Result<RowCounts, Fault> {
         let is_whole = !self.wants && self.log.page.whole().is_ok();
-        match self.log.rows.take() {
-            Some(rows) if is_whole && !rows.wants() => Ok(rows),
-            _ => Err(Fault::Memory),
+        match (ending, &self.log.rows) {
+            (Ok(_), Some(rows)) if is_whole && !rows.wants() => {}
+            // The sink of the run fails for lack of memory alone.
+            (Ok(_) | Err(Fault::Write), _) => return Err(Fault::Memory),
+            (Err(fault), _) => return Err(fault),
         }
+        self.log.rows.take().ok_or(Fault::Memory)
     }
 
     /// Counts the row of a line that was refused. It is read once more: it changed nothing.

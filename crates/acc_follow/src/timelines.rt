@@ -5,10 +5,9 @@ use crate::ran_lines::RanLine;
 use acc_base::{Fault, ScriptFault};
 use acc_check::{Check, put_string};
 use acc_read::{Names, Page};
-use acc_script::Effect;
+use acc_script::{Effect, MemorySink};
 use std::alloc::Global;
 use std::collections::BTreeMap;
-use std::fmt::Write;
 
 /// What each line of a script did, as data of the page.
 ///
@@ -22,6 +21,8 @@ pub struct Timeline {
     numbers: BTreeMap<Vec<u8>, u64>,
     /// The lines of the script, as arrays of JSON.
     lines: Page,
+    /// Whether there was no memory for some of it.
+    wants: bool,
 }
 
 impl Timeline {
@@ -32,6 +33,7 @@ impl Timeline {
             pieces: Page::new(alloc),
             numbers: BTreeMap::new(alloc),
             lines: Page::new(alloc),
+            wants: false,
         }
     }
 
@@ -47,23 +49,30 @@ impl Timeline {
         ran: RanLine<'_>,
         effect: Effect,
     ) -> Result<(), Fault> {
-        let printed = ran.printed(self.alloc, effect)?;
+        let mut printed = MemorySink::new(self.alloc);
         let mut reason = Page::new(self.alloc);
+        self.wants |= !ran.print(&mut printed, effect);
         // A page is of one script, so it names no file.
         ran.explain(&mut reason, self.alloc, names, None, effect);
-        self.open_line(ran.line, printed.as_slice(), reason.whole()?);
-        self.add_state(names, check, ran, effect)?;
+        self.wants |= reason.whole().is_err();
+        self.open_line(ran.line, printed.as_slice(), reason.as_slice());
+        self.add_state(names, check, ran, effect);
         self.lines.text("]");
+        self.kept()
+    }
+
+    fn kept(&self) -> Result<(), Fault> {
+        if self.wants {
+            return Err(Fault::Memory);
+        }
         Ok(())
     }
 
     /// Adds a line that is at fault, where `entries` are the lines of the open data regions.
     pub fn add_fault(&mut self, ran: RanLine<'_>, entries: &[u64], kind: ScriptFault) {
-        let mut printed = Page::new(self.alloc);
-        let _ = write!(printed, "{kind}");
         let mut reason = Page::new(self.alloc);
         ran.explain_fault(&mut reason, self.alloc, entries, kind);
-        self.open_line(ran.line, printed.as_slice(), reason.as_slice());
+        self.open_line(ran.line, kind.name().as_bytes(), reason.as_slice());
         self.lines.text("]");
     }
 
@@ -85,44 +94,37 @@ impl Timeline {
         check: Option<&Check>,
         ran: RanLine<'_>,
         effect: Effect,
-    ) -> Result<(), Fault> {
+    ) {
         let may_change = matches!(effect, Effect::Nothing | Effect::Refused(_));
         if ran.statement().is_empty() || (!may_change && !self.numbers.is_empty()) {
-            return Ok(());
+            return;
         }
-        let report = ran.printed(self.alloc, Effect::Reported)?;
-        let picture = ran.picture(self.alloc, names, check)?;
+        let mut report = MemorySink::new(self.alloc);
+        let mut picture = Page::new(self.alloc);
         let mut state = Vec::new(self.alloc);
-        self.add_pieces(report.as_slice(), &mut state)?;
-        self.add_pieces(picture.whole()?, &mut state)?;
+        self.wants |= !ran.print(&mut report, Effect::Reported);
+        self.add_pieces(report.as_slice(), &mut state);
+        self.wants |= !ran.draw(&mut picture, self.alloc, names, check);
+        self.add_pieces(picture.as_slice(), &mut state);
         put_runs(&mut self.lines, &state);
-        Ok(())
     }
 
     /// Adds the pieces of a text, which is UTF-8, to a state.
-    fn add_pieces(&mut self, text: &[u8], state: &mut Vec<u64>) -> Result<(), Fault> {
+    fn add_pieces(&mut self, text: &[u8], state: &mut Vec<u64>) {
         let mut piece = Page::new(self.alloc);
         for line in str::from_utf8(text).unwrap_or("").lines() {
-            self.add_text(line, &mut piece, state)?;
+            self.add_text(line, &mut piece, state);
         }
-        Ok(())
     }
 
     /// Adds a line of a state to the piece that it continues or begins. Unless that goes on, it is added.
-    fn add_text(
-        &mut self,
-        line: &str,
-        piece: &mut Page,
-        state: &mut Vec<u64>,
-    ) -> Result<(), Fault> {
+    fn add_text(&mut self, line: &str, piece: &mut Page, state: &mut Vec<u64>) {
         piece.text(line);
         if piece.as_slice().starts_with(b"<g><title>") && line != "</g>" {
-            piece.text("\n");
-            return Ok(());
+            return piece.text("\n");
         }
-        self.add_piece(piece.whole()?, state)?;
+        self.wants |= piece.whole().is_err() || self.add_piece(piece.as_slice(), state).is_err();
         piece.clear();
-        Ok(())
     }
 
     fn add_piece(&mut self, piece: &[u8], state: &mut Vec<u64>) -> Result<(), Fault> {
@@ -130,8 +132,7 @@ impl Timeline {
             Some(number) => number,
             None => self.add_new(piece)?,
         };
-        state.push(number)?;
-        Ok(())
+        Ok(state.push(number)?)
     }
 
     fn add_new(&mut self, piece: &[u8]) -> Result<u64, Fault> {
@@ -156,6 +157,7 @@ impl Timeline {
         page.bytes(self.lines.whole()?);
         page.text("\n]}");
         page.text(TAIL);
+        page.whole()?;
         Ok(())
     }
 }

@@ -6,27 +6,26 @@ use crate::accounts::{Copied, Placed};
 use crate::log_lines::{Tail, put_empty, put_mark, put_pointer, put_tail};
 use crate::logs::Log;
 use crate::rows::{reach_item, reach_pointer};
-use acc_base::{Aim, Did, Found, Holding, Section, Step, Task};
+use acc_base::{Aim, Did, Holding, Section, Step, Task};
 use acc_read::Names;
 use acc_script::Line;
-use acc_table::Table;
 
 /// An item of a directive, for every directive alike.
 #[derive(Clone, Copy)]
-pub struct LogItem<'a> {
-    /// The table that its event left.
-    pub table: &'a Table,
+pub struct LogItem {
     /// Its place in the directive, counted from 0.
     pub place: usize,
     /// What it asked.
     pub task: Task,
     /// What it did.
     pub did: Did,
+    /// The range that its section is inside, where it did nothing. One that a later item mapped is not known yet.
+    pub found: Option<Placed>,
 }
 
 impl Log {
     /// Puts the lines of an item: its pointer, its copy, its mapping, in the order in which it did something to them.
-    pub(crate) fn tell_item(&mut self, names: &Names, item: &LogItem<'_>) {
+    pub(crate) fn tell_item(&mut self, names: &Names, item: &LogItem) {
         match item.task {
             Task::Enter { .. } => {
                 self.tell_step(names, item);
@@ -42,7 +41,7 @@ impl Log {
     }
 
     /// Puts what became of an item that a region held; nothing where its entry did nothing.
-    fn tell_holding(&mut self, names: &Names, item: &LogItem<'_>, holding: &Holding) {
+    fn tell_holding(&mut self, names: &Names, item: &LogItem, holding: &Holding) {
         if holding.aim.is_some() {
             self.tell_aim(names, item);
             if matches!(item.did.aim, Aim::None) {
@@ -57,7 +56,7 @@ impl Log {
     }
 
     /// Puts what an item did to a mapping and to bytes.
-    fn tell_step(&mut self, names: &Names, item: &LogItem<'_>) {
+    fn tell_step(&mut self, names: &Names, item: &LogItem) {
         match item.did.step {
             Step::Nothing => self.tell_nothing(names, item),
             Step::Born { block, place } => {
@@ -77,7 +76,7 @@ impl Log {
     }
 
     /// Puts the lines of an item's mapping, with the counters that it left, and of its copy.
-    fn tell_left(&mut self, names: &Names, item: &LogItem<'_>, block: u64) {
+    fn tell_left(&mut self, names: &Names, item: &LogItem, block: u64) {
         let (task, section) = (&item.task, item.task.section());
         let Some(left) = self.account.recount(block, task) else {
             return;
@@ -113,7 +112,7 @@ impl Log {
 
     /// Puts the line of an item that did nothing. The section is empty or absent, or nothing of `enter data` counts it.
     /// An item of `attach` or `detach` names none, and gets no line.
-    fn tell_nothing(&mut self, names: &Names, item: &LogItem<'_>) {
+    fn tell_nothing(&mut self, names: &Names, item: &LogItem) {
         let (task, section) = (&item.task, item.task.section());
         if task.names_pointer() {
             return;
@@ -122,7 +121,7 @@ impl Log {
         if section.len == 0 {
             reach_item(&mut self.rows, task, "empty");
             put_empty(&mut self.page, item.place);
-        } else if let Some(found) = self.found(item, section) {
+        } else if let Some(found) = item.found {
             reach_item(&mut self.rows, task, "inside, uncounted");
             self.put_range(names, Some(item.place), "kept", found);
         } else {
@@ -132,16 +131,8 @@ impl Log {
         }
     }
 
-    /// The range that a section is inside. One that a later item mapped is not known yet.
-    fn found(&self, item: &LogItem<'_>, section: Section) -> Option<Placed> {
-        match item.table.find(self.account.device, section) {
-            Found::Inside { block, .. } => self.account.block(block),
-            _ => None,
-        }
-    }
-
     /// Puts the line of an item's copy, if its step has one: made at once, or put into its queue.
-    fn tell_copy(&mut self, names: &Names, item: &LogItem<'_>, placed: Placed) {
+    fn tell_copy(&mut self, names: &Names, item: &LogItem, placed: Placed) {
         let section = item.task.section();
         if item.task.copies(item.did.step) {
             let copied = Copied {
@@ -205,7 +196,7 @@ impl Log {
 
     /// Puts what an item did to its pointer, and keeps how often that is attached now.
     #[inline(always)]
-    fn tell_aim(&mut self, names: &Names, item: &LogItem<'_>) {
+    fn tell_aim(&mut self, names: &Names, item: &LogItem) {
         if let Some((pointer, block)) = aimed(item.did.aim) {
             self.tell_pointer(names, item, pointer, block);
         } else if item.task.names_pointer() {
@@ -213,7 +204,7 @@ impl Log {
         }
     }
 
-    fn tell_pointer(&mut self, names: &Names, item: &LogItem<'_>, pointer: u64, block: u64) {
+    fn tell_pointer(&mut self, names: &Names, item: &LogItem, pointer: u64, block: u64) {
         let aim = item.did.aim;
         let was = self.account.attached(block, pointer);
         let (count, way) = left_by(aim, was);
@@ -229,7 +220,7 @@ impl Log {
     }
 
     /// Puts the line of a clause that is of pointers alone, where its item did nothing.
-    fn tell_no_aim(&mut self, names: &Names, item: &LogItem<'_>) {
+    fn tell_no_aim(&mut self, names: &Names, item: &LogItem) {
         let start = item.task.section().start;
         if self.rows.is_some() {
             let is_there = self.account.has(Section { start, len: 8 });

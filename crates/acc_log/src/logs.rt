@@ -1,12 +1,12 @@
 //! The log: each call of a script, and behind it a line for each thing that it did, read from the events of the table.
 //! Bytes are copied in to the device and copied out to host memory, in the words of OpenACC.
 
-use crate::accounts::Account;
+use crate::accounts::{Account, Placed};
 use crate::item_logs::LogItem;
 use crate::log_lines::{Tail, Texts, put_head, put_inner, put_refused, put_region};
 use crate::rows::{RowCounts, has_readonly, reach, reach_item};
 use crate::totals::{REFUSED, Totals, WAITING};
-use acc_base::{Did, Event, Fault, Section, Task};
+use acc_base::{Did, Event, Fault, Found, Section, Step, Task};
 use acc_read::{Names, Page, Statement};
 use acc_script::Effect;
 use acc_table::Table;
@@ -171,7 +171,7 @@ impl Log {
             Event::Waited { queue, count, .. } => self.tell_waited(names, *queue, *count),
             Event::Stepped { queue, .. } => {
                 reach(&mut self.rows, "step", "some");
-                self.tell_made(names, *queue);
+                self.tell_next(names, Some(*queue));
             }
             Event::HostWritten { addr, len, .. } => {
                 let section = Section {
@@ -219,29 +219,35 @@ impl Log {
         did: Option<&Did>,
     ) {
         if let (Some(task), Some(did)) = (task, did) {
-            let did = *did;
             let item = LogItem {
-                table,
                 place,
                 task,
-                did,
+                did: *did,
+                found: self.found(table, task.section(), did.step),
             };
             self.tell_item(names, &item);
         }
     }
 
+    /// The range that the section of an item is inside, where its step is nothing.
+    fn found(&self, table: &Table, section: Section, step: Step) -> Option<Placed> {
+        if !matches!(step, Step::Nothing) {
+            return None;
+        }
+        match table.find(self.account.device, section) {
+            Found::Inside { block, .. } => self.account.block(block),
+            _ => None,
+        }
+    }
+
     /// Puts the copies that a `wait` made: those of a queue, or of all queues from the first on.
     fn tell_waited(&mut self, names: &Names, queue: Option<u64>, count: u64) {
-        let directive = if queue.is_some() {
-            "wait queue"
-        } else {
-            "wait"
+        let directive = match queue {
+            Some(_) => "wait queue",
+            None => "wait",
         };
-        reach(
-            &mut self.rows,
-            directive,
-            if count > 0 { "some" } else { "none" },
-        );
+        let outcome = if count > 0 { "some" } else { "none" };
+        reach(&mut self.rows, directive, outcome);
         if count == 0 {
             put_inner(&mut self.page, "idle");
         }
@@ -250,15 +256,12 @@ impl Log {
         }
     }
 
+    /// Puts the next copy of a queue, or of the first one in which copies wait.
     fn tell_next(&mut self, names: &Names, queue: Option<u64>) {
         if let Some(queue) = queue.or(self.account.first_queue()) {
-            self.tell_made(names, queue);
-        }
-    }
-
-    fn tell_made(&mut self, names: &Names, queue: u64) {
-        if let Some(copied) = self.account.take(queue) {
-            self.put_copy(names, None, copied, false);
+            if let Some(copied) = self.account.take(queue) {
+                self.put_copy(names, None, copied, false);
+            }
         }
     }
 

@@ -51,9 +51,9 @@ pub struct Views {
 impl Views {
     /// Whether any of it is shown.
     fn show_any(self) -> bool {
-        let lines = self.echo | self.json | self.lines;
-        let pictures = self.picture | self.pictures | self.page;
-        lines | pictures | self.log | self.explain | self.check
+        let lines = self.echo || self.json || self.lines;
+        let pictures = self.picture || self.pictures || self.page;
+        lines || pictures || self.log || self.explain || self.check
     }
 
     /// Whether any of it names arrays.

@@ -53,5 +53,10 @@ fn colour_of(line: &[u8]) -> Option<&'static str> {
 /// Whether a line tells a fault of a file, behind its place.
 fn has_fault(line: &[u8]) -> bool {
     const FAULT: &[u8] = b": error: ";
-    line.windows(FAULT.len()).any(|part| part == FAULT)
+    for part in line.windows(FAULT.len()) {
+        if part == FAULT {
+            return true;
+        }
+    }
+    false
 }

@@ -14,7 +14,6 @@ use acc_script::{
     InOnePart, MemorySink, Session, Sink, Source, Status, Watcher, run_line, write_all,
 };
 use std::alloc::Global;
-use std::fmt::Write;
 use std::sync::Wait;
 use std::thread::Threads;
 
@@ -36,8 +35,8 @@ pub fn run_script<R: Threads + Wait + Sync + AllocGlobal, S: Source, O: Sink, E:
     if !manner.is_live() && !manner.goes_on {
         return Ok(Some(follow(rt, setting, reader, out, beside)?));
     }
-    let session = Session::new(rt.alloc(), setting.config)?;
-    run_by_line(rt, setting, manner, reader, out, beside, session)
+    let mut session = Session::new(rt.alloc(), setting.config)?;
+    run_by_line(rt, setting, manner, reader, out, beside, &mut session)
 }
 
 fn run_by_line<R: Threads + Wait + Sync + AllocGlobal, S: Source, O: Sink, E: Sink, G: Keeper>(
@@ -47,28 +46,30 @@ fn run_by_line<R: Threads + Wait + Sync + AllocGlobal, S: Source, O: Sink, E: Si
     reader: &mut S,
     out: &mut O,
     beside: Beside<'_, E, G>,
-    session: Session,
+    session: &mut Session,
 ) -> Result<Option<Status>, Stop> {
     let mut follower = Follower::new(rt.alloc(), setting.views, beside);
     let mut dialogue = Dialogue {
-        alloc: rt.alloc(),
+        rt,
         setting,
         manner,
+        out,
         session,
         history: History::new(rt.alloc()),
         done: 0,
         is_refused: false,
         has_fault: false,
     };
-    dialogue.run_all(rt, out, &mut follower, &mut LineReader::new(reader))
+    dialogue.run_all(&mut follower, &mut LineReader::new(reader))
 }
 
 #[derive(Drop)]
-struct Dialogue {
-    alloc: Global,
+struct Dialogue<'a, R, O> {
+    rt: &'a R,
     setting: Setting,
     manner: Manner,
-    session: Session,
+    out: &'a mut O,
+    session: &'a mut Session,
     /// What the words of a prompt need; nothing where nothing is asked.
     history: History,
     /// The number of the last line that was run.
@@ -77,11 +78,9 @@ struct Dialogue {
     has_fault: bool,
 }
 
-impl Dialogue {
-    fn run_all<R: Threads + Wait + Sync + AllocGlobal, O: Sink, E: Sink, G: Keeper, S: Source>(
+impl<R: Threads + Wait + Sync + AllocGlobal, O: Sink> Dialogue<'_, R, O> {
+    fn run_all<E: Sink, G: Keeper, S: Source>(
         &mut self,
-        rt: &R,
-        out: &mut O,
         follower: &mut Follower<'_, E, G>,
         lines: &mut LineReader<'_, S>,
     ) -> Result<Option<Status>, Stop> {
@@ -90,116 +89,78 @@ impl Dialogue {
             let line = match lines.next_line() {
                 Ok(Some(line)) => line,
                 Ok(None) => break,
-                Err(fault) => return self.end(out, follower, &[], Err(fault)),
+                Err(fault) => return self.end(follower, &[], Err(fault)),
             };
-            if let Err(fault) = self.take(rt, out, follower, line) {
-                return self.end(out, follower, line, Err(fault));
+            if let Err(fault) = self.take(follower, line) {
+                return self.end(follower, line, Err(fault));
             }
         }
-        self.end_all(out, follower)
+        self.end_all(follower)
     }
 
     /// Writes the prompt. It goes to standard error, so that standard output has what the script prints.
     fn ask<E: Sink>(&self, err: &mut E) {
         if self.manner.asks {
-            let mut page = Page::new(self.alloc);
-            let (device, regions) = (self.session.device, self.session.table.regions());
-            let _ = write!(page, "device {device} regions {regions}> ");
+            let mut page = Page::new(self.rt.alloc());
+            page.text("device ");
+            page.number(self.session.device);
+            page.text(" regions ");
+            page.number(self.session.table.regions());
+            page.text("> ");
             say(err, page.as_slice());
         }
     }
 
     /// Does what a line asks for, and ends its answer.
-    fn take<R: Threads + Wait + Sync + AllocGlobal, O: Sink, E: Sink, G: Keeper>(
+    fn take<E: Sink, G: Keeper>(
         &mut self,
-        rt: &R,
-        out: &mut O,
         follower: &mut Follower<'_, E, G>,
         line: &[u8],
     ) -> Result<(), Fault> {
-        let word = if self.manner.asks {
-            Word::of(line)
-        } else {
-            None
-        };
-        let ending = match word {
-            Some(word) => self.obey(follower, word),
-            None => self.run_next(rt, out, follower, line),
+        let ending = match Word::of(line) {
+            Some(word) if self.manner.asks => self.obey(follower, word),
+            _ => self.run_next(follower, line),
         };
         if let Err(fault) = ending {
-            self.bear(out, follower, line, fault)?;
+            self.bear(follower, line, fault)?;
         }
-        self.answer(out)
+        self.answer()
     }
 
     /// Ends what a line prints, and lets it be seen.
-    fn answer<O: Sink>(&self, out: &mut O) -> Result<(), Fault> {
+    fn answer(&mut self) -> Result<(), Fault> {
         if self.manner.answers {
-            end_answer(out)?;
+            end_answer(self.out)?;
         }
         if self.manner.is_live() {
-            flush(out)?;
+            flush(self.out)?;
         }
         Ok(())
     }
 
-    /// Runs the next line.
-    fn run_next<R: Threads + Wait + Sync + AllocGlobal, O: Sink, E: Sink, G: Keeper>(
+    /// Runs the next line. A prompt keeps it, unless it was refused and changed nothing.
+    fn run_next<E: Sink, G: Keeper>(
         &mut self,
-        rt: &R,
-        out: &mut O,
         follower: &mut Follower<'_, E, G>,
         line: &[u8],
     ) -> Result<(), Fault> {
-        self.done = self.done.saturating_add(1);
-        let is_refused = if self.manner.asks {
-            self.run_kept(rt, out, follower, line)?
-        } else {
-            self.run(rt, out, follower, line)?
-        };
-        self.is_refused |= is_refused;
+        let (rt, setting, number) = (self.rt, self.setting, self.done.saturating_add(1));
+        self.done = number;
+        if self.manner.asks {
+            self.history.add(number, line)?;
+        }
+        let before = Mark::of(self.session);
+        let ending = run_shown(rt, setting, number, self.session, line, self.out, follower);
+        let has_changed = Mark::of(self.session) != before;
+        self.history
+            .settle(has_changed, matches!(ending, Ok(false)));
+        self.is_refused |= ending?;
         Ok(())
     }
 
-    /// Runs a line and keeps it. One that was refused and changed nothing is not kept.
-    fn run_kept<R: Threads + Wait + Sync + AllocGlobal, O: Sink, E: Sink, G: Keeper>(
-        &mut self,
-        rt: &R,
-        out: &mut O,
-        follower: &mut Follower<'_, E, G>,
-        line: &[u8],
-    ) -> Result<bool, Fault> {
-        self.history.add(self.done, line)?;
-        let before = Mark::of(&self.session);
-        let ending = self.run(rt, out, follower, line);
-        let has_changed = Mark::of(&self.session) != before;
-        self.history
-            .settle(has_changed, matches!(ending, Ok(false)));
-        ending
-    }
-
-    fn run<R: Threads + Wait + Sync + AllocGlobal, O: Sink, E: Sink, G: Keeper>(
-        &mut self,
-        rt: &R,
-        out: &mut O,
-        follower: &mut Follower<'_, E, G>,
-        line: &[u8],
-    ) -> Result<bool, Fault> {
-        run_shown(
-            rt,
-            self.setting,
-            self.done,
-            &mut self.session,
-            line,
-            out,
-            follower,
-        )
-    }
-
     /// Tells a fault behind which the script goes on; returns any other.
-    fn bear<O: Sink, E: Sink, G: Keeper>(
+    fn bear<E: Sink, G: Keeper>(
         &mut self,
-        out: &mut O,
         follower: &mut Follower<'_, E, G>,
         line: &[u8],
         fault: Fault,
@@ -212,12 +173,12 @@ impl Dialogue {
             let ran = RanLine {
                 number: self.done,
                 line,
-                session: &self.session,
+                session: self.session,
             };
             follower.give_reason(ran, kind);
         }
-        flush(out)?;
-        tell(self.alloc, follower, fault);
+        flush(self.out)?;
+        tell(self.rt.alloc(), follower, fault);
         Ok(())
     }
 
@@ -243,20 +204,29 @@ impl Dialogue {
     /// Goes back to what there was before the last line that changed something. Where there is no memory for that, the
     /// session stays, and nothing more is shown of it.
     fn undo<E: Sink, G: Keeper>(&mut self, follower: &mut Follower<'_, E, G>) -> Result<(), Fault> {
-        let mut page = Page::new(self.alloc);
-        match self.history.split() {
-            None => page.text("accrun: there is nothing to undo\n"),
-            Some((before, last)) => {
-                page.text("accrun: undone: ");
-                page.bytes(&last.text);
-                page.text("\n");
-                page.whole()?;
-                let count = before.len();
-                self.session = replayed(self.alloc, self.setting.config, before, follower)?;
-                self.history.leave(count);
-            }
-        }
+        let mut page = Page::new(self.rt.alloc());
+        self.take_back(follower, &mut page)?;
         say(follower.err, page.as_slice());
+        Ok(())
+    }
+
+    /// Undoes a line, and puts which one.
+    fn take_back<E: Sink, G: Keeper>(
+        &mut self,
+        follower: &mut Follower<'_, E, G>,
+        page: &mut Page,
+    ) -> Result<(), Fault> {
+        let Some((before, last)) = self.history.split() else {
+            page.text("accrun: there is nothing to undo\n");
+            return Ok(());
+        };
+        page.text("accrun: undone: ");
+        last.put(page);
+        page.whole()?;
+        let count = before.len();
+        let (alloc, config) = (self.rt.alloc(), self.setting.config);
+        replay(alloc, config, before, follower, self.session)?;
+        self.history.leave(count);
         Ok(())
     }
 
@@ -268,17 +238,20 @@ impl Dialogue {
     ) -> Result<(), Fault> {
         let script = self.history.script();
         if let Err(reason) = follower.pictures.save(name, script.whole()?) {
-            let mut page = Page::new(self.alloc);
-            let _ = writeln!(page, "accrun: cannot write {name}: {reason}");
+            let mut page = Page::new(self.rt.alloc());
+            page.text("accrun: cannot write ");
+            page.text(name);
+            page.text(": ");
+            page.text(reason);
+            page.text("\n");
             say(follower.err, page.as_slice());
         }
         Ok(())
     }
 
     /// Ends the script behind its last line.
-    fn end_all<O: Sink, E: Sink, G: Keeper>(
-        &self,
-        out: &mut O,
+    fn end_all<E: Sink, G: Keeper>(
+        &mut self,
         follower: &mut Follower<'_, E, G>,
     ) -> Result<Option<Status>, Stop> {
         if self.manner.asks {
@@ -294,13 +267,12 @@ impl Dialogue {
         } else {
             Ok(Status::Clean)
         };
-        self.end(out, follower, &[], ending)
+        self.end(follower, &[], ending)
     }
 
     /// Ends the script, at a line that is at fault or behind the last one.
-    fn end<O: Sink, E: Sink, G: Keeper>(
-        &self,
-        out: &mut O,
+    fn end<E: Sink, G: Keeper>(
+        &mut self,
         follower: &mut Follower<'_, E, G>,
         line: &[u8],
         ending: Result<Status, Fault>,
@@ -309,8 +281,8 @@ impl Dialogue {
             Err(Fault::Script { line, .. }) => line,
             _ => self.done,
         };
-        Watcher::<O>::end(follower, number, line, &self.session, ending);
-        let status = follower.ended(out, ending)?;
+        Watcher::<O>::end(follower, number, line, self.session, ending);
+        let status = follower.ended(self.out, ending)?;
         Ok((!self.has_fault).then_some(status))
     }
 }
@@ -335,20 +307,23 @@ fn flush<O: Sink>(out: &mut O) -> Result<(), Fault> {
     }
 }
 
-/// A new session behind these lines, of which nothing is shown again.
-fn replayed<E: Sink, G: Keeper>(
+/// Makes a session one behind these lines, of which nothing is shown again.
+fn replay<E: Sink, G: Keeper>(
     alloc: Global,
     config: Config,
     entries: &[Entry],
     follower: &mut Follower<'_, E, G>,
-) -> Result<Session, Fault> {
-    let mut session = Session::new(alloc, config)?;
+    session: &mut Session,
+) -> Result<(), Fault> {
+    let mut replayed = Session::new(alloc, config)?;
     follower.forget();
     follower.is_silent = true;
-    let ran = run_all_again(alloc, &mut session, entries, follower);
+    let ran = run_all_again(alloc, &mut replayed, entries, follower);
     follower.is_silent = false;
-    ran?;
-    Ok(session)
+    if ran.is_ok() {
+        *session = replayed;
+    }
+    ran
 }
 
 fn run_all_again<E: Sink, G: Keeper>(

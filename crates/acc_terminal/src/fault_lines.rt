@@ -3,6 +3,7 @@
 use acc_base::Fault;
 use acc_read::Page;
 use acc_script::{Sink, write_all};
+use acc_trials::put_texts;
 use arrayvec::ArrayString;
 use std::alloc::Global;
 use std::fmt::{self, Write};
@@ -16,20 +17,23 @@ pub fn tell_fault<E: Sink>(
     column: u64,
     fault: Fault,
 ) {
-    match (file, fault) {
-        (Some(name), Fault::Script { line, kind }) => {
-            let mut page = Page::new(alloc);
-            put_place(&mut page, name, line, column);
-            let _ = writeln!(page, ": error: {}", kind.name());
-            match page.whole() {
-                Ok(text) => {
-                    let _ = write_all(err, text);
-                }
-                // There is no memory for the file's name.
-                Err(_) => tell(err, fault),
-            }
+    if let (Some(name), Fault::Script { line, kind }) = (file, fault) {
+        let mut page = Page::new(alloc);
+        put_place(&mut page, name, line, column);
+        put_texts(&mut page, &[": error: ", kind.name(), "\n"]);
+        tell_placed(err, &page, fault);
+    } else {
+        tell(err, fault);
+    }
+}
+
+fn tell_placed<E: Sink>(err: &mut E, page: &Page, fault: Fault) {
+    match page.whole() {
+        Ok(text) => {
+            let _ = write_all(err, text);
         }
-        _ => tell(err, fault),
+        // There is no memory for the file's name.
+        Err(_) => tell(err, fault),
     }
 }
 

@@ -30,12 +30,13 @@ impl Mark {
         Mark {
             events: session.table.trace().len(),
             device: session.device,
-            free: session
-                .arrays
-                .next_array(1)
-                .map(|array| array.whole().start),
+            free: free_in(session),
         }
     }
+}
+
+fn free_in(session: &Session) -> Option<u64> {
+    Some(session.arrays.next_array(1)?.whole().start)
 }
 
 /// The lines that `undo` runs again and `save` keeps.
@@ -46,7 +47,8 @@ pub struct History {
 }
 
 impl Entry {
-    fn put(&self, page: &mut Page) {
+    /// Puts its text as a line.
+    pub fn put(&self, page: &mut Page) {
         page.bytes(&self.text);
         page.text("\n");
     }
@@ -79,19 +81,24 @@ impl History {
     /// Says of the line that was added last whether it changed something and whether it was done. One that did neither
     /// is taken out.
     pub fn settle(&mut self, has_changed: bool, is_done: bool) {
-        if let Some(mut entry) = self.entries.pop() {
+        if !has_changed && !is_done {
+            let _ = self.entries.pop();
+        } else if let Some(entry) = self.entries.last_mut() {
             entry.has_changed = has_changed;
-            if has_changed || is_done {
-                // There is room for what was there.
-                let _ = self.entries.push(entry);
-            }
         }
     }
 
     /// The lines before the last one that changed something, and that one; `None` where none did.
     pub fn split(&self) -> Option<(&[Entry], &Entry)> {
-        let place = self.entries.iter().rposition(|entry| entry.has_changed)?;
-        Some((self.entries.get(..place)?, self.entries.get(place)?))
+        let mut entries = self.entries.as_slice();
+        for _ in 0..self.entries.len() {
+            let (last, before) = entries.split_last()?;
+            if last.has_changed {
+                return Some((before, last));
+            }
+            entries = before;
+        }
+        None
     }
 
     /// Leaves the first lines, so many.

@@ -68,11 +68,10 @@ impl<'a, S: Source> LineReader<'a, S> {
     fn pass_held(&mut self) {
         self.is_cut = !self.has_line() && !self.is_ended;
         let rest = self.rest();
-        let behind = match rest.is_empty() {
-            true => rest,
-            false => next_line(rest).1,
+        self.from = match rest.is_empty() {
+            true => self.to,
+            false => self.to.saturating_sub(next_line(rest).1.len()),
         };
-        self.from = self.to.saturating_sub(behind.len());
     }
 
     fn rest(&self) -> &[u8] {
@@ -100,7 +99,7 @@ impl<'a, S: Source> LineReader<'a, S> {
         self.move_to_front();
         let mut piece = [0; ROOM];
         let room = ROOM.saturating_sub(self.to);
-        let count = read_into(self.source, &mut piece[..room])?;
+        let count = self.source.read(&mut piece[..room]).ok_or(Fault::Read)?;
         self.is_ended = count == 0;
         self.hold(&piece[..count.min(room)]);
         Ok(())
@@ -122,8 +121,4 @@ impl<'a, S: Source> LineReader<'a, S> {
             self.to = end;
         }
     }
-}
-
-fn read_into<S: Source>(source: &mut S, room: &mut [u8]) -> Result<usize, Fault> {
-    source.read(room).ok_or(Fault::Read)
 }

@@ -228,24 +228,38 @@ fn with_rules<'a>(option: Arg<'a>, name: &str) -> Result<Arg<'a>, AllocError> {
     if name == "expect" {
         return option.requires_if("-", "FILE");
     }
-    match INSTEAD.iter().find(|row| row.0 == name) {
-        Some((_, others)) => option
+    match others_of(name) {
+        Some(others) => option
             .conflicts_with_all(OF_RUNS)?
             .conflicts_with_all(others),
         None => Ok(option),
     }
 }
 
-fn with_rows<'a>(
-    alloc: Global,
-    command: Command<'a>,
-    rows: &[Row],
-) -> Result<Command<'a>, AllocError> {
-    let mut options = Vec::new(alloc);
-    for row in rows {
+/// What else an option does not go with that is done in place of a run; `None` for any other.
+fn others_of(name: &str) -> Option<&'static [&'static str]> {
+    for (instead, others) in INSTEAD {
+        if *instead == name {
+            return Some(others);
+        }
+    }
+    None
+}
+
+fn add_line_options(alloc: Global, options: &mut Vec<Arg<'_>>) -> Result<(), AllocError> {
+    for row in OF_LINES {
         options.push(with_rules(option(alloc, *row), row.0)?)?;
     }
-    command.args(options)
+    Ok(())
+}
+
+fn add_all_options(alloc: Global, options: &mut Vec<Arg<'_>>) -> Result<(), AllocError> {
+    options.push(file_argument(alloc))?;
+    add_line_options(alloc, options)?;
+    for row in OF_COMMANDS {
+        options.push(with_rules(option(alloc, *row), row.0)?)?;
+    }
+    Ok(())
 }
 
 fn file_argument<'a>(alloc: Global) -> Arg<'a> {
@@ -283,9 +297,7 @@ pub fn with_first_line<'a>(
         return Err(not_text(alloc)?);
     };
     let words = first_words(alloc, text)?;
-    let mut command = line_options(alloc)?;
-    let matches = parsed_by(alloc, &mut command, &words)?;
-    Ok(options.or(options_of(&matches, options.terminals)))
+    options.with_words(alloc, &words)
 }
 
 /// What is wrong with a first line that is not UTF-8.
@@ -326,12 +338,18 @@ impl<'a> Options<'a> {
 
     /// How the lines of the script are run. A prompt goes on behind faults, and its answers need no empty lines.
     pub fn manner(self) -> Manner {
-        let asks = self.terminals.input && self.file.is_none() && self.expect.is_none();
+        let asks = self.terminals.input & self.file.is_none() & self.expect.is_none();
         Manner {
             asks,
-            answers: self.line && !asks,
-            goes_on: self.keep_going || asks,
+            answers: self.line & !asks,
+            goes_on: self.keep_going | asks,
         }
+    }
+
+    fn with_words(self, alloc: Global, words: &[&str]) -> Result<Options<'a>, Error> {
+        let mut command = line_options(alloc)?;
+        let matches = parsed_by(alloc, &mut command, words)?;
+        Ok(self.or(options_of(&matches, self.terminals)))
     }
 
     fn or(self, line: Options<'_>) -> Options<'a> {
@@ -343,12 +361,12 @@ impl<'a> Options<'a> {
             full: self.full.or(line.full),
             threads: self.threads.or(line.threads),
             shown: Views {
-                echo: self.shown.echo || line.shown.echo,
-                json: self.shown.json || line.shown.json,
-                log: self.shown.log || line.shown.log,
-                check: self.shown.check || line.shown.check,
-                check_fails: self.shown.check_fails || line.shown.check_fails,
-                check_all: self.shown.check_all || line.shown.check_all,
+                echo: self.shown.echo | line.shown.echo,
+                json: self.shown.json | line.shown.json,
+                log: self.shown.log | line.shown.log,
+                check: self.shown.check | line.shown.check,
+                check_fails: self.shown.check_fails | line.shown.check_fails,
+                check_all: self.shown.check_all | line.shown.check_all,
                 ..self.shown
             },
             explain: self.explain.or(line.explain),
@@ -358,15 +376,18 @@ impl<'a> Options<'a> {
 }
 
 fn line_options<'a>(alloc: Global) -> Result<Command<'a>, AllocError> {
-    let command = Command::new(alloc, "options:")
+    let mut options = Vec::new(alloc);
+    add_line_options(alloc, &mut options)?;
+    Command::new(alloc, "options:")
         .override_usage("# options: [OPTIONS]")
-        .disable_help_flag(true);
-    with_rows(alloc, command, OF_LINES)
+        .disable_help_flag(true)
+        .args(options)
 }
 
 fn all_options<'a>(alloc: Global) -> Result<Command<'a>, AllocError> {
-    let command = bare(alloc).arg(file_argument(alloc))?;
-    with_rows(alloc, with_rows(alloc, command, OF_LINES)?, OF_COMMANDS)
+    let mut options = Vec::new(alloc);
+    add_all_options(alloc, &mut options)?;
+    bare(alloc).args(options)
 }
 
 fn parsed_by<'a, S: AsStr>(
@@ -375,39 +396,57 @@ fn parsed_by<'a, S: AsStr>(
     words: &'a [S],
 ) -> Result<ArgMatches<'a>, Error> {
     let matches = command.try_get_matches_from_mut(words)?;
-    match bad_value(alloc, &matches)? {
-        None => Ok(matches),
+    check(alloc, command, &matches)?;
+    Ok(matches)
+}
+
+fn check(alloc: Global, command: &mut Command<'_>, matches: &ArgMatches<'_>) -> Result<(), Error> {
+    match bad_value(alloc, matches)? {
+        None => Ok(()),
         Some(text) => Err(command.error(ErrorKind::ValueValidation, text.as_str())?),
     }
 }
 
 /// How often a file is standard input.
 fn input_count(matches: &ArgMatches<'_>, name: &str) -> usize {
-    let files = matches.get_strs(name).unwrap_or(&[]);
-    files.iter().filter(|file| **file == "-").count()
+    let mut count = 0usize;
+    for file in texts(matches, name) {
+        count = count.saturating_add(usize::from(*file == "-"));
+    }
+    count
+}
+
+fn is_stream(matches: &ArgMatches<'_>, name: &str) -> bool {
+    matches.get_str(name) == Some("-")
 }
 
 /// Whether standard output would get more than a picture or a page.
 fn is_shown_twice(matches: &ArgMatches<'_>) -> bool {
-    let shown = ["svg", "html"]
-        .iter()
-        .filter(|name| matches.get_str(name) == Some("-"))
-        .count();
-    shown > 1 || shown == 1 && matches.contains_id("expect")
+    let (picture, page) = (is_stream(matches, "svg"), is_stream(matches, "html"));
+    picture & page | (picture | page) & matches.contains_id("expect")
 }
 
 /// What goes with one file alone, where it is asked for and there are several.
 fn of_one_file(matches: &ArgMatches<'_>) -> Option<&'static str> {
-    if matches.get_strs("FILE").unwrap_or(&[]).len() < 2 {
+    if texts(matches, "FILE").len() < 2 {
         return None;
     }
-    OF_ONE_FILE.iter().copied().find(|name| matches.contains_id(name)
-        && !(*name == "emit" && matches.contains_id("out")))
+    for name in OF_ONE_FILE {
+        if matches.contains_id(name) && !(*name == "emit" && matches.contains_id("out")) {
+            return Some(name);
+        }
+    }
+    None
 }
 
 /// What means nothing, since the option is not given that it goes with, and that option.
 fn misplaced(matches: &ArgMatches<'_>) -> Option<(&'static str, &'static str)> {
-    BESIDE.iter().copied().find(|pair| is_given(matches, pair.0) && !matches.contains_id(pair.1))
+    for (name, other) in BESIDE {
+        if is_given(matches, name) && !matches.contains_id(other) {
+            return Some((name, other));
+        }
+    }
+    None
 }
 
 /// What is wrong with files that are named together, if anything is.
@@ -417,10 +456,7 @@ fn wrong_together(matches: &ArgMatches<'_>) -> Option<&'static str> {
     if inputs.saturating_add(input_count(matches, "expect")) > 1 {
         return Some("standard input can be one of FILE and OUTPUT alone");
     }
-    if ["svg-every", "junit"]
-        .iter()
-        .any(|name| matches.get_str(name) == Some("-"))
-    {
+    if is_stream(matches, "svg-every") || is_stream(matches, "junit") {
         return Some("'-' is none of what '--svg-every' and '--junit' take");
     }
     if is_shown_twice(matches) {
@@ -454,7 +490,7 @@ fn bad_value(alloc: Global, matches: &ArgMatches<'_>) -> Result<Option<String>, 
 
 fn size_told(alloc: Global, name: &str, text: &str) -> Result<Option<String>, AllocError> {
     let reason = match bytes_of(text) {
-        Some(bytes) if (16..=67_108_864).contains(&bytes) => return Ok(None),
+        Some(16..=67_108_864) => return Ok(None),
         Some(bytes) => format!(in alloc; "{bytes} is not in 16..=67108864")?,
         None => String::from_str(alloc, "wanted a number of bytes, as 4096, 64K or 1M")?,
     };
@@ -479,19 +515,18 @@ fn heeded(matches: &ArgMatches<'_>, terminals: Terminals) -> Terminals {
     }
 }
 
-fn is_explained(when: &str, terminals: Terminals) -> bool {
-    match when {
-        "always" => true,
-        "auto" => terminals.errors,
-        _ => false,
+fn is_explained(matches: &ArgMatches<'_>, terminals: Terminals) -> Option<bool> {
+    match matches.get_str("explain")? {
+        "always" => Some(true),
+        "auto" => Some(terminals.errors),
+        _ => Some(false),
     }
 }
 
-/// The one of the languages that has this name.
-fn language_named(name: &str) -> Language {
-    match name {
-        "fortran" => Language::Fortran,
-        _ => Language::C,
+fn language(matches: &ArgMatches<'_>) -> Option<Language> {
+    match matches.get_str("emit")? {
+        "fortran" => Some(Language::Fortran),
+        _ => Some(Language::C),
     }
 }
 
@@ -516,20 +551,18 @@ pub fn options_of<'a>(matches: &'a ArgMatches<'_>, terminals: Terminals) -> Opti
     let terminals = heeded(matches, terminals);
     Options {
         terminals,
-        files: matches.get_strs("FILE").unwrap_or(&[]),
+        files: texts(matches, "FILE"),
         file: None,
         expect: matches.get_str("expect"),
         shown: shown_by(matches),
-        explain: matches
-            .get_str("explain")
-            .map(|when| is_explained(when, terminals)),
+        explain: is_explained(matches, terminals),
         line: matches.get_flag("line"),
         keep_going: matches.get_flag("keep-going"),
-        emit: matches.get_str("emit").map(language_named),
+        emit: language(matches),
         out: matches.get_str("out"),
         until_refusal: matches.get_flag("until-refusal"),
-        rows: matches.get_strs("rows").unwrap_or(&[]),
-        tests: matches.get_strs("test").unwrap_or(&[]),
+        rows: texts(matches, "rows"),
+        tests: texts(matches, "test"),
         jobs: matches.get_one::<u64>("jobs").unwrap_or(DEFAULT_THREADS),
         bless: matches.get_flag("bless"),
         junit: matches.get_str("junit"),
@@ -538,22 +571,33 @@ pub fn options_of<'a>(matches: &'a ArgMatches<'_>, terminals: Terminals) -> Opti
         svg: matches.get_str("svg"),
         svg_every: matches.get_str("svg-every"),
         html: matches.get_str("html"),
-        host: given(matches, "host").and_then(bytes_of),
-        device: given(matches, "device").and_then(bytes_of),
-        devices: given(matches, "devices").and_then(bytes_of),
-        threads: given(matches, "threads").and_then(bytes_of),
+        host: given_number(matches, "host"),
+        device: given_number(matches, "device"),
+        devices: given_number(matches, "devices"),
+        threads: given_number(matches, "threads"),
         drill: matches.get_one::<u64>("drill"),
-        events: given(matches, "events").and_then(bytes_of),
-        full: given(matches, "trace").map(|what| what == "full"),
+        events: given_number(matches, "events"),
+        full: is_full(matches),
     }
 }
 
-/// The value of an option that is given, and no default.
+fn texts<'a>(matches: &'a ArgMatches<'_>, name: &str) -> &'a [&'a str] {
+    matches.get_strs(name).unwrap_or(&[])
+}
+
+/// The number of an option that is given, and no default.
+fn given_number(matches: &ArgMatches<'_>, name: &str) -> Option<u64> {
+    bytes_of(given(matches, name)?)
+}
+
+fn is_full(matches: &ArgMatches<'_>) -> Option<bool> {
+    Some(given(matches, "trace")? == "full")
+}
+
 fn given<'a>(matches: &ArgMatches<'a>, name: &str) -> Option<&'a str> {
-    if is_given(matches, name) {
-        matches.get_str(name)
-    } else {
-        None
+    match is_given(matches, name) {
+        true => matches.get_str(name),
+        false => None,
     }
 }
 
@@ -563,9 +607,11 @@ fn is_given(matches: &ArgMatches<'_>, name: &str) -> bool {
 
 /// The statements and the words of a prompt, as the long help has them.
 pub fn statements() -> &'static str {
-    let from = AFTER_HELP.find("Statements, ").unwrap_or(0);
-    let to = AFTER_HELP.find("\nExample:").unwrap_or(AFTER_HELP.len());
-    AFTER_HELP.get(from..to).unwrap_or("")
+    // Named once, since each naming of so long a text takes long to check.
+    let help = AFTER_HELP;
+    let from = help.find("Statements, ").unwrap_or(0);
+    let to = help.find("\nExample:").unwrap_or(help.len());
+    help.get(from..to).unwrap_or("")
 }
 
 const USAGE: &str = "accrun [OPTIONS] [FILE]...";

@@ -33,7 +33,7 @@ pub struct Manner {
 impl Manner {
     /// Whether each line is done when it is read.
     pub fn is_live(self) -> bool {
-        self.asks | self.answers
+        self.asks || self.answers
     }
 }
 

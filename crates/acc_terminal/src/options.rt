@@ -338,11 +338,11 @@ impl<'a> Options<'a> {
 
     /// How the lines of the script are run. A prompt goes on behind faults, and its answers need no empty lines.
     pub fn manner(self) -> Manner {
-        let asks = self.terminals.input & self.file.is_none() & self.expect.is_none();
+        let asks = self.terminals.input && self.file.is_none() && self.expect.is_none();
         Manner {
             asks,
-            answers: self.line & !asks,
-            goes_on: self.keep_going | asks,
+            answers: self.line && !asks,
+            goes_on: self.keep_going || asks,
         }
     }
 
@@ -423,7 +423,7 @@ fn is_stream(matches: &ArgMatches<'_>, name: &str) -> bool {
 /// Whether standard output would get more than a picture or a page.
 fn is_shown_twice(matches: &ArgMatches<'_>) -> bool {
     let (picture, page) = (is_stream(matches, "svg"), is_stream(matches, "html"));
-    picture & page | (picture | page) & matches.contains_id("expect")
+    picture && page || (picture || page) && matches.contains_id("expect")
 }
 
 /// What goes with one file alone, where it is asked for and there are several.
@@ -595,9 +595,10 @@ fn is_full(matches: &ArgMatches<'_>) -> Option<bool> {
 }
 
 fn given<'a>(matches: &ArgMatches<'a>, name: &str) -> Option<&'a str> {
-    match is_given(matches, name) {
-        true => matches.get_str(name),
-        false => None,
+    if is_given(matches, name) {
+        matches.get_str(name)
+    } else {
+        None
     }
 }
 

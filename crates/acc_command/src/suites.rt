@@ -209,16 +209,27 @@ impl<'a, R: Threads + Wait + Sync + AllocGlobal, D: FileStore + Sync> Tester<'a,
         lines: &'x [&'x [u8]],
         told: &mut Told,
     ) -> Result<Trial, Fault> {
-        let alloc = self.rt.alloc();
-        let mut sink = MemorySink::new(alloc);
+        let mut sink = MemorySink::new(self.rt.alloc());
         let place = self.play(options, script, &mut sink, told)?;
-        let printed = lines_of(alloc, sink.as_slice())?;
-        told.lines.resize(printed.len().saturating_add(1), place)?;
+        let printed = lines_of(self.rt.alloc(), sink.as_slice())?;
+        self.judge_lines(name, lines, &printed, place, &mut told.lines)
+    }
+
+    /// Judges what a script printed, behind which it ended at a place.
+    fn judge_lines<'x>(
+        &self,
+        name: &'x str,
+        lines: &'x [&'x [u8]],
+        printed: &'x [&'x [u8]],
+        end: u64,
+        places: &'x mut Vec<u64>,
+    ) -> Result<Trial, Fault> {
+        places.resize(printed.len().saturating_add(1), end)?;
         self.judge(Played {
             name,
             lines,
-            printed: &printed,
-            places: &told.lines,
+            printed,
+            places,
         })
     }
 

@@ -220,8 +220,18 @@ fn run_asked<'a, R: Threads + Wait + Sync + AllocGlobal, S: Source, O: Sink, E: 
     ends: Ends<'_, O, E, D>,
 ) -> Result<Status, Mishap<'a>> {
     if options.file.is_none() && (!options.views().explain || options.manner().is_live()) {
-        return use_script(rt, options, reader, ends);
+        use_script(rt, options, reader, ends)
+    } else {
+        run_whole(rt, options, reader, ends)
     }
+}
+
+fn run_whole<'a, R: Threads + Wait + Sync + AllocGlobal, S: Source, O: Sink, E: Sink, D: FileStore>(
+    rt: &R,
+    options: Options<'a>,
+    reader: &mut S,
+    ends: Ends<'_, O, E, D>,
+) -> Result<Status, Mishap<'a>> {
     let script = read_whole(rt.alloc(), options.file, reader, ends.files)?;
     run_text(rt, options, &script, ends)
 }

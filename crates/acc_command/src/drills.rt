@@ -2,12 +2,13 @@
 
 ghost use Rattle.std.specs.Prelude.{◌≡◌, ◌<◌, ◌≤◌};
 
+use crate::endings::put_numbers;
 use acc_base::{Config, Fault};
+use acc_follow::Page;
 use acc_runtime::{Blanks, Drilled, Limited, Open, Runtime, blanks, drill};
 use acc_script::{Sink, Status, write_all};
 use acc_terminal::Options;
-use arrayvec::ArrayString;
-use std::fmt::{self, Write};
+use std::alloc::Global;
 use std::marker::Brand;
 use std::sync::Wait;
 use std::sync::ledger::Ledger;
@@ -28,11 +29,7 @@ pub fn run_drill<R: Threads + Wait + Sync + AllocGlobal, O: Sink>(
     let (threads, rounds) = (options.thread_count(), rounds.clamp(1, 1_000));
     let blanks = blanks(&config);
     let left = drilled::<Brand, Brand, Brand, R>(rt, config, blanks, threads, rounds)?;
-    if write_left(out, left) {
-        Ok(Status::Clean)
-    } else {
-        Err(Fault::Write)
-    }
+    write_left(rt.alloc(), out, left)
 }
 
 fn drilled<
@@ -52,22 +49,18 @@ fn drilled<
     drill(rt, &runtime, &mut caller, threads, rounds, &Open)
 }
 
-fn write_left<O: Sink>(out: &mut O, left: Drilled) -> bool {
-    // The longest line has 118 bytes: that with four numbers of 20 digits.
-    let mut line = ArrayString::<120>::new();
-    let _ = tell_left(&mut line, left);
-    write_all(out, line.as_bytes())
-}
-
-fn tell_left<W: Write>(line: &mut W, left: Drilled) -> fmt::Result {
-    let Drilled {
-        allowance,
-        events,
-        structured,
-        dynamic,
-    } = left;
-    writeln!(
-        line,
-        "allowance {allowance} events {events} structured {structured} dynamic {dynamic}"
-    )
+fn write_left<O: Sink>(alloc: Global, out: &mut O, left: Drilled) -> Result<Status, Fault> {
+    let mut page = Page::new(alloc);
+    let numbers = [
+        ("allowance ", left.allowance),
+        (" events ", left.events),
+        (" structured ", left.structured),
+        (" dynamic ", left.dynamic),
+    ];
+    put_numbers(&mut page, &numbers, "\n");
+    if write_all(out, page.whole()?) {
+        Ok(Status::Clean)
+    } else {
+        Err(Fault::Write)
+    }
 }

@@ -3,14 +3,14 @@
 use crate::endings::{Mishap, tell_mishap};
 use crate::paths::scripts_of;
 use crate::programs::write_page;
-use crate::runs::{Ends, Told, find_column, limits, options_for, read_expected, read_file};
+use crate::runs::{Ends, Told, find_column, limits, options_for, read_file, read_whole};
 use acc_base::Fault;
 use acc_emit::{CHECK, EmitFault, Language, MAKEFILE, Origin, Reason, emit};
 use acc_follow::Page;
-use acc_script::{Sink, Source, Status, read_all, write_all};
+use acc_script::{Sink, Source, Status, write_all};
 use acc_terminal::Options;
-use acc_trials::{FileFault, FileStore};
-use std::alloc::Global;
+use acc_trials::{FileFault, FileStore, put_texts};
+use std::alloc::{AllocError, Global};
 use std::sync::Wait;
 use std::thread::Threads;
 
@@ -40,13 +40,10 @@ pub fn emit_script<
         ..
     } = ends;
     let output = match options.expect {
-        Some(name) => Some(read_expected(rt, name, reader, files)?),
+        Some(name) => Some(read_whole(rt.alloc(), Some(name), reader, files)?),
         None => None,
     };
-    let script = match options.file {
-        Some(name) => read_file(files, name)?,
-        None => read_all(rt.alloc(), reader)?,
-    };
+    let script = read_whole(rt.alloc(), options.file, reader, files)?;
     let maker = Maker { rt, files };
     let page = maker.program_of(options, &script, output.as_deref(), told)?;
     write_page(out, &page)
@@ -54,7 +51,10 @@ pub fn emit_script<
 
 /// The name of a file without its folders.
 fn file_name(path: &str) -> &str {
-    path.rsplit_once('/').map_or(path, |parts| parts.1)
+    match path.rsplit_once('/') {
+        Some((_, name)) => name,
+        None => path,
+    }
 }
 
 /// Writes scripts as programs into a folder, and beside them a Makefile and a runner. Why a script gives no program
@@ -89,7 +89,9 @@ pub fn emit_all<'a, R: Threads + Wait + Sync + AllocGlobal, O: Sink, E: Sink, D:
             status = Status::Refused;
         }
     }
-    if maker.write_kit(folder, err)? {
+    if maker.write_kit(folder, "Makefile", MAKEFILE, err)?
+        && maker.write_kit(folder, "check", CHECK, err)?
+    {
         Ok(status)
     } else {
         Err(Mishap::Told)
@@ -110,7 +112,7 @@ fn program_name(
     language: Language,
 ) -> Result<String, Fault> {
     let name = file_name(script);
-    let mut path = format!(in alloc; "{folder}/")?;
+    let mut path = path_into(alloc, folder)?;
     for letter in name.strip_suffix(".acc").unwrap_or(name).chars() {
         let is_plain = letter.is_ascii_alphanumeric() || matches!(letter, '.' | '_' | '-');
         path.push(if is_plain { letter } else { '_' })?;
@@ -119,13 +121,18 @@ fn program_name(
     Ok(path)
 }
 
+/// The path of a folder, with a slash behind it.
+fn path_into(alloc: Global, folder: &str) -> Result<String, AllocError> {
+    let mut path = String::from_str(alloc, folder)?;
+    path.push('/')?;
+    Ok(path)
+}
+
 /// Tells that another script has the program of this name.
 fn tell_taken<E: Sink>(alloc: Global, err: &mut E, script: &str, name: &str) {
     let mut page = Page::new(alloc);
-    page.text("accrun: cannot write ");
-    page.text(name);
-    page.text(" for ");
-    page.text(script);
+    let texts = ["accrun: cannot write ", name, " for ", script];
+    put_texts(&mut page, &texts);
     page.text(": another script has this name\n");
     let _ = write_all(err, page.as_slice());
 }
@@ -167,10 +174,8 @@ impl<R: Threads + Wait + Sync + AllocGlobal, D: FileStore> Maker<'_, R, D> {
         output: Option<&[u8]>,
         told: &mut Told,
     ) -> Result<Page, Mishap<'x>> {
-        let options = match options.file {
-            Some(name) => options_for(self.rt.alloc(), options, name, script, told)?,
-            None => options,
-        };
+        let reason = &mut told.reason;
+        let options = options_for(self.rt.alloc(), options, options.file, script, reason)?;
         let emitted = self.emitted(options, script, output);
         if let Err(Mishap::Fault(Fault::Script { .. })) = &emitted {
             find_column(self.rt, options, script, self.files, told);
@@ -233,8 +238,9 @@ impl<R: Threads + Wait + Sync + AllocGlobal, D: FileStore> Maker<'_, R, D> {
             Err(mishap) => tell_mishap(self.rt.alloc(), err, Some(script), told.column, mishap),
         }
         let _ = write_all(err, told.reason.as_slice());
-        if self.files.read(name).is_ok_and(|old| is_emitted(&old)) {
-            self.files.remove(name);
+        match self.files.read(name) {
+            Ok(old) if is_emitted(&old) => self.files.remove(name),
+            _ => {}
         }
         Ok(false)
     }
@@ -264,19 +270,23 @@ impl<R: Threads + Wait + Sync + AllocGlobal, D: FileStore> Maker<'_, R, D> {
         }
     }
 
-    /// Writes the Makefile and the runner into a folder; false where one cannot be written, which is told.
-    fn write_kit<E: Sink>(&self, folder: &str, err: &mut E) -> Result<bool, Fault> {
-        for (name, text) in [("Makefile", MAKEFILE), ("check", CHECK)] {
-            let path = format!(in self.rt.alloc(); "{folder}/{name}")?;
-            match self.write(path.as_str(), text.as_bytes()) {
-                Ok(()) => {}
-                Err(Mishap::Fault(fault)) => return Err(fault),
-                Err(mishap) => {
-                    tell_mishap(self.rt.alloc(), err, None, 0, mishap);
-                    return Ok(false);
-                }
+    /// Writes the Makefile, or the runner, into a folder; false where it cannot be written, which is told.
+    fn write_kit<E: Sink>(
+        &self,
+        folder: &str,
+        name: &str,
+        text: &str,
+        err: &mut E,
+    ) -> Result<bool, Fault> {
+        let mut path = path_into(self.rt.alloc(), folder)?;
+        path.push_str(name)?;
+        match self.write(path.as_str(), text.as_bytes()) {
+            Ok(()) => Ok(true),
+            Err(Mishap::Fault(fault)) => Err(fault),
+            Err(mishap) => {
+                tell_mishap(self.rt.alloc(), err, None, 0, mishap);
+                Ok(false)
             }
         }
-        Ok(true)
     }
 }

@@ -5,11 +5,9 @@ use acc_base::Fault;
 use acc_emit::{EmitFault, Reason};
 use acc_follow::{Difference, Page};
 use acc_script::{Sink, write_all};
-use acc_terminal::{put_place, tell_fault};
+use acc_terminal::{put_place, tell, tell_fault};
 use acc_trials::{Machine, put_texts};
-use arrayvec::ArrayString;
 use std::alloc::Global;
-use std::fmt::{self, Write};
 
 /// Why the program ends with status 2.
 #[derive(Clone, Copy)]
@@ -79,7 +77,9 @@ pub fn tell_mishap<E: Sink>(
 fn put_mishap(page: &mut Page, file: Option<&str>, mishap: Mishap<'_>) {
     match mishap {
         Mishap::Unread(name, reason) => {
-            let _ = writeln!(page, "accrun: cannot read {name}: {reason}");
+            page.text("accrun: cannot read ");
+            page.text(name);
+            put_texts(page, &[": ", reason, "\n"]);
         }
         Mishap::Unwritten(name, line, reason) => {
             page.text("accrun: cannot write ");
@@ -96,32 +96,43 @@ fn put_mishap(page: &mut Page, file: Option<&str>, mishap: Mishap<'_>) {
 }
 
 /// Writes which sizes there are, one of which is no multiple of 16. A failure of the sink changes nothing.
-pub fn tell_sizes<E: Sink>(err: &mut E, machine: Machine) {
-    // The longest line has 114 bytes: that with two numbers of 20 digits.
-    let mut line = ArrayString::<120>::new();
-    let _ = line.write_str("accrun: 2 BadConfig: ");
-    let _ = put_sizes(&mut line, machine);
-    let _ = write_all(err, line.as_bytes());
+pub fn tell_sizes<E: Sink>(alloc: Global, err: &mut E, machine: Machine) {
+    let mut page = Page::new(alloc);
+    page.text("accrun: 2 BadConfig: ");
+    put_sizes(&mut page, machine);
+    match page.whole() {
+        Ok(text) => {
+            let _ = write_all(err, text);
+        }
+        // There is no memory for the sizes.
+        Err(_) => tell(err, Fault::BadConfig),
+    }
 }
 
 /// Puts these sizes.
-pub fn put_sizes<W: Write>(line: &mut W, machine: Machine) -> fmt::Result {
-    let (host, device) = (machine.host, machine.device);
-    writeln!(
-        line,
-        "--host {host} --device {device}: a size has to be a multiple of 16"
-    )
+pub fn put_sizes(page: &mut Page, machine: Machine) {
+    let sizes = [("--host ", machine.host), (" --device ", machine.device)];
+    put_numbers(page, &sizes, ": a size has to be a multiple of 16\n");
+}
+
+/// Puts numbers, each behind a text, and an end.
+pub fn put_numbers(page: &mut Page, numbers: &[(&str, u64)], end: &str) {
+    for (text, number) in numbers {
+        page.text(text);
+        page.number(*number);
+    }
+    page.text(end);
 }
 
 fn put_unfit(page: &mut Page, file: Option<&str>, line: u64, reason: &str) {
-    if let Some(name) = file {
-        put_place(page, name, line, 0);
-        put_texts(page, &[": error: cannot be emitted: ", reason, "\n"]);
-    } else {
-        page.text("accrun: line ");
-        page.number(line);
-        put_texts(page, &[" cannot be emitted: ", reason, "\n"]);
+    match file {
+        Some(name) => {
+            put_place(page, name, line, 0);
+            page.text(": error:");
+        }
+        None => put_numbers(page, &[("accrun: line ", line)], ""),
     }
+    put_texts(page, &[" cannot be emitted: ", reason, "\n"]);
 }
 
 /// Writes where the output of a file's script, or of the program, differs from the expected one. A failure of the sink
@@ -134,15 +145,11 @@ pub fn tell_difference<E: Sink>(
 ) {
     let mut page = Page::new(alloc);
     page.text(file.unwrap_or("accrun"));
-    put_differing(&mut page, difference.line);
+    let end = " of the output is not as expected\n";
+    put_numbers(&mut page, &[(": line ", difference.line)], end);
     put_line(&mut page, "expected: ", difference.expected);
     put_line(&mut page, "found:    ", difference.found);
     let _ = write_all(err, page.as_slice());
-}
-
-/// Puts that a line of the output is not the expected one.
-fn put_differing(page: &mut Page, line: u64) {
-    let _ = writeln!(page, ": line {line} of the output is not as expected");
 }
 
 fn put_line(page: &mut Page, whose: &str, line: Option<&[u8]>) {

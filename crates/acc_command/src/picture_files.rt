@@ -6,10 +6,12 @@ use acc_terminal::Keeper;
 use acc_trials::{FileFault, FileStore};
 use std::alloc::Global;
 use std::cell::Cell;
-use std::fmt::Write;
+
+/// The least numbers of two to six digits.
+const ROUND: &[u64] = &[10, 100, 1_000, 10_000, 100_000];
 
 /// Keeps pictures as files of these names.
-#[derive(Clone, Copy)]
+#[derive(Drop)]
 pub struct PictureFiles<'a, D> {
     /// Where the files are.
     pub files: &'a D,
@@ -131,5 +133,10 @@ pub fn put_numbered(page: &mut Page, name: &str, number: u64) {
 fn put_stem(page: &mut Page, stem: &str, number: u64) {
     page.text(stem);
     page.text(".");
-    let _ = write!(page, "{number:06}");
+    for least in ROUND {
+        if number < *least {
+            page.text("0");
+        }
+    }
+    page.number(number);
 }

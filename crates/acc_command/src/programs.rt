@@ -2,7 +2,7 @@
 //! reach.
 
 use crate::endings::Mishap;
-use crate::runs::{Ends, find_column, limits, read_script};
+use crate::runs::{Ends, Told, find_column, limits, options_for, read_file};
 use acc_base::{Config, Fault};
 use acc_follow::{Page, RowCounts, count_rows};
 use acc_script::{Sink, Status, write_all};
@@ -42,12 +42,8 @@ pub fn write_rows<'a, R: Threads + Wait + Sync + AllocGlobal, O: Sink, E: Sink, 
 ) -> Result<Status, Mishap<'a>> {
     let mut rows = RowCounts::new(rt.alloc());
     for name in options.rows {
-        let (script, options) = read_script(rt.alloc(), options, name, ends.files, ends.told)?;
-        let config = limits(options)?;
-        rows = match count_rows(rt.alloc(), config, &script, rows) {
-            Ok(rows) => rows,
-            Err(fault) => return Err(within(rt, options, name, &script, fault, ends)),
-        };
+        let script = read_file(ends.files, name)?;
+        rows = count_file(rt, options, name, &script, rows, ends.files, ends.told)?;
     }
     let mut page = Page::new(rt.alloc());
     let is_complete = rows.put(&mut page);
@@ -55,17 +51,25 @@ pub fn write_rows<'a, R: Threads + Wait + Sync + AllocGlobal, O: Sink, E: Sink, 
     Ok(if is_complete { status } else { Status::Refused })
 }
 
-/// Why the script of a file ended the count: its fault, with its column.
-fn within<'a, R: Threads + Wait + Sync + AllocGlobal, O: Sink, E: Sink, D: FileStore>(
+/// Counts the rows that the script of a file reaches too.
+fn count_file<'a, R: Threads + Wait + Sync + AllocGlobal, D: FileStore>(
     rt: &R,
     options: Options<'a>,
     name: &'a str,
     script: &[u8],
-    fault: Fault,
-    ends: Ends<'_, O, E, D>,
-) -> Mishap<'a> {
-    find_column(rt, options, script, ends.files, ends.told);
-    Mishap::Within(name, ends.told.column, fault)
+    rows: RowCounts,
+    files: &D,
+    told: &mut Told,
+) -> Result<RowCounts, Mishap<'a>> {
+    let alloc = rt.alloc();
+    let options = options_for(alloc, options, Some(name), script, &mut told.reason)?;
+    match count_rows(alloc, limits(options)?, script, rows) {
+        Ok(rows) => Ok(rows),
+        Err(fault) => {
+            find_column(rt, options, script, files, told);
+            Err(Mishap::Within(name, told.column, fault))
+        }
+    }
 }
 
 /// Writes a page.

@@ -60,13 +60,16 @@ pub struct Ends<'a, O, E, D> {
     pub told: &'a mut Told,
 }
 
-/// Runs a script of this text. Where it is explained, warnings come first.
+/// Runs a script of this text, with the options of its first line if it is that of a file. Where it is explained,
+/// warnings come first.
 pub fn run_text<'a, R: Threads + Wait + Sync + AllocGlobal, O: Sink, E: Sink, D: FileStore>(
     rt: &R,
     options: Options<'a>,
     script: &[u8],
     ends: Ends<'_, O, E, D>,
 ) -> Result<Status, Mishap<'a>> {
+    let reason = &mut ends.told.reason;
+    let options = options_for(rt.alloc(), options, options.file, script, reason)?;
     if options.views().explain {
         let warnings = warnings_of(rt.alloc(), options.file, script)?;
         let _ = write_all(ends.err, warnings.as_slice());
@@ -151,29 +154,32 @@ fn mishap_of(options: Options<'_>, stop: Stop) -> Mishap<'_> {
     Mishap::Unwritten(name.unwrap_or(""), line, reason)
 }
 
-/// Options with those of the first line of a file's script. What is wrong with these is told as the reason.
+/// Options with those of the first line of a script, if a file has it. What is wrong with these is told as the reason.
 pub fn options_for<'a>(
     alloc: Global,
     options: Options<'a>,
-    name: &str,
+    file: Option<&str>,
     script: &[u8],
-    told: &mut Told,
+    reason: &mut Page,
 ) -> Result<Options<'a>, Mishap<'a>> {
+    let Some(name) = file else {
+        return Ok(options);
+    };
     match with_first_line(alloc, options, script) {
         Ok(options) if limits(options).is_ok() => return Ok(options),
         Ok(options) => {
-            put_texts(&mut told.reason, &[name, ":1: error: "]);
-            let _ = put_sizes(&mut told.reason, options.machine());
+            put_texts(reason, &[name, ":1: error: "]);
+            put_sizes(reason, options.machine());
         }
         Err(error) if error.kind() == ErrorKind::OutOfMemory => {
             return Err(Mishap::Fault(Fault::Memory));
         }
         Err(error) => {
             let text = error.to_string(alloc).map_err(Fault::from)?;
-            put_texts(&mut told.reason, &[name, ":1: ", text.as_str()]);
+            put_texts(reason, &[name, ":1: ", text.as_str()]);
         }
     }
-    told.reason.whole()?;
+    reason.whole()?;
     Err(Mishap::FirstLine)
 }
 
@@ -209,38 +215,20 @@ pub fn read_file<'a, D: FileStore>(files: &D, name: &'a str) -> Result<Vec<u8>, 
     }
 }
 
-/// Reads a file's script, and returns it with the options that it has beside those of the command line.
-///
-/// # Errors
-///
-/// Those of [`read_file`] and [`options_for`].
-pub fn read_script<'a, D: FileStore>(
-    alloc: Global,
-    options: Options<'a>,
-    name: &'a str,
-    files: &D,
-    told: &mut Told,
-) -> Result<(Vec<u8>, Options<'a>), Mishap<'a>> {
-    let script = read_file(files, name)?;
-    let options = options_for(alloc, options, name, &script, told)?;
-    Ok((script, options))
-}
-
-/// Reads the expected output from a file, or from standard input where that is named `-`.
+/// Reads a file, or standard input where that is named `-` or no file is.
 ///
 /// # Errors
 ///
 /// That it cannot be read.
-pub fn read_expected<'a, R: AllocGlobal, S: Source, D: FileStore>(
-    rt: &R,
-    name: &'a str,
+pub fn read_whole<'a, S: Source, D: FileStore>(
+    alloc: Global,
+    file: Option<&'a str>,
     reader: &mut S,
     files: &D,
 ) -> Result<Vec<u8>, Mishap<'a>> {
-    if name == "-" {
-        Ok(read_all(rt.alloc(), reader)?)
-    } else {
-        read_file(files, name)
+    match file {
+        Some(name) if name != "-" => read_file(files, name),
+        _ => Ok(read_all(alloc, reader)?),
     }
 }
 
@@ -267,13 +255,13 @@ fn keep<'a, D: FileStore>(
     let Some(name) = written else {
         return Ok(());
     };
-    if name != "-"
-        && others
-            .iter()
-            .flatten()
-            .any(|other| files.is_same(name, other))
-    {
-        return Err(Mishap::Unwritten(name, None, "it is named twice"));
+    for other in others {
+        if let Some(other) = *other
+            && name != "-"
+            && files.is_same(name, other)
+        {
+            return Err(Mishap::Unwritten(name, None, "it is named twice"));
+        }
     }
     Ok(())
 }

@@ -36,18 +36,24 @@ impl<'a, R: Threads + Wait + Sync + AllocGlobal, D: FileStore + Sync> Tester<'a,
     /// [`Fault::Write`] where the sink fails.
     pub fn run<O: Sink>(&self, out: &mut O) -> Result<Status, Mishap<'a>> {
         let names = scripts_of(self.rt.alloc(), self.options.tests, self.files)?;
-        self.keep_outputs(&names)?;
-        self.keep_scripts(&names)?;
+        self.run_names(&names, out)
+    }
+
+    fn run_names<O: Sink>(&self, names: &[String], out: &mut O) -> Result<Status, Mishap<'a>> {
+        self.keep_outputs(names)?;
+        self.keep_scripts(names)?;
         // An older report would tell of this run, if it ends early.
         self.write_junit(b"")?;
         let mut report = Report::new(self.rt.alloc(), names.len());
-        if let Err(fault) = self.run_all(&mut report, &names, out) {
-            if fault == Fault::Memory {
-                let _ = write_all(out, BAIL_OUT);
+        match self.run_all(&mut report, names, out) {
+            Ok(()) => self.end(&report),
+            Err(fault) => {
+                if fault == Fault::Memory {
+                    let _ = write_all(out, BAIL_OUT);
+                }
+                Err(Mishap::Fault(fault))
             }
-            return Err(Mishap::Fault(fault));
         }
-        self.end(&report)
     }
 
     /// Refuses a file of JUnit that is one of the scripts, or what one has to print.
@@ -72,11 +78,10 @@ impl<'a, R: Threads + Wait + Sync + AllocGlobal, D: FileStore + Sync> Tester<'a,
     /// Refuses a script without `.acc` beside one that has the same name with it: both have to print the same file.
     fn keep_outputs(&self, names: &[String]) -> Result<(), Mishap<'a>> {
         for path in self.options.tests {
-            if names
-                .iter()
-                .any(|name| name.as_str().strip_suffix(".acc") == Some(*path))
-            {
-                return Err(Mishap::Unread(*path, "another script has the same output"));
+            for name in names {
+                if name.as_str().strip_suffix(".acc") == Some(*path) {
+                    return Err(Mishap::Unread(*path, "another script has the same output"));
+                }
             }
         }
         Ok(())
@@ -146,26 +151,35 @@ impl<'a, R: Threads + Wait + Sync + AllocGlobal, D: FileStore + Sync> Tester<'a,
     fn try_file(&self, name: &str) -> Result<Trial, Fault> {
         match self.files.read(name) {
             Ok(script) => self.try_script(name, &script),
-            Err(fault) => self.unreadable(name, fault.reason()?),
+            Err(fault) => self.failed("cannot read ", name, fault.reason()?),
         }
     }
 
-    fn unreadable<'x>(&self, name: &'x str, reason: &'x str) -> Result<Trial, Fault> {
-        Trial::failed(self.rt.alloc(), &["cannot read ", name, ": ", reason])
+    fn failed(&self, what: &str, name: &str, reason: &str) -> Result<Trial, Fault> {
+        Trial::failed(self.rt.alloc(), &[what, name, ": ", reason])
     }
 
     fn try_script(&self, name: &str, script: &[u8]) -> Result<Trial, Fault> {
         let alloc = self.rt.alloc();
         let mut told = Told::new(alloc);
-        let options = match options_for(alloc, self.options, name, script, &mut told) {
-            Ok(options) => options,
-            Err(Mishap::Fault(fault)) => return Err(fault),
-            Err(_) => return Trial::noted(alloc, &[], told.reason),
-        };
-        let mut trial = self.try_with(options, name, script, &mut told)?;
-        // A script that is explained told them.
+        match options_for(alloc, self.options, Some(name), script, &mut told.reason) {
+            Ok(options) => self.try_warned(options, name, script, &mut told),
+            Err(Mishap::Fault(fault)) => Err(fault),
+            Err(_) => Trial::noted(alloc, &[], told.reason),
+        }
+    }
+
+    /// Runs a script with its options, and warns of what may not be meant; a script that is explained told that.
+    fn try_warned(
+        &self,
+        options: Options<'_>,
+        name: &str,
+        script: &[u8],
+        told: &mut Told,
+    ) -> Result<Trial, Fault> {
+        let mut trial = self.try_with(options, name, script, told)?;
         if !options.views().explain {
-            trial.warnings = warnings_of(alloc, Some(name), script)?;
+            trial.warnings = warnings_of(self.rt.alloc(), Some(name), script)?;
         }
         Ok(trial)
     }
@@ -195,16 +209,27 @@ impl<'a, R: Threads + Wait + Sync + AllocGlobal, D: FileStore + Sync> Tester<'a,
         lines: &'x [&'x [u8]],
         told: &mut Told,
     ) -> Result<Trial, Fault> {
-        let alloc = self.rt.alloc();
-        let mut sink = MemorySink::new(alloc);
+        let mut sink = MemorySink::new(self.rt.alloc());
         let place = self.play(options, script, &mut sink, told)?;
-        let printed = lines_of(alloc, sink.as_slice())?;
-        told.lines.resize(printed.len().saturating_add(1), place)?;
+        let printed = lines_of(self.rt.alloc(), sink.as_slice())?;
+        self.judge_lines(name, lines, &printed, place, &mut told.lines)
+    }
+
+    /// Judges what a script printed, behind which it ended at a place.
+    fn judge_lines<'x>(
+        &self,
+        name: &'x str,
+        lines: &'x [&'x [u8]],
+        printed: &'x [&'x [u8]],
+        end: u64,
+        places: &'x mut Vec<u64>,
+    ) -> Result<Trial, Fault> {
+        places.resize(printed.len().saturating_add(1), end)?;
         self.judge(Played {
             name,
             lines,
-            printed: &printed,
-            places: &told.lines,
+            printed,
+            places,
         })
     }
 
@@ -257,7 +282,7 @@ impl<'a, R: Threads + Wait + Sync + AllocGlobal, D: FileStore + Sync> Tester<'a,
         match self.files.read(name.as_str()) {
             Ok(wanted) => self.compare(played, name.as_str(), &wanted),
             Err(FileFault::Absent) => self.compare(played, name.as_str(), &[]),
-            Err(fault) => self.unreadable(name.as_str(), fault.reason()?),
+            Err(fault) => self.failed("cannot read ", name.as_str(), fault.reason()?),
         }
     }
 
@@ -269,13 +294,9 @@ impl<'a, R: Threads + Wait + Sync + AllocGlobal, D: FileStore + Sync> Tester<'a,
             return Ok(trial);
         }
         match played.unstorable(wanted) {
-            Some(reason) => self.unblessed(name, reason),
+            Some(reason) => self.failed("", name, reason),
             None => self.bless(name, found.as_slice()),
         }
-    }
-
-    fn unblessed<'x>(&self, name: &'x str, reason: &'x str) -> Result<Trial, Fault> {
-        Trial::failed(self.rt.alloc(), &[name, ": ", reason])
     }
 
     /// Writes what a script printed as what it has to print.
@@ -283,12 +304,8 @@ impl<'a, R: Threads + Wait + Sync + AllocGlobal, D: FileStore + Sync> Tester<'a,
         let alloc = self.rt.alloc();
         match self.files.write(name, text) {
             Ok(()) => Trial::noted(alloc, &[], Page::new(alloc)),
-            Err(fault) => self.unwritable(name, fault.reason()?),
+            Err(fault) => self.failed("cannot write ", name, fault.reason()?),
         }
-    }
-
-    fn unwritable<'x>(&self, name: &'x str, reason: &'x str) -> Result<Trial, Fault> {
-        Trial::failed(self.rt.alloc(), &["cannot write ", name, ": ", reason])
     }
 }
 

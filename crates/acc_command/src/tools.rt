@@ -5,13 +5,11 @@ use crate::emissions::{emit_all, emit_script};
 use crate::endings::{Mishap, tell_difference, tell_mishap, tell_sizes};
 use crate::picture_files::Shown;
 use crate::programs::{write_random, write_rows};
-use crate::runs::{
-    Ends, Told, keep_apart, limits, read_expected, read_script, run_text, use_script,
-};
+use crate::runs::{Ends, Told, keep_apart, limits, read_whole, run_text, use_script};
 use crate::suites::Tester;
 use acc_base::Fault;
 use acc_follow::first_difference;
-use acc_script::{MemorySink, Sink, Source, Status, ToWrite, read_all, write_all};
+use acc_script::{MemorySink, Sink, Source, Status, ToWrite, write_all};
 use acc_terminal::{Options, Terminals, options_of, parsed_words, tell};
 use acc_trials::FileStore;
 use clap::Error;
@@ -126,7 +124,9 @@ fn tell_end<R: AllocGlobal, E: Sink>(
 ) {
     let is_more = options.file.is_some() || !options.tests.is_empty() || options.views().explain;
     match mishap {
-        Mishap::Fault(Fault::BadConfig) if is_more => tell_sizes(err, options.machine()),
+        Mishap::Fault(Fault::BadConfig) if is_more => {
+            tell_sizes(rt.alloc(), err, options.machine());
+        }
         _ => tell_mishap(rt.alloc(), err, options.file, column, mishap),
     }
 }
@@ -219,25 +219,20 @@ fn run_asked<'a, R: Threads + Wait + Sync + AllocGlobal, S: Source, O: Sink, E: 
     reader: &mut S,
     ends: Ends<'_, O, E, D>,
 ) -> Result<Status, Mishap<'a>> {
-    match options.file {
-        Some(name) => run_file(rt, options, name, ends),
-        None if options.views().explain && !options.manner().is_live() => run_text(
-            rt,
-            options,
-            &read_all(rt.alloc(), reader)?,
-            ends,
-        ),
-        None => use_script(rt, options, reader, ends),
+    if options.file.is_none() && (!options.views().explain || options.manner().is_live()) {
+        use_script(rt, options, reader, ends)
+    } else {
+        run_whole(rt, options, reader, ends)
     }
 }
 
-fn run_file<'a, R: Threads + Wait + Sync + AllocGlobal, O: Sink, E: Sink, D: FileStore>(
+fn run_whole<'a, R: Threads + Wait + Sync + AllocGlobal, S: Source, O: Sink, E: Sink, D: FileStore>(
     rt: &R,
     options: Options<'a>,
-    name: &'a str,
+    reader: &mut S,
     ends: Ends<'_, O, E, D>,
 ) -> Result<Status, Mishap<'a>> {
-    let (script, options) = read_script(rt.alloc(), options, name, ends.files, ends.told)?;
+    let script = read_whole(rt.alloc(), options.file, reader, ends.files)?;
     run_text(rt, options, &script, ends)
 }
 
@@ -261,7 +256,7 @@ fn compared<
         told,
         ..
     } = ends;
-    let expected = read_expected(rt, name, reader, files)?;
+    let expected = read_whole(rt.alloc(), Some(name), reader, files)?;
     let mut found = MemorySink::new(rt.alloc());
     let within = Ends {
         out: &mut found,
@@ -300,23 +295,23 @@ fn tell_usage<R: AllocGlobal, O: Sink, E: Sink>(
     err: &mut E,
     error: &Error,
 ) -> u8 {
-    if error.kind() == ErrorKind::OutOfMemory {
-        tell(err, Fault::Memory);
-        return FAULTED;
+    match error.to_string(rt.alloc()) {
+        Ok(text) if error.kind() != ErrorKind::OutOfMemory => {
+            tell_text(out, err, text.as_bytes(), error.use_stderr())
+        }
+        _ => {
+            tell(err, Fault::Memory);
+            FAULTED
+        }
     }
-    let Ok(text) = error.to_string(rt.alloc()) else {
-        tell(err, Fault::Memory);
-        return FAULTED;
-    };
-    if error.use_stderr() {
-        let _ = write_all(err, text.as_bytes());
-        return FAULTED;
-    }
-    tell_answer(out, err, &text)
 }
 
-fn tell_answer<O: Sink, E: Sink>(out: &mut O, err: &mut E, text: &str) -> u8 {
-    if write_all(out, text.as_bytes()) && out.flush() {
+fn tell_text<O: Sink, E: Sink>(out: &mut O, err: &mut E, text: &[u8], is_fault: bool) -> u8 {
+    if is_fault {
+        let _ = write_all(err, text);
+        return FAULTED;
+    }
+    if write_all(out, text) && out.flush() {
         return CLEAN;
     }
     tell(err, Fault::Write);

@@ -27,10 +27,6 @@ fn main(rt: HostRuntime) -> ExitCode {
         is_closed: &is_closed,
         colours: is_coloured.then_some(rt.alloc()),
     });
-    let words = match read_words(rt) {
-        Ok(words) => words,
-        Err(fault) => return ExitCode::from(tell_words(&mut err, fault)),
-    };
     let stdout = Output {
         inner: rt.stdout(),
         is_closed: &is_closed,
@@ -39,16 +35,17 @@ fn main(rt: HostRuntime) -> ExitCode {
         tell(&mut err, Fault::Memory);
         return ExitCode::from(FAULTED);
     };
-    let mut reader = FromRead::new(rt.stdin());
-    let mut out = ToWrite::new(stdout);
-    let files = Disk { rt };
-    ExitCode::from(tool(
-        rt,
-        words,
-        terminals,
-        &mut reader,
-        &mut out,
-        &mut err,
-        &files,
-    ))
+    // The words come last: nothing but the program itself drops them.
+    ExitCode::from(match read_words(rt) {
+        Ok(words) => tool(
+            rt,
+            words,
+            terminals,
+            &mut FromRead::new(rt.stdin()),
+            &mut ToWrite::new(stdout),
+            &mut err,
+            &Disk { rt },
+        ),
+        Err(error) => tell_words(&mut err, error.kind()),
+    })
 }

@@ -105,11 +105,7 @@ impl<R: Files + AllocGlobal + Sync> FileStore for Disk<'_, R> {
     fn list(&self, folder: &str) -> Result<Option<Vec<String>>, FileFault> {
         // The slash follows a link to a folder.
         let path = path_in(self.rt.alloc(), folder, b"")?;
-        match self.rt.open_dir(path.as_str()) {
-            Ok(names) => Ok(Some(paths_in(self.rt, folder, &read_whole(self.rt.alloc(), names)?)?)),
-            Err(error) if error.kind() == ErrorKind::NotADirectory => Ok(None),
-            Err(error) => Err(FileFault::from(error)),
-        }
+        list_at(self.rt, folder, path.as_str())
     }
 
     fn make_folder(&self, name: &str) -> Result<(), FileFault> {
@@ -132,12 +128,33 @@ impl<R: Files + AllocGlobal + Sync> FileStore for Disk<'_, R> {
     }
 
     fn write(&self, name: &str, bytes: &[u8]) -> Result<(), FileFault> {
-        if fs::symlink_metadata(self.rt, name).is_ok_and(|old| !old.is_file()) {
-            return Ok(fs::write(self.rt, name, bytes)?);
-        }
-        let mut beside = String::from_str(self.rt.alloc(), name).map_err(io::Error::from)?;
-        Ok(write_beside(self.rt, name, &mut beside, bytes)?)
+        Ok(write_whole(self.rt, name, bytes)?)
     }
+}
+
+type Paths = Result<Option<Vec<String>>, FileFault>;
+
+fn list_at<R: Files + AllocGlobal>(rt: &R, folder: &str, path: &str) -> Paths {
+    match rt.open_dir(path) {
+        Ok(names) => list_open(rt, folder, names),
+        Err(error) if error.kind() == ErrorKind::NotADirectory => Ok(None),
+        Err(error) => Err(FileFault::from(error)),
+    }
+}
+
+fn list_open<R: Files + AllocGlobal, F: Read + Drop>(rt: &R, folder: &str, names: F) -> Paths {
+    let names = read_whole(rt.alloc(), names)?;
+    let mut paths = Vec::new(rt.alloc());
+    add_paths(rt, &mut paths, folder, &names)?;
+    Ok(Some(paths))
+}
+
+fn write_whole<R: Files + AllocGlobal>(rt: &R, name: &str, bytes: &[u8]) -> io::Result<()> {
+    if fs::symlink_metadata(rt, name).is_ok_and(|old| !old.is_file()) {
+        return fs::write(rt, name, bytes);
+    }
+    let mut beside = String::from_str(rt.alloc(), name)?;
+    write_beside(rt, name, &mut beside, bytes)
 }
 
 /// The numbers of a file that is there: those of its disk and of its node.
@@ -203,15 +220,19 @@ fn replace<R: Files>(
     fs::rename(rt, beside, name)
 }
 
-/// The paths of names in a folder, each with a zero behind it.
-fn paths_in<R: Files + AllocGlobal>(rt: &R, folder: &str, names: &[u8]) -> io::Result<Vec<String>> {
-    let mut paths = Vec::new(rt.alloc());
+/// Adds the paths of names in a folder, each with a zero behind it.
+fn add_paths<R: Files + AllocGlobal>(
+    rt: &R,
+    paths: &mut Vec<String>,
+    folder: &str,
+    names: &[u8],
+) -> io::Result<()> {
     for name in names.split(|byte| *byte == 0) {
         if !name.is_empty() && !name.starts_with(b".") {
-            add_path(rt, &mut paths, path_in(rt.alloc(), folder, name)?)?;
+            add_path(rt, paths, path_in(rt.alloc(), folder, name)?)?;
         }
     }
-    Ok(paths)
+    Ok(())
 }
 
 /// Adds a path, unless it is that of a link that leads to no file.
@@ -223,13 +244,12 @@ fn add_path<R: Files>(rt: &R, paths: &mut Vec<String>, path: String) -> io::Resu
 }
 
 fn path_in(alloc: Global, folder: &str, name: &[u8]) -> io::Result<String> {
-    let slash = if folder.is_empty() || folder.ends_with('/') {
-        ""
-    } else {
-        "/"
-    };
-    let name = String::from_utf8_lossy(alloc, name)?;
-    Ok(format!(in alloc; "{folder}{slash}{name}")?)
+    let mut path = String::from_str(alloc, folder)?;
+    if !folder.is_empty() && !folder.ends_with('/') {
+        path.push_str("/")?;
+    }
+    path.push_str(String::from_utf8_lossy(alloc, name)?.as_str())?;
+    Ok(path)
 }
 
 /// Whether a path is that of a link that leads to no file.

@@ -65,11 +65,10 @@ impl Machine {
 pub fn bytes_of(text: &str) -> Option<u64> {
     let (digits, unit) = unit_of(text);
     // A sign is no digit.
-    digits
-        .as_bytes()
-        .first()
-        .filter(|first| first.is_ascii_digit())?;
-    Some(digits.parse::<u64>().ok()?.saturating_mul(unit))
+    match digits.as_bytes().first() {
+        Some(b'0'..=b'9') => Some(digits.parse::<u64>().ok()?.saturating_mul(unit)),
+        _ => None,
+    }
 }
 
 fn unit_of(text: &str) -> (&str, u64) {

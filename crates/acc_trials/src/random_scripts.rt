@@ -28,7 +28,7 @@ pub fn random_script(alloc: Global, config: Config, seed: u64, lines: u64) -> Re
     Ok(script)
 }
 
-/// Puts the script. Its session is boxed, since a function that owns an unboxed one takes long to check.
+/// Puts the script, over a session that a draft borrows, since a function that owns more takes long to check.
 fn put_script(
     alloc: Global,
     script: &mut Page,
@@ -36,16 +36,13 @@ fn put_script(
     seed: u64,
     lines: u64,
 ) -> Result<(), Fault> {
+    let mut session = Session::new(alloc, config)?;
     let mut draft = ScriptDraft {
         script,
         statements: Statements::new(alloc, seed, config.devices()),
-        session: boxed_session(alloc, config)?,
+        session: &mut session,
     };
     draft.put_all(lines)
-}
-
-fn boxed_session(alloc: Global, config: Config) -> Result<Box<Session>, Fault> {
-    Ok(Box::new(alloc, Session::new(alloc, config)?)?)
 }
 
 /// A script so far, and the session in which it ran.
@@ -53,7 +50,7 @@ fn boxed_session(alloc: Global, config: Config) -> Result<Box<Session>, Fault> {
 struct ScriptDraft<'a> {
     script: &'a mut Page,
     statements: Statements,
-    session: Box<Session>,
+    session: &'a mut Session,
 }
 
 impl ScriptDraft<'_> {
@@ -108,7 +105,7 @@ impl ScriptDraft<'_> {
     /// Runs the statement that was written last, and adds it to the script, if it is neither at fault nor refused.
     fn keep(&mut self) -> Result<bool, Fault> {
         let line = self.statements.page.whole()?;
-        let is_right = runs(&mut self.session, line)?;
+        let is_right = runs(self.session, line)?;
         if is_right {
             self.script.bytes(line);
             self.script.text("\n");

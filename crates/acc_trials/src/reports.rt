@@ -1,11 +1,10 @@
 //! What is told of tests: lines of TAP 14, and JUnit.
 
 use crate::notes::lines_of;
-use crate::trials::{Trial, put_texts};
+use crate::trials::{Trial, put_numbers, put_texts};
 use acc_base::Fault;
 use acc_read::Page;
 use std::alloc::Global;
-use std::fmt::Write;
 use std::slice;
 
 /// What ends a run of tests for lack of memory, in place of the lines that are left.
@@ -28,7 +27,7 @@ impl Report {
     /// The report of so many tests, before the first one.
     pub fn new(alloc: Global, count: usize) -> Report {
         let mut tap = Page::new(alloc);
-        let _ = writeln!(tap, "TAP version 14\n1..{count}");
+        put_numbers(&mut tap, &[("TAP version 14\n1..", count as u64)], "\n");
         Report {
             all: 0,
             failed: 0,
@@ -59,24 +58,27 @@ impl Report {
         let note = trial.note.whole()?;
         let wrong = lines_of(alloc, trial.wrong.whole()?)?;
         let warnings = lines_of(alloc, trial.warnings.as_slice())?;
-        self.all = self.all.saturating_add(1);
         self.failed = self.failed.saturating_add(u64::from(trial.is_failed()));
-        self.noted = self.noted.saturating_add(u64::from(!note.is_empty()));
-        put_trial(&mut self.tap, self.all, name, note, &wrong);
-        for warning in &warnings {
-            put_shown(&mut self.tap, "# ", warning);
-        }
-        put_element(&mut self.elements, name, note, &wrong);
+        self.add_lines(name, note, &wrong, &warnings);
         Ok(())
+    }
+
+    fn add_lines(&mut self, name: &str, note: &[u8], wrong: &[&[u8]], warnings: &[&[u8]]) {
+        self.all = self.all.saturating_add(1);
+        self.noted = self.noted.saturating_add(u64::from(!note.is_empty()));
+        put_trial(&mut self.tap, self.all, name, note, wrong);
+        put_all_shown(&mut self.tap, "# ", warnings);
+        put_element(&mut self.elements, name, note, wrong);
     }
 
     /// Puts how many tests there were.
     pub fn put_counts(&mut self) {
-        let (all, failed, noted) = (self.all, self.failed, self.noted);
-        let _ = writeln!(
-            self.tap,
-            "# {all} tests: {failed} failed, {noted} skipped or expected to fail"
-        );
+        let numbers = [
+            ("# ", self.all),
+            (" tests: ", self.failed),
+            (" failed, ", self.noted),
+        ];
+        put_numbers(&mut self.tap, &numbers, " skipped or expected to fail\n");
     }
 
     /// All of it as JUnit.
@@ -85,14 +87,17 @@ impl Report {
     ///
     /// [`Fault::Memory`].
     pub fn junit(&self, alloc: Global) -> Result<Page, Fault> {
+        let elements = self.elements.whole()?;
         let mut page = Page::new(alloc);
-        let (all, failed, noted) = (self.all, self.failed, self.noted);
         page.text("<?xml version=\"1.0\" encoding=\"UTF-8\"?>\n<testsuite name=\"accrun\"");
-        let _ = writeln!(
-            page,
-            " tests=\"{all}\" failures=\"{failed}\" skipped=\"{noted}\">"
-        );
-        page.bytes(self.elements.whole()?);
+        let (all, failed, skipped) = (" tests=\"", "\" failures=\"", "\" skipped=\"");
+        let numbers = [
+            (all, self.all),
+            (failed, self.failed),
+            (skipped, self.noted),
+        ];
+        put_numbers(&mut page, &numbers, "\">\n");
+        page.bytes(elements);
         page.text("</testsuite>\n");
         Ok(page)
     }
@@ -105,17 +110,22 @@ impl Report {
 
 /// Puts what came of the test of a number: its note, and the lines that say what is wrong.
 fn put_trial(page: &mut Page, number: u64, name: &str, note: &[u8], wrong: &[&[u8]]) {
-    let result = if wrong.is_empty() { "ok" } else { "not ok" };
+    let result = if wrong.is_empty() { "ok " } else { "not ok " };
     let mark = if note.is_empty() { "" } else { " # " };
-    let _ = write!(page, "{result} {number} - ");
+    put_numbers(page, &[(result, number)], " - ");
     put_name(page, name);
     put_shown(page, mark, note.trim_ascii_end());
     if !wrong.is_empty() {
         page.text("  ---\n  message: |\n");
-        for line in wrong {
-            put_shown(page, "    ", line);
-        }
+        put_all_shown(page, "    ", wrong);
         page.text("  ...\n");
+    }
+}
+
+/// Puts lines as [`put_shown`] does.
+fn put_all_shown(page: &mut Page, mark: &str, lines: &[&[u8]]) {
+    for line in lines {
+        put_shown(page, mark, line);
     }
 }
 
@@ -123,11 +133,8 @@ fn put_trial(page: &mut Page, number: u64, name: &str, note: &[u8], wrong: &[&[u
 fn put_shown(page: &mut Page, mark: &str, line: &[u8]) {
     page.text(mark);
     for byte in line {
-        if byte.is_ascii_control() && *byte != b'\t' {
-            page.text("?");
-        } else {
-            page.bytes(slice::from_ref(byte));
-        }
+        let is_hidden = byte.is_ascii_control() && *byte != b'\t';
+        page.bytes(slice::from_ref(if is_hidden { &b'?' } else { byte }));
     }
     page.text("\n");
 }
@@ -135,17 +142,17 @@ fn put_shown(page: &mut Page, mark: &str, line: &[u8]) {
 /// Puts a name as TAP has it; a question mark for a control character.
 fn put_name(page: &mut Page, name: &str) {
     for letter in name.chars() {
-        match letter {
-            '#' => page.text("\\#"),
-            '\\' => page.text("\\\\"),
-            _ if letter.is_control() => page.text("?"),
-            _ => put_letter(page, letter),
-        }
+        put_name_letter(page, letter);
     }
 }
 
-fn put_letter(page: &mut Page, letter: char) {
-    let _ = page.write_char(letter);
+fn put_name_letter(page: &mut Page, letter: char) {
+    match letter {
+        '#' => page.text("\\#"),
+        '\\' => page.text("\\\\"),
+        _ if letter.is_control() => page.text("?"),
+        _ => page.text(letter.encode_utf8(&mut [0; 4])),
+    }
 }
 
 fn put_element(page: &mut Page, name: &str, note: &[u8], wrong: &[&[u8]]) {
@@ -196,6 +203,6 @@ fn put_escaped_letter(page: &mut Page, letter: char) {
         '\t' => page.text("\t"),
         '\u{fffe}' | '\u{ffff}' => page.text("?"),
         _ if letter.is_control() => page.text("?"),
-        _ => put_letter(page, letter),
+        _ => page.text(letter.encode_utf8(&mut [0; 4])),
     }
 }

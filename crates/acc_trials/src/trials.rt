@@ -4,7 +4,6 @@ use crate::notes::{line_at, lines_of, note_behind};
 use acc_base::Fault;
 use acc_read::Page;
 use std::alloc::{AllocError, Global};
-use std::fmt::Write;
 
 /// What stands in front of a line that has to be printed, behind the statement that prints it.
 const MARK: &[u8] = b"#>";
@@ -69,7 +68,8 @@ impl Trial {
     /// [`Fault::Memory`].
     pub fn failed_at(alloc: Global, name: &str, line: u64, texts: &[&str]) -> Result<Trial, Fault> {
         let mut wrong = Page::new(alloc);
-        let _ = write!(wrong, "{name}:{line}: ");
+        wrong.text(name);
+        put_numbers(&mut wrong, &[(":", line)], ": ");
         put_texts(&mut wrong, texts);
         wrong.text("\n");
         Trial::noted(alloc, &[], wrong)
@@ -97,11 +97,15 @@ impl Played<'_> {
 
     /// Why what it printed cannot be stored in the file that has this text; `None` where it can.
     pub fn unstorable(self, text: &[u8]) -> Option<&'static str> {
-        if text.windows(2).any(|pair| pair == b"\r\n".as_slice()) {
-            return Some("its lines end in CR LF, which '--bless' does not keep");
+        for pair in text.windows(2) {
+            if pair == b"\r\n".as_slice() {
+                return Some("its lines end in CR LF, which '--bless' does not keep");
+            }
         }
-        if is_marked(self) && self.printed.iter().any(|line| line.len() > MARKED_MAX) {
-            return Some("a line of the output is too long for '#>'; store it in a file .out");
+        for line in self.printed {
+            if line.len() > MARKED_MAX && is_marked(self) {
+                return Some("a line of the output is too long for '#>'; store it in a file .out");
+            }
         }
         None
     }
@@ -145,7 +149,9 @@ pub fn expectation(alloc: Global, played: Played<'_>) -> Result<String, AllocErr
 /// That there is no memory for it.
 pub fn output_name(alloc: Global, script: &str) -> Result<String, AllocError> {
     let stem = script.strip_suffix(".acc").unwrap_or(script);
-    format!(in alloc; "{stem}.out")
+    let mut name = String::from_str(alloc, stem)?;
+    name.push_str(".out")?;
+    Ok(name)
 }
 
 /// What that file has to say of what was printed: all of it, or each line behind the statement that printed it.
@@ -182,6 +188,15 @@ pub fn put_texts(page: &mut Page, texts: &[&str]) {
     for text in texts {
         page.text(text);
     }
+}
+
+/// Puts numbers, each behind a text, and what stands behind the last one.
+pub(crate) fn put_numbers(page: &mut Page, numbers: &[(&str, u64)], end: &str) {
+    for (text, number) in numbers {
+        page.text(text);
+        page.number(*number);
+    }
+    page.text(end);
 }
 
 /// Puts lines, each behind a mark.
@@ -285,11 +300,10 @@ fn put_difference(
 
 /// Puts the line of the script and the line of its output, and whose lines the piece behind has.
 fn put_heading(page: &mut Page, script: &str, name: &str, place: u64, number: usize) {
-    let _ = writeln!(
-        page,
-        "{script}:{place}: line {number} of the output is not as expected"
-    );
-    let _ = writeln!(page, "--- {name}\n+++ {name}");
+    let numbers = [(":", place), (": line ", number as u64)];
+    page.text(script);
+    put_numbers(page, &numbers, " of the output is not as expected\n");
+    put_texts(page, &["--- ", name, "\n+++ ", name, "\n"]);
 }
 
 /// The number of the line that printed a line of the output, or had to print one that is missing.
@@ -343,5 +357,5 @@ fn put_diff(page: &mut Page, front: usize, wanted: &[&[u8]], found: &[&[u8]], st
 /// Puts where a piece begins, behind so many lines, and how many it has.
 fn put_piece(page: &mut Page, sign: &str, behind: usize, count: usize) {
     let first = behind.saturating_add(count.min(1));
-    let _ = write!(page, "{sign}{first},{count}");
+    put_numbers(page, &[(sign, first as u64), (",", count as u64)], "");
 }

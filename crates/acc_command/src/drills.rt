@@ -2,12 +2,12 @@
 
 ghost use Rattle.std.specs.Prelude.{◌≡◌, ◌<◌, ◌≤◌};
 
-use crate::endings::put_numbers;
 use acc_base::{Config, Fault};
 use acc_follow::Page;
 use acc_runtime::{Blanks, Drilled, Limited, Open, Runtime, blanks, drill};
 use acc_script::{Sink, Status, write_all};
 use acc_terminal::Options;
+use acc_trials::put_numbers;
 use std::alloc::Global;
 use std::marker::Brand;
 use std::sync::Wait;

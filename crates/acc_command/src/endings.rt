@@ -6,7 +6,7 @@ use acc_emit::{EmitFault, Reason};
 use acc_follow::{Difference, Page};
 use acc_script::{Sink, write_all};
 use acc_terminal::{put_place, tell, tell_fault};
-use acc_trials::{Machine, put_texts};
+use acc_trials::{Machine, put_numbers, put_texts};
 use std::alloc::Global;
 
 /// Why the program ends with status 2.
@@ -113,15 +113,6 @@ pub fn tell_sizes<E: Sink>(alloc: Global, err: &mut E, machine: Machine) {
 pub fn put_sizes(page: &mut Page, machine: Machine) {
     let sizes = [("--host ", machine.host), (" --device ", machine.device)];
     put_numbers(page, &sizes, ": a size has to be a multiple of 16\n");
-}
-
-/// Puts numbers, each behind a text, and an end.
-pub fn put_numbers(page: &mut Page, numbers: &[(&str, u64)], end: &str) {
-    for (text, number) in numbers {
-        page.text(text);
-        page.number(*number);
-    }
-    page.text(end);
 }
 
 fn put_unfit(page: &mut Page, file: Option<&str>, line: u64, reason: &str) {

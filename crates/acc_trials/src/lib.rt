@@ -17,4 +17,6 @@ pub use machines::{Machine, bytes_of};
 pub use notes::{first_words, lines_of, options_in};
 pub use random_scripts::random_script;
 pub use reports::{BAIL_OUT, Report};
-pub use trials::{Played, Trial, blessed, compared, expectation, output_name, put_texts};
+pub use trials::{
+    Played, Trial, blessed, compared, expectation, output_name, put_numbers, put_texts,
+};

@@ -191,7 +191,7 @@ pub fn put_texts(page: &mut Page, texts: &[&str]) {
 }
 
 /// Puts numbers, each behind a text, and what stands behind the last one.
-pub(crate) fn put_numbers(page: &mut Page, numbers: &[(&str, u64)], end: &str) {
+pub fn put_numbers(page: &mut Page, numbers: &[(&str, u64)], end: &str) {
     for (text, number) in numbers {
         page.text(text);
         page.number(*number);

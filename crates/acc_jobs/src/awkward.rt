@@ -107,10 +107,12 @@ fn last_refused(desk: &mut Desk) {
 fn nearly_fit(desk: &mut Desk) -> Result<Vec<Item<EnterClause>>, AllocError> {
     let first = desk.below(19_000);
     let stride = desk.below(31).wrapping_add(1);
-    let mut items = ARRAYS.items(desk.alloc, EnterClause::Copyin, first, stride, 64)?;
+    let mut made = ARRAYS.items(desk.alloc, EnterClause::Copyin, first, stride, 64);
     let at = desk.below(MAPPED.count).wrapping_mul(64).wrapping_add(40);
-    if let Some(last) = items.last_mut() {
+    if let Ok(items) = &mut made
+        && let Some(last) = items.last_mut()
+    {
         *last = item(EnterClause::Copyin, section(at, 16));
     }
-    Ok(items)
+    made
 }

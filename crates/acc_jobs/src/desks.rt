@@ -248,20 +248,15 @@ impl Desk {
         let mut from = 0u64;
         let mut count = 0u64;
         for _ in 0..1_000_000u64 {
-            let Some(next) = self.note_range(from) else {
+            // That of least start at or above an address.
+            let Some(range) = self.table.mapped(self.device, from) else {
                 break;
             };
-            from = next;
+            self.tally.note_mapped(range);
+            from = range.start.wrapping_add(1);
             count = count.wrapping_add(1);
         }
         count
-    }
-
-    /// Notes the range of least start at or above an address, and returns the address behind its start.
-    fn note_range(&mut self, from: u64) -> Option<u64> {
-        let range = self.table.mapped(self.device, from)?;
-        self.tally.note_mapped(range);
-        Some(range.start.wrapping_add(1))
     }
 
     /// Notes the last events and what is left on each device, and returns the digest of all that was noted.
@@ -271,15 +266,10 @@ impl Desk {
         let mut left = self.table.regions();
         for device in 0..self.table.config().devices() {
             self.device = device;
-            left = left.wrapping_add(self.left_on());
+            let used = self.table.used(device);
+            left = left.wrapping_add(used).wrapping_add(self.note_ranges());
         }
         self.tally.left = self.tally.left.wrapping_add(left);
         self.tally
-    }
-
-    /// The sum of the bytes in use on the device and of the number of its mapped ranges, which are noted.
-    fn left_on(&mut self) -> u64 {
-        let used = self.table.used(self.device);
-        used.wrapping_add(self.note_ranges())
     }
 }

@@ -21,32 +21,6 @@ const ARRAYS: Row = Row {
     count: 64,
 };
 
-/// What a thread does with one of its arrays.
-#[derive(Clone, Copy)]
-enum Act {
-    Write,
-    Map,
-    Work,
-    Update(UpdateClause),
-    Unmap,
-    Read,
-}
-
-/// Each kind of call on an array. Between them the host writes other bytes, so that host and device differ.
-const STEP: [Act; 11] = [
-    Act::Write,
-    Act::Map,
-    Act::Work,
-    Act::Write,
-    Act::Update(UpdateClause::ToSelf),
-    Act::Read,
-    Act::Write,
-    Act::Update(UpdateClause::ToDevice),
-    Act::Write,
-    Act::Unmap,
-    Act::Read,
-];
-
 /// What a thread has of its own.
 #[derive(Drop)]
 pub struct Worker<Regions: Ledger, Tickets: Ledger, Events: Ledger> {
@@ -104,7 +78,7 @@ impl<Regions: Limited, Tickets: Ledger, Events: Ledger, R: Wait + AllocGlobal> H
     /// first fault.
     pub fn work(&mut self, steps: u64) -> Result<(), Fault> {
         for number in 0..ARRAYS.count {
-            self.act(Act::Write, number)?;
+            self.write(number)?;
         }
         self.map(0, 32)?;
         for _ in 0..steps {
@@ -114,24 +88,25 @@ impl<Regions: Limited, Tickets: Ledger, Events: Ledger, R: Wait + AllocGlobal> H
         self.read(self.worker.arrays.all())
     }
 
-    /// Makes each kind of call on one of its arrays.
+    /// Makes each kind of call on one of its arrays. Between them the host writes other bytes, so that host and device
+    /// differ.
     fn step(&mut self) -> Result<(), Fault> {
         let number = self.worker.chance.number();
-        for act in STEP {
-            self.act(act, number)?;
-        }
-        Ok(())
+        self.write(number)?;
+        self.map(number, 1)?;
+        self.enter(number)?;
+        self.copy_both_ways(number)?;
+        self.write(number)?;
+        self.unmap(number, 1)?;
+        self.read(self.worker.arrays.at(number))
     }
 
-    fn act(&mut self, act: Act, number: u64) -> Result<(), Fault> {
-        match act {
-            Act::Write => self.write(number),
-            Act::Map => self.map(number, 1),
-            Act::Work => self.enter(number),
-            Act::Update(clause) => self.update(clause, number),
-            Act::Unmap => self.unmap(number, 1),
-            Act::Read => self.read(self.worker.arrays.at(number)),
-        }
+    fn copy_both_ways(&mut self, number: u64) -> Result<(), Fault> {
+        self.write(number)?;
+        self.update(UpdateClause::ToSelf, number)?;
+        self.read(self.worker.arrays.at(number))?;
+        self.write(number)?;
+        self.update(UpdateClause::ToDevice, number)
     }
 
     /// The host writes bytes by chance into an array.
@@ -186,13 +161,7 @@ impl<Regions: Limited, Tickets: Ledger, Events: Ledger, R: Wait + AllocGlobal> H
             .runtime
             .enter(rt, &mut self.worker.caller, device, items)?;
         let lent = self.lend(&region, arrays.at(number));
-        match self.runtime.exit(rt, &mut self.worker.caller, region) {
-            Ok(()) => lent,
-            Err((region, fault)) => {
-                region.abandon();
-                Err(fault)
-            }
-        }
+        exited(self.runtime.exit(rt, &mut self.worker.caller, region), lent)
     }
 
     /// Lends an array in a region, and lets a kernel work on it.
@@ -202,16 +171,27 @@ impl<Regions: Limited, Tickets: Ledger, Events: Ledger, R: Wait + AllocGlobal> H
             .lend(self.rt, &mut self.worker.caller, region, array)?;
         self.worker.tally.note_lent(&lease);
         run_one(&mut lease, &Add(3), &[]);
-        self.gather(lease)
+        gathered(self.runtime.gather(self.rt, &mut self.worker.caller, lease))
     }
+}
 
-    fn gather(&mut self, lease: Lease) -> Result<(), Fault> {
-        match self.runtime.gather(self.rt, &mut self.worker.caller, lease) {
-            Ok(()) => Ok(()),
-            Err((lease, fault)) => {
-                lease.abandon();
-                Err(fault)
-            }
+/// What came of a region: what came of the work in it, or why its exit was refused.
+fn exited(outcome: Result<(), (Region, Fault)>, lent: Result<(), Fault>) -> Result<(), Fault> {
+    match outcome {
+        Ok(()) => lent,
+        Err((region, fault)) => {
+            region.abandon();
+            Err(fault)
+        }
+    }
+}
+
+fn gathered(outcome: Result<(), (Lease, Fault)>) -> Result<(), Fault> {
+    match outcome {
+        Ok(()) => Ok(()),
+        Err((lease, fault)) => {
+            lease.abandon();
+            Err(fault)
         }
     }
 }

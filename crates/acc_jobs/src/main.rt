@@ -59,8 +59,8 @@ fn tell<R: Print + Threads + Wait + Sync + AllocGlobal>(
     rounds: u64,
 ) -> Result<()> {
     let mut is_known = false;
-    for name in JOBS {
-        if job == name || job == "all" {
+    for name in &JOBS {
+        if job == *name || job == "all" {
             is_known = true;
             tell_one(rt, name, seed, rounds)?;
         }

@@ -56,10 +56,10 @@ pub fn play_stages<R: Threads + Wait + Sync + AllocGlobal>(
     rounds: u64,
 ) -> Result<Tally, Fault> {
     let mut tally = Tally::new();
-    for (of, work, host, device) in STAGES {
-        if of == job {
-            let config = limits(work, host, device)?;
-            play_stage(rt, work, config, seed, rounds, &mut tally)?;
+    for (of, work, host, device) in &STAGES {
+        if *of == job {
+            let config = limits(*work, *host, *device)?;
+            play_stage(rt, *work, config, seed, rounds, &mut tally)?;
         }
     }
     if tally.is_short {

@@ -82,19 +82,17 @@ impl Tally {
         let (kind, number) = match reply {
             Reply::Done => (0, 0),
             Reply::Entered { number } => (1, number),
-            Reply::Lease(lease) => (2, self.accept_lease(lease)),
+            Reply::Lease(lease) => {
+                let serial = lease.serial();
+                self.note_lease(&lease);
+                lease.abandon();
+                (2, serial)
+            }
             Reply::Drained { count } => (3, count),
             Reply::Idle => (4, 1),
         };
         self.note_all(&[kind, number]);
         number
-    }
-
-    fn accept_lease(&mut self, lease: Lease) -> u64 {
-        self.note_lease(&lease);
-        let serial = lease.serial();
-        lease.abandon();
-        serial
     }
 
     /// Notes a lease, and the first of the bytes that it lends.

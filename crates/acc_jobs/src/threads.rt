@@ -70,7 +70,8 @@ fn play<
     plan: Plan,
     tally: &mut Tally,
 ) -> Result<(), Fault> {
-    let mut workers = hire(rt.alloc(), caller, plan)?;
+    let mut workers = Vec::new(rt.alloc());
+    hire(caller, plan, &mut workers)?;
     for _ in 0..plan.rounds {
         let steps = STEPS / plan.threads.max(1);
         work_all(rt, runtime, workers.as_mut_slice(), steps);
@@ -83,15 +84,14 @@ fn play<
 
 /// Splits a caller off for the worker of each thread.
 fn hire<Regions: Ledger, Tickets: Ledger, Events: Ledger>(
-    alloc: Global,
     caller: &mut Caller<Regions, Tickets, Events>,
     plan: Plan,
-) -> Result<Vec<Worker<Regions, Tickets, Events>>, Fault> {
-    let mut workers = Vec::new(alloc);
+    workers: &mut Vec<Worker<Regions, Tickets, Events>>,
+) -> Result<(), Fault> {
     for number in 0..plan.threads {
         workers.push(Worker::new(caller, plan.seed, number)?)?;
     }
-    Ok(workers)
+    Ok(())
 }
 
 /// Notes what the workers noted, in the order of their numbers, and takes their shares back.

@@ -18,7 +18,7 @@ use std::thread::Threads;
 ///
 /// # Errors
 ///
-/// Those of [`Runtime::new`] and [`drill`]; [`Fault::Write`] where the line cannot be written.
+/// Those of [`Runtime::new`] and [`drill`]; [`Fault::Memory`] or [`Fault::Write`] where the line cannot be written.
 pub fn run_drill<R: Threads + Wait + Sync + AllocGlobal, O: Sink>(
     rt: &R,
     options: Options<'_>,

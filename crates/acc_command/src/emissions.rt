@@ -238,9 +238,8 @@ impl<R: Threads + Wait + Sync + AllocGlobal, D: FileStore> Maker<'_, R, D> {
             Err(mishap) => tell_mishap(self.rt.alloc(), err, Some(script), told.column, mishap),
         }
         let _ = write_all(err, told.reason.as_slice());
-        match self.files.read(name) {
-            Ok(old) if is_emitted(&old) => self.files.remove(name),
-            _ => {}
+        if self.files.read(name).is_ok_and(|old| is_emitted(&old)) {
+            self.files.remove(name);
         }
         Ok(false)
     }

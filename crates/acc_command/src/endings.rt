@@ -77,9 +77,7 @@ pub fn tell_mishap<E: Sink>(
 fn put_mishap(page: &mut Page, file: Option<&str>, mishap: Mishap<'_>) {
     match mishap {
         Mishap::Unread(name, reason) => {
-            page.text("accrun: cannot read ");
-            page.text(name);
-            put_texts(page, &[": ", reason, "\n"]);
+            put_texts(page, &["accrun: cannot read ", name, ": ", reason, "\n"]);
         }
         Mishap::Unwritten(name, line, reason) => {
             page.text("accrun: cannot write ");
@@ -95,7 +93,8 @@ fn put_mishap(page: &mut Page, file: Option<&str>, mishap: Mishap<'_>) {
     }
 }
 
-/// Writes which sizes there are, one of which is no multiple of 16. A failure of the sink changes nothing.
+/// Writes which sizes there are, one of which is no multiple of 16; the fault alone where there is no memory for them. A
+/// failure of the sink changes nothing.
 pub fn tell_sizes<E: Sink>(alloc: Global, err: &mut E, machine: Machine) {
     let mut page = Page::new(alloc);
     page.text("accrun: 2 BadConfig: ");

@@ -1,6 +1,5 @@
 //! The files that pictures become.
 
-use acc_base::Fault;
 use acc_follow::{Frame, Page, PictureSink, Stop, Unkept};
 use acc_terminal::Keeper;
 use acc_trials::{FileFault, FileStore};

@@ -11,7 +11,7 @@ use acc_trials::{
     BAIL_OUT, FileFault, FileStore, Played, Report, Trial, blessed, compared, expectation,
     lines_of, output_name,
 };
-use std::alloc::{AllocError, Global};
+use std::alloc::AllocError;
 use std::sync::Wait;
 use std::thread::{self, Threads};
 

@@ -114,7 +114,7 @@ pub fn follow<R: Threads + Wait + Sync + AllocGlobal, S: Source, O: Sink, E: Sin
         run_in_threads(rt, parts, kernel, lease, src)
     });
     if setting.views.show_any() {
-        return run_shown(alloc, &kernels, setting, reader, out, beside);
+        return follow_shown(alloc, &kernels, setting, reader, out, beside);
     }
     beside.lines.clear();
     let mut watcher = FaultWatcher {
@@ -126,8 +126,8 @@ pub fn follow<R: Threads + Wait + Sync + AllocGlobal, S: Source, O: Sink, E: Sin
     Ok(ending?)
 }
 
-/// Runs a script, and shows more of it.
-fn run_shown<K: KernelRunner, S: Source, O: Sink, E: Sink, G: PictureSink>(
+/// Runs a script, and shows what the views ask for.
+fn follow_shown<K: KernelRunner, S: Source, O: Sink, E: Sink, G: PictureSink>(
     alloc: Global,
     kernels: &K,
     setting: Setting,

@@ -150,6 +150,7 @@ impl Timeline {
     ///
     /// [`Fault::Memory`] where there was none for some of it.
     pub fn put(&self, page: &mut Page) -> Result<(), Fault> {
+        self.kept()?;
         page.text(HEAD);
         page.text("{\"pieces\":[\n");
         page.bytes(self.pieces.whole()?);

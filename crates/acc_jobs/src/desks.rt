@@ -248,7 +248,7 @@ impl Desk {
         let mut from = 0u64;
         let mut count = 0u64;
         for _ in 0..1_000_000u64 {
-            // That of least start at or above an address.
+            // The range of least start at or above the address.
             let Some(range) = self.table.mapped(self.device, from) else {
                 break;
             };

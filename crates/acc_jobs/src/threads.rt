@@ -82,7 +82,7 @@ fn play<
     Ok(())
 }
 
-/// Splits a caller off for the worker of each thread.
+/// Splits a caller off for each thread, and adds its worker to the others.
 fn hire<Regions: Ledger, Tickets: Ledger, Events: Ledger>(
     caller: &mut Caller<Regions, Tickets, Events>,
     plan: Plan,

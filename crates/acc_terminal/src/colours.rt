@@ -53,10 +53,5 @@ fn colour_of(line: &[u8]) -> Option<&'static str> {
 /// Whether a line tells a fault of a file, behind its place.
 fn has_fault(line: &[u8]) -> bool {
     const FAULT: &[u8] = b": error: ";
-    for part in line.windows(FAULT.len()) {
-        if part == FAULT {
-            return true;
-        }
-    }
-    false
+    line.windows(FAULT.len()).any(|part| part == FAULT)
 }

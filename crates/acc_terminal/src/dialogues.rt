@@ -13,6 +13,7 @@ use acc_read::Page;
 use acc_script::{
     InOnePart, MemorySink, Session, Sink, Source, Status, Watcher, run_line, write_all,
 };
+use acc_trials::{put_numbers, put_texts};
 use std::alloc::Global;
 use std::sync::Wait;
 use std::thread::Threads;
@@ -98,19 +99,6 @@ impl<R: Threads + Wait + Sync + AllocGlobal, O: Sink> Dialogue<'_, R, O> {
         self.end_all(follower)
     }
 
-    /// Writes the prompt. It goes to standard error, so that standard output has what the script prints.
-    fn ask<E: Sink>(&self, err: &mut E) {
-        if self.manner.asks {
-            let mut page = Page::new(self.rt.alloc());
-            page.text("device ");
-            page.number(self.session.device);
-            page.text(" regions ");
-            page.number(self.session.table.regions());
-            page.text("> ");
-            say(err, page.as_slice());
-        }
-    }
-
     /// Does what a line asks for, and ends its answer.
     fn take<E: Sink, G: Keeper>(
         &mut self,
@@ -127,18 +115,7 @@ impl<R: Threads + Wait + Sync + AllocGlobal, O: Sink> Dialogue<'_, R, O> {
         self.answer()
     }
 
-    /// Ends what a line prints, and lets it be seen.
-    fn answer(&mut self) -> Result<(), Fault> {
-        if self.manner.answers {
-            end_answer(self.out)?;
-        }
-        if self.manner.is_live() {
-            flush(self.out)?;
-        }
-        Ok(())
-    }
-
-    /// Runs the next line. A prompt keeps it, unless it was refused and changed nothing.
+    /// Runs the next line. A prompt keeps it, unless it was not done and changed nothing.
     fn run_next<E: Sink, G: Keeper>(
         &mut self,
         follower: &mut Follower<'_, E, G>,
@@ -155,6 +132,34 @@ impl<R: Threads + Wait + Sync + AllocGlobal, O: Sink> Dialogue<'_, R, O> {
         self.history
             .settle(has_changed, matches!(ending, Ok(false)));
         self.is_refused |= ending?;
+        Ok(())
+    }
+}
+
+// None of these waits, and the program is proved to end where nothing waits.
+impl<R: AllocGlobal, O: Sink> Dialogue<'_, R, O> {
+    /// Writes the prompt. It goes to standard error, so that standard output has what the script prints.
+    fn ask<E: Sink>(&self, err: &mut E) {
+        if self.manner.asks {
+            let mut page = Page::new(self.rt.alloc());
+            let (device, regions) = (self.session.device, self.session.table.regions());
+            put_numbers(
+                &mut page,
+                &[("device ", device), (" regions ", regions)],
+                "> ",
+            );
+            say(err, page.as_slice());
+        }
+    }
+
+    /// Ends what a line prints, and lets it be seen.
+    fn answer(&mut self) -> Result<(), Fault> {
+        if self.manner.answers {
+            end_answer(self.out)?;
+        }
+        if self.manner.is_live() {
+            flush(self.out)?;
+        }
         Ok(())
     }
 
@@ -239,11 +244,10 @@ impl<R: Threads + Wait + Sync + AllocGlobal, O: Sink> Dialogue<'_, R, O> {
         let script = self.history.script();
         if let Err(reason) = follower.pictures.save(name, script.whole()?) {
             let mut page = Page::new(self.rt.alloc());
-            page.text("accrun: cannot write ");
-            page.text(name);
-            page.text(": ");
-            page.text(reason);
-            page.text("\n");
+            put_texts(
+                &mut page,
+                &["accrun: cannot write ", name, ": ", reason, "\n"],
+            );
             say(follower.err, page.as_slice());
         }
         Ok(())

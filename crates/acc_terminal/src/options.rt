@@ -228,22 +228,12 @@ fn with_rules<'a>(option: Arg<'a>, name: &str) -> Result<Arg<'a>, AllocError> {
     if name == "expect" {
         return option.requires_if("-", "FILE");
     }
-    match others_of(name) {
-        Some(others) => option
+    match INSTEAD.iter().find(|row| row.0 == name) {
+        Some((_, others)) => option
             .conflicts_with_all(OF_RUNS)?
             .conflicts_with_all(others),
         None => Ok(option),
     }
-}
-
-/// What else an option does not go with that is done in place of a run; `None` for any other.
-fn others_of(name: &str) -> Option<&'static [&'static str]> {
-    for (instead, others) in INSTEAD {
-        if *instead == name {
-            return Some(others);
-        }
-    }
-    None
 }
 
 fn add_line_options(alloc: Global, options: &mut Vec<Arg<'_>>) -> Result<(), AllocError> {
@@ -361,12 +351,12 @@ impl<'a> Options<'a> {
             full: self.full.or(line.full),
             threads: self.threads.or(line.threads),
             shown: Views {
-                echo: self.shown.echo | line.shown.echo,
-                json: self.shown.json | line.shown.json,
-                log: self.shown.log | line.shown.log,
-                check: self.shown.check | line.shown.check,
-                check_fails: self.shown.check_fails | line.shown.check_fails,
-                check_all: self.shown.check_all | line.shown.check_all,
+                echo: self.shown.echo || line.shown.echo,
+                json: self.shown.json || line.shown.json,
+                log: self.shown.log || line.shown.log,
+                check: self.shown.check || line.shown.check,
+                check_fails: self.shown.check_fails || line.shown.check_fails,
+                check_all: self.shown.check_all || line.shown.check_all,
                 ..self.shown
             },
             explain: self.explain.or(line.explain),
@@ -409,11 +399,10 @@ fn check(alloc: Global, command: &mut Command<'_>, matches: &ArgMatches<'_>) -> 
 
 /// How often a file is standard input.
 fn input_count(matches: &ArgMatches<'_>, name: &str) -> usize {
-    let mut count = 0usize;
-    for file in texts(matches, name) {
-        count = count.saturating_add(usize::from(*file == "-"));
-    }
-    count
+    texts(matches, name)
+        .iter()
+        .filter(|file| **file == "-")
+        .count()
 }
 
 fn is_stream(matches: &ArgMatches<'_>, name: &str) -> bool {
@@ -431,22 +420,13 @@ fn of_one_file(matches: &ArgMatches<'_>) -> Option<&'static str> {
     if texts(matches, "FILE").len() < 2 {
         return None;
     }
-    for name in OF_ONE_FILE {
-        if matches.contains_id(name) && !(*name == "emit" && matches.contains_id("out")) {
-            return Some(name);
-        }
-    }
-    None
+    OF_ONE_FILE.iter().copied().find(|name| matches.contains_id(name)
+        && !(*name == "emit" && matches.contains_id("out")))
 }
 
 /// What means nothing, since the option is not given that it goes with, and that option.
 fn misplaced(matches: &ArgMatches<'_>) -> Option<(&'static str, &'static str)> {
-    for (name, other) in BESIDE {
-        if is_given(matches, name) && !matches.contains_id(other) {
-            return Some((name, other));
-        }
-    }
-    None
+    BESIDE.iter().copied().find(|pair| is_given(matches, pair.0) && !matches.contains_id(pair.1))
 }
 
 /// What is wrong with files that are named together, if anything is.
@@ -608,7 +588,6 @@ fn is_given(matches: &ArgMatches<'_>, name: &str) -> bool {
 
 /// The statements and the words of a prompt, as the long help has them.
 pub fn statements() -> &'static str {
-    // Named once, since each naming of so long a text takes long to check.
     let help = AFTER_HELP;
     let from = help.find("Statements, ").unwrap_or(0);
     let to = help.find("\nExample:").unwrap_or(help.len());

@@ -132,9 +132,10 @@ impl<R: Files + AllocGlobal + Sync> FileStore for Disk<'_, R> {
     }
 }
 
-type Paths = Result<Option<Vec<String>>, FileFault>;
+/// The paths of the files in a folder; `None` where it is no folder.
+type Listed = Result<Option<Vec<String>>, FileFault>;
 
-fn list_at<R: Files + AllocGlobal>(rt: &R, folder: &str, path: &str) -> Paths {
+fn list_at<R: Files + AllocGlobal>(rt: &R, folder: &str, path: &str) -> Listed {
     match rt.open_dir(path) {
         Ok(names) => list_open(rt, folder, names),
         Err(error) if error.kind() == ErrorKind::NotADirectory => Ok(None),
@@ -142,7 +143,7 @@ fn list_at<R: Files + AllocGlobal>(rt: &R, folder: &str, path: &str) -> Paths {
     }
 }
 
-fn list_open<R: Files + AllocGlobal, F: Read + Drop>(rt: &R, folder: &str, names: F) -> Paths {
+fn list_open<R: Files + AllocGlobal, F: Read + Drop>(rt: &R, folder: &str, names: F) -> Listed {
     let names = read_whole(rt.alloc(), names)?;
     let mut paths = Vec::new(rt.alloc());
     add_paths(rt, &mut paths, folder, &names)?;

@@ -28,7 +28,7 @@ pub fn random_script(alloc: Global, config: Config, seed: u64, lines: u64) -> Re
     Ok(script)
 }
 
-/// Puts the script, over a session that a draft borrows, since a function that owns more takes long to check.
+/// Puts the script, over a session of its own.
 fn put_script(
     alloc: Global,
     script: &mut Page,

@@ -35,7 +35,7 @@ fn main(rt: HostRuntime) -> ExitCode {
         tell(&mut err, Fault::Memory);
         return ExitCode::from(FAULTED);
     };
-    // The words come last: nothing but the program itself drops them.
+    // Words are read last, so that no earlier way out has to drop them.
     ExitCode::from(match read_words(rt) {
         Ok(words) => tool(
             rt,

@@ -187,7 +187,9 @@ impl<'a, Regions: Limited, Tickets: Ledger, Events: Ledger, R: Abort + Wait + Al
             Deed::Gather => self.gather(),
             Deed::Rebase => runtime.rebase(rt),
             Deed::Look(asked) => Ok(self.look(asked)),
-            _ => self.direct(deed).and(Ok(0)),
+            Deed::EnterData | Deed::ExitData(_) | Deed::Update(..) | Deed::Write(_) => {
+                self.direct(deed).and(Ok(0))
+            }
         }
     }
 
@@ -215,7 +217,7 @@ impl<'a, Regions: Limited, Tickets: Ledger, Events: Ledger, R: Abort + Wait + Al
         }
     }
 
-    /// Makes a call that returns no number: the array is mapped, where it is none of the others.
+    /// Makes a call that returns no number. Any other deed maps the array.
     fn direct(&mut self, deed: Deed) -> Result<(), Fault> {
         let (rt, runtime) = (self.rt, self.runtime);
         match deed {

@@ -100,7 +100,7 @@ impl<
         };
         let words = from.iter(self.rt);
         let served = serve(self.rt, self.runtime, &mut self.caller, words, &watch);
-        // For the right words in order, it folded what it should each time.
+        // It was called as often as it should be, for the right words in order, and folded each time what it should.
         let saw_all = watch.calls.load(Ordering::SeqCst) == service.events.len() as u64;
         self.must_serve(served, saw_all, service.served);
         self.make_rows(service.behind);

@@ -1,5 +1,5 @@
 //! Calls of the crates below `acc_clauses` that no other crate makes. Their clauses say what each returns, or that memory
-//! is refused; here they succeed.
+//! is refused.
 
 ghost use Rattle.std.specs.Prelude.{◌<◌, ◌^◌};
 
@@ -106,7 +106,7 @@ fn check_queues(rt: &(impl Abort + AllocGlobal)) -> Result<(), Fault> {
 }
 
 #[test]
-fn calls_of_each_layer_succeed(rt: HostRuntime) -> Result<(), Fault> {
+fn calls_of_each_layer_return_what_they_should(rt: HostRuntime) -> Result<(), Fault> {
     check_taken(&rt)?;
     check_first_block(&rt, false, 0xa5)?;
     check_first_block(&rt, true, 0)?;

@@ -77,7 +77,9 @@ pub fn tell_mishap<E: Sink>(
 fn put_mishap(page: &mut Page, file: Option<&str>, mishap: Mishap<'_>) {
     match mishap {
         Mishap::Unread(name, reason) => {
-            put_texts(page, &["accrun: cannot read ", name, ": ", reason, "\n"]);
+            page.text("accrun: cannot read ");
+            page.text(name);
+            put_texts(page, &[": ", reason, "\n"]);
         }
         Mishap::Unwritten(name, line, reason) => {
             page.text("accrun: cannot write ");

@@ -13,7 +13,7 @@ use acc_read::Page;
 use acc_script::{
     InOnePart, MemorySink, Session, Sink, Source, Status, Watcher, run_line, write_all,
 };
-use acc_trials::{put_numbers, put_texts};
+use acc_trials::put_numbers;
 use std::alloc::Global;
 use std::sync::Wait;
 use std::thread::Threads;
@@ -244,10 +244,11 @@ impl<R: AllocGlobal, O: Sink> Dialogue<'_, R, O> {
         let script = self.history.script();
         if let Err(reason) = follower.pictures.save(name, script.whole()?) {
             let mut page = Page::new(self.rt.alloc());
-            put_texts(
-                &mut page,
-                &["accrun: cannot write ", name, ": ", reason, "\n"],
-            );
+            page.text("accrun: cannot write ");
+            page.text(name);
+            page.text(": ");
+            page.text(reason);
+            page.text("\n");
             say(follower.err, page.as_slice());
         }
         Ok(())

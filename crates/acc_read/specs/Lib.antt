@@ -3,7 +3,6 @@ pub mod Lines
 pub mod Tokens
 pub mod Layout
 pub mod Coding
-pub mod Naming
 pub mod Places
 pub mod Items
 pub mod Queues

@@ -1,5 +1,5 @@
 -- Words, marks, numbers and names at the front of a text, each with the text after it. Blanks before them are skipped.
-use Rattle.std.specs.Prelude.{ℕ, ◌^◌, ◌-◌, ◌*◌, ◌+◌, fold, Bool, false, not, ◌&&◌, ◌||◌, List, [], ◌∷◌, length, take, drop, Result, Ok, Err, ◌==◌, nat_lt, nat_le, if◌then◌else◌}
+use Rattle.std.specs.Prelude.{ℕ, ◌^◌, ◌-◌, ◌*◌, ◌+◌, fold, Bool, false, not, ◌&&◌, ◌||◌, List, [], ◌∷◌, length, take, drop, Result, Ok, Err, ◌==◌, nat_le, if◌then◌else◌}
 use Rattle.std.specs.Char.{is_ascii_alphanumeric, is_ascii_lowercase, is_ascii_digit}
 use Rattle.std.specs.List.{prefix_len, list_all}
 use Rattle.std.specs.Str.{bytes_eq}
@@ -69,10 +69,6 @@ is_at_end text = length (skip_blanks text) == 0
 unfoldable pub word_at : List ℕ → Result (List ℕ × List ℕ) ScriptFault
 word_at text = let token = skip_blanks text in if word_len token == 0 then Err Syntax
     else Ok (take (word_len token) token, drop (word_len token) token)
-
--- a word, and not only a front of one
-abbrev pub is_keyword : List ℕ → Bool
-is_keyword text = list_all is_word_byte text && nat_lt 0 (length text)
 
 -- the text after this word, which stands next
 unfoldable pub keyword_at : List ℕ → List ℕ → Result (List ℕ) ScriptFault

@@ -3,6 +3,7 @@
 ghost use Rattle.std.specs.Prelude.{◌≡◌, ◌+◌, ◌≤◌, OnOk, OnErr};
 ghost use Rattle.acc_read.specs.Layout.{no_arrays, array_of, next_array, with_array, whole, part_of, byte_of};
 
+use crate::name_keys::NameKey;
 use acc_base::{HOST_BASE, MEMORY_MAX, Section};
 use std::alloc::{AllocError, Global};
 use std::collections::HashMap;
@@ -50,7 +51,7 @@ impl Array {
 ///
 /// Contracts see where each lies, where the last one ends, and where host memory ends.
 pub struct Arrays {
-    by_name: HashMap<Vec<u8>, Array>,
+    by_name: HashMap<NameKey, Array>,
     last_end: u32,
     limit: u32,
 }
@@ -74,9 +75,15 @@ impl Model for Arrays {
 
     ghost coded = { layout_code };
 
-    ghost use Rattle.acc_read.specs.Naming.{names_of};
+    ghost use Rattle.std.specs.Prelude.{◌≡◌, ◌<◌, ℕ, List, None, length};
+    ghost use Rattle.std.specs.FinMap as map;
+    ghost use Rattle.std.specs.Map.{lookup};
+    ghost use Rattle.std.specs.Str.{bytes_eq};
 
-    ghost view = { λ a. record { names = names_of a.by_name.entries; last_end = a.last_end; limit = a.limit } };
+    ghost view = { λ a. record { names = map.from_entries a.by_name.entries; last_end = a.last_end; limit = a.limit } };
+
+    // No name among them has more than 32 bytes.
+    ghost invariant = { λ a. (name : List ℕ) → 32 < length name → lookup (bytes_eq name) a.by_name.entries ≡ None };
 }
 
 impl Arrays {
@@ -97,7 +104,8 @@ impl Arrays {
     pub fn get(&self, name: &[u8]) -> Option<Array>
         ensures { result ≡ array_of name.now self.now }
     {
-        self.by_name.get(name).copied()
+        let names = &self.by_name;
+        names.get(&NameKey::new(name)?).copied()
     }
 
     /// The next array of `len` bytes: it starts at the least multiple of 16 at or after the end of the one before.
@@ -121,12 +129,13 @@ impl Arrays {
     ///
     /// # Errors
     ///
-    /// [`AllocError`] where there is no memory. Nothing changed then.
-    pub fn insert(&mut self, alloc: Global, name: &[u8], array: Array) -> Result<(), AllocError>
+    /// [`AllocError`] where there is no memory, or the name has more than 32 bytes. Nothing changed then.
+    pub fn insert(&mut self, name: &[u8], array: Array) -> Result<(), AllocError>
         ensures ok { OnOk result (self.new ≡ with_array name.now array self.old) }
         ensures err { OnErr result (self.new ≡ self.old) }
     {
-        self.by_name.insert(Vec::from_slice(alloc, name)?, array)?;
+        let key = NameKey::new(name).ok_or(AllocError)?;
+        self.by_name.insert(key, array)?;
         self.last_end = array.end;
         Ok(())
     }

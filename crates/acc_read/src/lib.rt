@@ -14,6 +14,7 @@ mod items;
 mod kept;
 mod kernels;
 mod lines;
+mod name_keys;
 mod names;
 mod pages;
 mod places;

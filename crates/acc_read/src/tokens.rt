@@ -5,7 +5,7 @@ ghost use Rattle.std.specs.List.{prefix_len};
 ghost use Rattle.std.specs.Char.{is_ascii_digit};
 ghost use Rattle.std.specs.Str.{bytes_eq};
 ghost use Rattle.acc_read.specs.Reading.{Reads};
-ghost use Rattle.acc_read.specs.Tokens.{is_blank, is_word_byte, word_len, skip_blanks, is_at_end, word_at, keyword_at, is_word_next, is_mark_next, mark_at, skip_comma, is_word_before, is_keyword, number_at, is_name_byte, begins_lower, value_of, name_at};
+ghost use Rattle.acc_read.specs.Tokens.{is_blank, is_word_byte, word_len, skip_blanks, is_at_end, word_at, keyword_at, is_word_next, is_mark_next, mark_at, skip_comma, is_word_before, number_at, is_name_byte, begins_lower, value_of, name_at};
 
 use acc_base::ScriptFault;
 
@@ -74,23 +74,29 @@ pub fn is_at_end(text: &[u8]) -> bool
     skip_blanks(text).is_empty()
 }
 
-/// The word is this text.
+/// The two are of the same bytes. One of a constant length comes to as many tests, and no call.
 #[inline(always)]
 #[tactic(auto, using(crate::proofs::Keywords::text_laws))]
-pub fn is_text(word: &[u8], text: &str) -> bool
-    ensures { result ≡ bytes_eq word.now text.now }
+pub fn are_same(one: &[u8], other: &[u8]) -> bool
+    ensures { result ≡ bytes_eq one.now other.now }
 {
-    // A text of a constant length comes to as many tests, and no call.
-    let bytes = text.as_bytes();
-    if word.len() != bytes.len() {
+    if one.len() != other.len() {
         return false;
     }
-    'bytes: for i in 0..bytes.len() {
-        if word[i] != bytes[i] {
+    'bytes: for i in 0..other.len() {
+        if one[i] != other[i] {
             return false;
         }
     }
     true
+}
+
+/// The word is this text.
+#[inline(always)]
+pub fn is_text(word: &[u8], text: &str) -> bool
+    ensures { result ≡ bytes_eq word.now text.now }
+{
+    are_same(word, text.as_bytes())
 }
 
 /// The next word, which has letters, digits and `_`, and the text after it.
@@ -118,15 +124,15 @@ pub fn begins_word(text: &[u8]) -> bool
 
 /// The text after this keyword, which has to stand next.
 #[inline(always)]
-#[tactic(auto, using(crate::proofs::Keywords::keyword_laws))]
+#[tactic(auto, unfolding(crate::specs::Tokens::keyword_at))]
 pub fn keyword_at<'a>(keyword: &str, text: &'a [u8]) -> Result<&'a [u8], ScriptFault>
-    requires { is_keyword keyword.now ≡ true }
     ensures { Reads (λ rest. rest.now) result (keyword_at keyword.now text.now) }
 {
-    match skip_blanks(text).strip_prefix(keyword.as_bytes()) {
-        Some(rest) if !begins_word(rest) => Ok(rest),
-        _ => Err(ScriptFault::Syntax),
+    let (word, rest) = word_at(text)?;
+    if !is_text(word, keyword) {
+        return Err(ScriptFault::Syntax);
     }
+    Ok(rest)
 }
 
 /// The next token is this word.

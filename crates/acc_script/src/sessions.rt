@@ -77,7 +77,7 @@ impl Session {
         match statement {
             Statement::Blank => Ok(Effect::Nothing),
             Statement::Declare { name, array } => {
-                self.arrays.insert(self.alloc, name, array)?;
+                self.arrays.insert(name, array)?;
                 Ok(Effect::Nothing)
             }
             Statement::Direct(directive) => self.call(Call::Do(directive)),

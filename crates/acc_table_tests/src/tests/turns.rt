@@ -24,7 +24,7 @@ pub fn two_arrays(alloc: Global) -> Result<Arrays, AllocError> {
     let mut arrays = Arrays::new(alloc, 64);
     for name in ["a", "b"] {
         if let Some(array) = arrays.next_array(16) {
-            arrays.insert(alloc, name.as_bytes(), array)?;
+            arrays.insert(name.as_bytes(), array)?;
         }
     }
     Ok(arrays)

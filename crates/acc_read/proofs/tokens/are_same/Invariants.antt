@@ -1,6 +1,6 @@
 use Rattle.acc_read.proofs.Keywords.{SameSoFar}
-use Rattle.acc_read.proofs.tokens.is_text.Given as goal
+use Rattle.acc_read.proofs.tokens.are_same.Given as goal
 
 -- what is left decides
 abbrev pub invariant-bytes : goal.invariant-bytes
-invariant-bytes l = SameSoFar l.word l.bytes l.i
+invariant-bytes l = SameSoFar l.one l.other l.i

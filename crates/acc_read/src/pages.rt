@@ -86,14 +86,19 @@ impl Page {
     }
 }
 
-/// Makes room for so many bytes more and for others behind them, so that a long text is seldom moved. Where there is no
-/// memory for so much, nothing changes.
+/// How much more room than there are bytes already is made in a long text: 4 MiB.
+const AHEAD: usize = 4_194_304;
+
+/// Makes room for so many bytes more and for others behind them, so that a long text is seldom moved: three times as
+/// many as there are then, and of more than 2 MiB as many and 4 MiB. Where there is no memory for so much, nothing
+/// changes.
 #[inline(always)]
 pub fn make_room(bytes: &mut Vec<u8>, count: usize)
     ensures { bytes.new.items ≡ bytes.old.items }
 {
     if bytes.capacity() - bytes.len() < count {
-        let _ = bytes.reserve(bytes.len().saturating_add(count).saturating_mul(3));
+        let all = bytes.len().saturating_add(count);
+        let _ = bytes.reserve(all.saturating_mul(3).min(all.saturating_add(AHEAD)));
     }
 }
 

@@ -14,7 +14,6 @@ mod items;
 mod kept;
 mod kernels;
 mod lines;
-mod name_keys;
 mod names;
 mod pages;
 mod places;

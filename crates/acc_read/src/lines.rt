@@ -4,7 +4,7 @@ ghost use Rattle.std.specs.Prelude.{◌≡◌, ◌<◌, ◌≤◌, ◌∷◌, �
 ghost use Rattle.std.specs.List.{prefix_len};
 ghost use Rattle.acc_read.specs.Lines.{without_return, lines_of, line_feed};
 
-use memchr::memchr;
+use crate::runs::{ByteTest, passing_len};
 
 /// The first line of an input that is not empty, and the input after it.
 #[tactic(auto, using(crate::proofs::Pieces::first_line))]
@@ -13,19 +13,19 @@ pub fn next_line(input: &[u8]) -> (&[u8], &[u8])
     ensures line { lines_of input.now ≡ result.0.now ∷ lines_of result.1.now }
     ensures shorter { length result.1.now < length input.now }
 {
-    let (piece, rest) = input.split_at(piece_len(input));
+    let (piece, rest) = input.split_at(passing_len::<InLine>(input));
     let (_, after) = rest.split_at(rest.len().min(1));
     (without_return(piece), after)
 }
 
-/// How many bytes stand before the first line feed.
-fn piece_len(input: &[u8]) -> usize
-    ensures count { result ≡ prefix_len (λ b. not (b == line_feed)) input.now }
-    ensures bound { result ≤ length input.now }
-{
-    match memchr(b'\n', input) {
-        Some(place) => place,
-        None => input.len(),
+/// A byte that ends no line.
+struct InLine;
+
+impl ByteTest for InLine {
+    ghost test = { λ b. not (b == line_feed) };
+
+    fn passes(byte: u8) -> bool {
+        byte != b'\n'
     }
 }
 

@@ -62,11 +62,6 @@ impl<'a> Source for MemorySource<'a> {
         }
         Some(count)
     }
-
-    /// How many bytes it has left.
-    fn likely_len(&self) -> usize {
-        self.bytes.len() - self.at
-    }
 }
 
 fn give(bytes: &[u8], at: usize, piece: &mut [u8]) -> usize

@@ -20,11 +20,6 @@ pub trait Source {
     fn read(&mut self, piece: &mut [u8]) -> Option<usize>
         ensures bound { IfSome result (λ n. n ≤ length piece.old) }
         ensures tells { Becomes (told self.old) (told self.new) (λ g. after_read g result piece.new) };
-
-    /// How many bytes are likely to come, as far as it knows, so that there can be room for them.
-    fn likely_len(&self) -> usize {
-        0
-    }
 }
 
 /// Takes bytes.

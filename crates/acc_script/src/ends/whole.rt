@@ -36,7 +36,6 @@ pub fn read_all<R: Source>(alloc: Global, reader: &mut R) -> Result<Vec<u8>, Fau
     ensures { ReadAll (R.told reader.old) (R.told reader.new) result }
 {
     let mut all = Vec::new(alloc);
-    let _ = all.reserve(reader.likely_len().min(LIMIT));
     let mut piece = [0u8; 4096];
     'pieces: loop {
         let room = (LIMIT + 1 - all.len()).min(piece.len());

@@ -8,5 +8,5 @@ pub mod ByteWords
 pub mod NameEntries
 pub mod ByteRuns
 pub mod PlainLines
-pub mod Keywords
+pub mod SameTexts
 pub mod WordFronts

@@ -7,7 +7,7 @@ ghost use Rattle.std.specs.Cmp.Rules.{hashing};
 ghost use Rattle.std.proofs.Common.{rules};
 ghost use Rattle.acc_read.specs.Layout.{no_arrays, array_of, next_array, with_array, whole, part_of, byte_of};
 
-use crate::tokens::are_same;
+use crate::tokens::{NAME_MAX, are_same};
 use acc_base::{HOST_BASE, MEMORY_MAX, Section};
 use std::alloc::{AllocError, Global};
 use std::collections::HashMap;
@@ -51,9 +51,6 @@ impl Array {
         }
     }
 }
-
-/// How many bytes a name may have.
-const NAME_MAX: usize = 32;
 
 /// A name of at most 32 bytes. They stand in the key itself, so that no other memory is looked at to compare them.
 /// Contracts see them.
@@ -119,7 +116,7 @@ impl Hash for NameKey {
 
     ghost respects_eq = { Prim.search (hashing, rules) };
 
-    /// All bytes are hashed at once.
+    /// All bytes are hashed at once, so that a name costs one call.
     #[inline(always)]
     fn hash<H: Hasher>(&self, state: &mut H) {
         state.write(self.as_slice());

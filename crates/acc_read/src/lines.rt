@@ -1,7 +1,6 @@
 //! The lines of an input.
 
-ghost use Rattle.std.specs.Prelude.{◌≡◌, ◌<◌, ◌≤◌, ◌∷◌, ◌==◌, not, length};
-ghost use Rattle.std.specs.List.{prefix_len};
+ghost use Rattle.std.specs.Prelude.{◌≡◌, ◌<◌, ◌∷◌, ◌==◌, not, length};
 ghost use Rattle.acc_read.specs.Lines.{without_return, lines_of, line_feed};
 
 use crate::runs::{ByteTest, passing_len};
@@ -13,15 +12,15 @@ pub fn next_line(input: &[u8]) -> (&[u8], &[u8])
     ensures line { lines_of input.now ≡ result.0.now ∷ lines_of result.1.now }
     ensures shorter { length result.1.now < length input.now }
 {
-    let (piece, rest) = input.split_at(passing_len::<InLine>(input));
+    let (piece, rest) = input.split_at(passing_len::<LineByte>(input));
     let (_, after) = rest.split_at(rest.len().min(1));
     (without_return(piece), after)
 }
 
 /// A byte that ends no line.
-struct InLine;
+struct LineByte;
 
-impl ByteTest for InLine {
+impl ByteTest for LineByte {
     ghost test = { λ b. not (b == line_feed) };
 
     fn passes(byte: u8) -> bool {

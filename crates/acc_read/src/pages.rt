@@ -86,12 +86,13 @@ impl Page {
     }
 }
 
-/// How much more room than there are bytes already is made in a long text: 4 MiB.
+// The most room that a text gets beyond as much again. The C library maps great blocks anew each time, and each of
+// their pages is cleared when it is first touched.
 const AHEAD: usize = 4_194_304;
 
-/// Makes room for so many bytes more and for others behind them, so that a long text is seldom moved: three times as
-/// many as there are then, and of more than 2 MiB as many and 4 MiB. Where there is no memory for so much, nothing
-/// changes.
+/// Makes room for so many bytes more and for others behind them, so that a long text is seldom moved. That is three
+/// times what the text has then, or once that and 4 MiB where this is less. Where there is no memory for so much,
+/// nothing changes.
 #[inline(always)]
 pub fn make_room(bytes: &mut Vec<u8>, count: usize)
     ensures { bytes.new.items ≡ bytes.old.items }

@@ -1,6 +1,6 @@
 //! Words, marks, numbers and names at the front of a text.
 
-ghost use Rattle.std.specs.Prelude.{◌≡◌, ◌≤◌, ◌<◌, ◌+◌, ◌==◌, not, true, min, take, length, IfOk};
+ghost use Rattle.std.specs.Prelude.{◌≡◌, ◌≤◌, ◌<◌, ◌+◌, ◌==◌, not, min, take, length, IfOk};
 ghost use Rattle.std.specs.List.{prefix_len};
 ghost use Rattle.std.specs.Char.{is_ascii_digit};
 ghost use Rattle.std.specs.Str.{bytes_eq};
@@ -8,6 +8,9 @@ ghost use Rattle.acc_read.specs.Reading.{Reads};
 ghost use Rattle.acc_read.specs.Tokens.{is_blank, is_word_byte, word_len, skip_blanks, is_at_end, word_at, keyword_at, is_word_next, is_mark_next, mark_at, skip_comma, is_word_before, number_at, is_name_byte, begins_lower, value_of, name_at};
 
 use acc_base::ScriptFault;
+
+/// How many bytes a name may have.
+pub const NAME_MAX: usize = 32;
 
 /// The byte is a space or a tab.
 pub fn is_blank(b: u8) -> bool
@@ -74,9 +77,9 @@ pub fn is_at_end(text: &[u8]) -> bool
     skip_blanks(text).is_empty()
 }
 
-/// The two are of the same bytes. One of a constant length comes to as many tests, and no call.
+/// The two have the same bytes. Where one has a constant length, the compiler makes that many tests and no call.
 #[inline(always)]
-#[tactic(auto, using(crate::proofs::Keywords::text_laws))]
+#[tactic(auto, using(crate::proofs::SameTexts::text_laws))]
 pub fn are_same(one: &[u8], other: &[u8]) -> bool
     ensures { result ≡ bytes_eq one.now other.now }
 {
@@ -252,7 +255,7 @@ pub fn name_at(text: &[u8]) -> Result<(&[u8], &[u8]), ScriptFault>
     let token = skip_blanks(text);
     let len = name_len(token);
     let (name, rest) = token.split_at(len);
-    if begins_word(rest) || len > 32 || !begins_lower(name) {
+    if begins_word(rest) || len > NAME_MAX || !begins_lower(name) {
         return Err(ScriptFault::Syntax);
     }
     Ok((name, rest))

@@ -1,4 +1,4 @@
-use Rattle.acc_read.proofs.Keywords.{SameSoFar}
+use Rattle.acc_read.proofs.SameTexts.{SameSoFar}
 use Rattle.acc_read.proofs.tokens.are_same.Given as goal
 
 -- what is left decides

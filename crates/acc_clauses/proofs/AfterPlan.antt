@@ -1,4 +1,4 @@
--- What a planned directive makes of a store: the state after its event, and a store that is sound.
+-- What a planned directive makes of a device: the state after its event, and that it is sound.
 use Rattle.std.proofs.lemmas.Bool.Decides.{nat_tests}
 use Rattle.std.proofs.Common.{◌<◌, ◌≡◌, ◌≤◌, refl, sym, subst, ℕ, Bool, List, [], arith, length}
 use Rattle.acc_clauses.specs.Words.{Directive, Event}
@@ -17,7 +17,7 @@ use Rattle.acc_base.proofs.Registers.{AreFew, register_sound}
 use Rattle.acc_base.proofs.Told.{IsTold, walk_told}
 use Rattle.acc_clauses.specs.Planned.{Planned, IsPlanOf, finished, state_by}
 use Rattle.acc_clauses.specs.Contents.{Contents}
-use Rattle.acc_clauses.specs.Stored.{IsStoreSound, AreHoldingsWithin}
+use Rattle.acc_clauses.specs.Stored.{AreContentsSound, AreHoldingsWithin}
 use Rattle.acc_clauses.proofs.Events.{IsEventOf, event_of_plan, idle_plan}
 
 -- ---- the state
@@ -48,9 +48,9 @@ layout_kept l e lay bounds h legal few =
     let kept : IsTold l (walk e lay) _ _ _ = walk_told l e lay (λ b. structured_of b lay.records.ranges) (λ b. 0) (λ b. dynamic_of b lay.records.ranges) bounds (told_now l lay h) legal in
     record { records = kept.sound; register = register_sound (register_after e lay.register) kept.numbered few; held = kept.held }
 
--- a store is sound after a legal event
-pub event_sound : (l : Limits) (e : Event) (brought : List ℕ) (c f : Contents) → IsWithinBounds l → c.limits ≡ l → f.limits ≡ l → IsStoreSound c → IsLegal l e (layout_of c.state) → AreBrought e brought c.state.records → f.state ≡ after l.full e brought c.state
-    → AreFew (register_after e c.state.register) → length f.state.records.loans < f.state.register.serial → used_bytes f.state.records.blocks ≤ l.device → AreHoldingsWithin f.state.records f.state.register.regions → IsStoreSound f
+-- a device is sound after a legal event
+pub event_sound : (l : Limits) (e : Event) (brought : List ℕ) (c f : Contents) → IsWithinBounds l → c.limits ≡ l → f.limits ≡ l → AreContentsSound c → IsLegal l e (layout_of c.state) → AreBrought e brought c.state.records → f.state ≡ after l.full e brought c.state
+    → AreFew (register_after e c.state.register) → length f.state.records.loans < f.state.register.serial → used_bytes f.state.records.blocks ≤ l.device → AreHoldingsWithin f.state.records f.state.register.regions → AreContentsSound f
 event_sound l e brought c f bounds cl fl h legal fits is few lent used within =
     let before : IsSound l c.state = subst (λ (m : Limits). IsSound m c.state) cl h.sound in
     let layout : IsLayoutSound l (layout_of (after l.full e brought c.state)) = subst (IsLayoutSound l) (sym (layout-after l.full e brought c.state)) (layout_kept l e (layout_of c.state) bounds before.layout legal few) in

@@ -103,17 +103,7 @@ verdict_free n d s dids = none_lent (transfers_in d s.records.queues) s.records.
 abbrev IsOwn : Limits → Directive → Type 0
 IsOwn l d = own_device l.number (device_named d) ≡ Ok tt
 
--- too many items are refused before all else
-pub plan_many : (l : Limits) (d : Directive) (s : State) (fault : Fault) → few_items d ≡ Err fault → plan_of l d s ≡ Err fault
-unfolding plan_of
-plan_many l d s fault few = rw few refl
-
--- then another device
-pub plan_elsewhere : (l : Limits) (d : Directive) (s : State) (fault : Fault) → few_items d ≡ Ok tt → own_device l.number (device_named d) ≡ Err fault → plan_of l d s ≡ Err fault
-unfolding plan_of
-plan_elsewhere l d s fault few other = rw (few, other) refl
-
--- then a region that is not open
+-- a region that is not open is refused first
 pub plan_closed : (l : Limits) (d : Directive) (s : State) (fault : Fault) → few_items d ≡ Ok tt → IsOwn l d → holdings_left d s.register ≡ Err fault → plan_of l d s ≡ Err fault
 unfolding plan_of directive_verdict
 plan_closed l d s fault few own left = rw (few, own, left) refl
@@ -156,7 +146,7 @@ planned l d s holdings xs (Ok x) asked same few known judged free = record {
   free = sym free;
 }
 
-pub ruleset event_laws = (plan_many, plan_closed, asked_left)
+pub ruleset event_laws = (plan_closed, asked_left)
 
 -- ---- what a region holds
 

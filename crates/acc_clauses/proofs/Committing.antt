@@ -1,5 +1,5 @@
 -- Before the tasks of a plan each that leaves a region finds what it held, and the register is ready for its directive.
--- After them the store is sound.
+-- After them the device is sound.
 use Rattle.std.proofs.Common.{ℕ, ◌≡◌, ◌<◌, ◌≤◌, ◌^◌, refl, sym, ◌∙◌, ap, subst, false, cond, List, [], ◌∷◌, map, length, Some, Ok, arith}
 use Rattle.std.specs.Prelude.{◌==◌, reverse, not}
 use Rattle.std.specs.List.{AllByRecursion}
@@ -30,7 +30,7 @@ use Rattle.acc_clauses.specs.Planned.{Planned, IsPlanOf, holdings_by, register_b
 use Rattle.acc_clauses.proofs.Emptying.{same_loans}
 use Rattle.acc_clauses.specs.Contents.{Contents}
 use Rattle.acc_clauses.specs.Acts.{IsKnown, AreKnown, HasRegionRoom, regions_entered, CanFinish}
-use Rattle.acc_clauses.specs.Stored.{IsHoldingWithin, AreHoldingsWithin, IsStoreSound}
+use Rattle.acc_clauses.specs.Stored.{IsHoldingWithin, AreHoldingsWithin, AreContentsSound}
 use Rattle.acc_clauses.proofs.Holding.{leaves_known, holdings_same}
 use Rattle.acc_clauses.proofs.Entering.{regions_within, entered_within}
 use Rattle.acc_clauses.proofs.Asking.{asked_with}
@@ -57,11 +57,11 @@ all_reverse : {X : Type 0} (P : X → Type 0) (xs : List X) → AllByRecursion P
 all_reverse P [] h = tt
 all_reverse P (x ∷ xs) h = subst (AllByRecursion P) (sym (reverse_onto xs x [])) (AllByRecursion-append P (reverse xs) (x ∷ []) (all_reverse P xs h.1) (h.0, tt))
 
-numbered_of : (c : Contents) → IsStoreSound c → IsNumbered c.state.register
+numbered_of : (c : Contents) → AreContentsSound c → IsNumbered c.state.register
 numbered_of c h = record { first = h.sound.layout.register.first; rising = h.sound.layout.register.rising; known = h.sound.layout.register.known }
 
 -- each task finds what it undoes that a directive asks
-known_with : (d : Directive) (holdings : List Holding) (dids : List Did) (c : Contents) → IsWithinBounds c.limits → IsStoreSound c → holdings_left d c.state.register ≡ Ok holdings → AreJudged c.limits 0 (tasks_with d holdings) dids c.state.records
+known_with : (d : Directive) (holdings : List Holding) (dids : List Did) (c : Contents) → IsWithinBounds c.limits → AreContentsSound c → holdings_left d c.state.register ≡ Ok holdings → AreJudged c.limits 0 (tasks_with d holdings) dids c.state.records
     → AreKnown (tasks_with d holdings) dids c.state.records
 known_with (directives.Enter device items) holdings dids c bounds h left judged = known_map enter_task items dids c.state.records (λ x v. tt)
 known_with (directives.Exit number) holdings dids c bounds h left judged =
@@ -77,7 +77,7 @@ known_with (directives.Update device items if_present queue) holdings dids c bou
 known_with _ holdings dids c bounds h left judged = known_map enter_task [] dids c.state.records (λ x v. tt)
 
 -- so does each task of a plan
-pub plan_known : (d : Directive) (c : Contents) (p : Planned) → IsWithinBounds c.limits → IsStoreSound c → IsPlanOf c.limits d c.state p → AreKnown p.tasks p.dids c.state.records
+pub plan_known : (d : Directive) (c : Contents) (p : Planned) → IsWithinBounds c.limits → AreContentsSound c → IsPlanOf c.limits d c.state p → AreKnown p.tasks p.dids c.state.records
 plan_known d c p bounds h planned = grind (arith, nat_tests, asked_with, planned_judged, known_with)
 
 -- ---- the register
@@ -90,7 +90,7 @@ free_then : (d : Directive) (c f : Contents) (p : Planned) → IsPlanOf c.limits
 free_then d c f p planned none acted = subst (λ (x : State). none_lent (transfers_in d x.records.queues) x.records.loans ≡ Ok tt) (sym (acted ∙ still c.limits d c.state p planned none)) planned.free
 
 -- the register is ready for a directive, and so are the transfers that it makes
-pub plan_can : (d : Directive) (c f : Contents) (p : Planned) → IsStoreSound c → IsPlanOf c.limits d c.state p → c.state.register.next < 2 ^ 48 → HasRegionRoom (regions_entered d) (length (holdings_by p.tasks p.dids)) c.room
+pub plan_can : (d : Directive) (c f : Contents) (p : Planned) → AreContentsSound c → IsPlanOf c.limits d c.state p → c.state.register.next < 2 ^ 48 → HasRegionRoom (regions_entered d) (length (holdings_by p.tasks p.dids)) c.room
     → f.state ≡ act_all_state p.tasks p.dids c.state → f.state.register ≡ c.state.register → c.room.regions ≤ f.room.regions → c.room.holdings ≤ f.room.holdings → CanFinish d (length (holdings_by p.tasks p.dids)) f
 plan_can (directives.Enter device items) c f p h planned next room acted same regions holdings = record {
   next = rw same next;
@@ -115,14 +115,14 @@ by_register : (P : Register → Type 0) (d : Directive) (holdings : List Holding
 by_register P d holdings g same enter exit = grind (arith, nat_tests)
 
 -- no region holds too much after a plan
-few_with_plan : (d : Directive) (c : Contents) (p : Planned) → IsStoreSound c → IsPlanOf c.limits d c.state p → AreFew (register_by d (holdings_by p.tasks p.dids) c.state.register)
+few_with_plan : (d : Directive) (c : Contents) (p : Planned) → AreContentsSound c → IsPlanOf c.limits d c.state p → AreFew (register_by d (holdings_by p.tasks p.dids) c.state.register)
 few_with_plan d c p h planned =
     let few : AreFew c.state.register = h.sound.layout.register.few in
     let short : length (holdings_by p.tasks p.dids) ≤ 64 = omega (arith, holdings_few p.tasks p.dids, planned.few) in
     by_register AreFew d (holdings_by p.tasks p.dids) c.state.register few (λ device items is. opened_few (holdings_by p.tasks p.dids) c.state.register (numbered_of c h) few short) (λ number. closed_few number c.state.register few)
 
 -- fewer blocks are lent than the number of the next loan
-few_lent : (d : Directive) (c : Contents) (p : Planned) → IsStoreSound c → length (finished d p (act_all_state p.tasks p.dids c.state)).records.loans < (finished d p (act_all_state p.tasks p.dids c.state)).register.serial
+few_lent : (d : Directive) (c : Contents) (p : Planned) → AreContentsSound c → length (finished d p (act_all_state p.tasks p.dids c.state)).records.loans < (finished d p (act_all_state p.tasks p.dids c.state)).register.serial
 few_lent d c p h =
     let s : State = act_all_state p.tasks p.dids c.state in
     let n : ℕ = length s.records.loans in
@@ -132,7 +132,7 @@ few_lent d c p h =
     rw (same_loans (steps_by d s.records.queues) s) after
 
 -- what open regions hold lies within after a plan
-within_after : (d : Directive) (c : Contents) (p : Planned) → IsWithinBounds c.limits → IsStoreSound c → IsPlanOf c.limits d c.state p
+within_after : (d : Directive) (c : Contents) (p : Planned) → IsWithinBounds c.limits → AreContentsSound c → IsPlanOf c.limits d c.state p
     → AreHoldingsWithin (act_all p.tasks p.dids c.state.records) (register_by d (holdings_by p.tasks p.dids) c.state.register).regions
 within_after d c p bounds h planned = by_register (λ x. AreHoldingsWithin v x.regions) d (holdings_by p.tasks p.dids) g kept
     (λ device items is. subst (λ rs. AreHoldingsWithin v rs) (sym (opened_regions (holdings_by p.tasks p.dids) g (numbered_of c h)))
@@ -166,19 +166,19 @@ within_drained : (qs : List ℕ) (w : Records) (regions : List Region) → AreHo
 within_drained qs w regions h = holdings_same w (records_drained qs w) regions (ranges-drained qs w) (births-drained qs w) h
 
 -- what open regions hold lies within once a plan is finished
-within_finished : (d : Directive) (c : Contents) (p : Planned) → IsWithinBounds c.limits → IsStoreSound c → IsPlanOf c.limits d c.state p
+within_finished : (d : Directive) (c : Contents) (p : Planned) → IsWithinBounds c.limits → AreContentsSound c → IsPlanOf c.limits d c.state p
     → AreHoldingsWithin (finished d p (act_all_state p.tasks p.dids c.state)).records (finished d p (act_all_state p.tasks p.dids c.state)).register.regions
 within_finished d c p bounds h planned = grind (arith, nat_tests, register-act_all_state, records-act_all_state, within_after, records-drained, within_drained)
 
--- ---- a store is sound after a plan
+-- ---- a device is sound after a plan
 
 -- one that is as before is
-pub same_sound : (c f : Contents) → f.limits ≡ c.limits → f.state ≡ c.state → IsStoreSound c → IsStoreSound f
+pub same_sound : (c f : Contents) → f.limits ≡ c.limits → f.state ≡ c.state → AreContentsSound c → AreContentsSound f
 same_sound c f limits state h = grind (arith, nat_tests)
 
 -- and so is one after the event of the plan
-made_sound : (d : Directive) (c f : Contents) (p : Planned) (e : Event) → IsWithinBounds c.limits → IsStoreSound c → IsPlanOf c.limits d c.state p → f.limits ≡ c.limits
-    → f.state ≡ finished d p (act_all_state p.tasks p.dids c.state) → used_bytes f.state.records.blocks ≤ f.limits.device → verdict_of 0 d c.state p.dids ≡ Makes e → IsStoreSound f
+made_sound : (d : Directive) (c f : Contents) (p : Planned) (e : Event) → IsWithinBounds c.limits → AreContentsSound c → IsPlanOf c.limits d c.state p → f.limits ≡ c.limits
+    → f.state ≡ finished d p (act_all_state p.tasks p.dids c.state) → used_bytes f.state.records.blocks ≤ f.limits.device → verdict_of 0 d c.state p.dids ≡ Makes e → AreContentsSound f
 made_sound d c f p e bounds h planned limits state used made =
     let l : Limits = c.limits in
     let is : IsEventOf d p c.state e = event_of_plan l 0 d c.state p e planned made in
@@ -189,10 +189,10 @@ made_sound d c f p e bounds h planned limits state used made =
     (subst (λ (m : Limits). used_bytes f.state.records.blocks ≤ m.device) limits used)
     (subst P (sym state) (within_finished d c p bounds h planned))
 
-pub plan_sound : (d : Directive) (c f : Contents) (p : Planned) → IsWithinBounds c.limits → IsStoreSound c → IsPlanOf c.limits d c.state p → f.limits ≡ c.limits
-    → f.state ≡ finished d p (act_all_state p.tasks p.dids c.state) → used_bytes f.state.records.blocks ≤ f.limits.device → IsStoreSound f
+pub plan_sound : (d : Directive) (c f : Contents) (p : Planned) → IsWithinBounds c.limits → AreContentsSound c → IsPlanOf c.limits d c.state p → f.limits ≡ c.limits
+    → f.state ≡ finished d p (act_all_state p.tasks p.dids c.state) → used_bytes f.state.records.blocks ≤ f.limits.device → AreContentsSound f
 plan_sound d c f p bounds h planned limits state used = go (verdict_of 0 d c.state p.dids) refl
   where
-    go : (v : Verdict) → verdict_of 0 d c.state p.dids ≡ v → IsStoreSound f
+    go : (v : Verdict) → verdict_of 0 d c.state p.dids ≡ v → AreContentsSound f
     go (Makes e) made = made_sound d c f p e bounds h planned limits state used made
     go Idle idle = same_sound c f limits (state ∙ idle_plan c.limits 0 d c.state p planned idle) h

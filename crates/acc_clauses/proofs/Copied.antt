@@ -2,14 +2,12 @@
 use Rattle.std.proofs.Common.{ℕ, ◌≡◌, ◌∙◌, sym, ap, subst, List, length, replicate}
 use Rattle.std.specs.List.{AllByRecursion}
 use Rattle.acc_base.specs.Limits.{Limits}
-use Rattle.acc_base.specs.Records.{State}
 use Rattle.acc_base.specs.Devices.{OneDevice}
 use Rattle.acc_dev.specs.Marks.{Mark}
 use Rattle.acc_present.specs.Present.{PresentTable}
 use Rattle.acc_clauses.specs.declared.environments.Environment.{Environment}
-use Rattle.acc_clauses.specs.Contents.{Contents, IsStateSound, IsMarkRight, bare_numbers}
+use Rattle.acc_clauses.specs.Contents.{IsStateSound, IsMarkRight, bare_numbers}
 use Rattle.acc_clauses.specs.Devices.{device_of, state_beside, IsSameEnvironment, IsDeviceSound}
-use Rattle.acc_clauses.specs.Stored.{IsStoreSound}
 
 pub same_device_of : (x y : Environment) → IsSameEnvironment x y → device_of y ≡ device_of x
 same_device_of x y h = λ i. record {
@@ -29,8 +27,3 @@ same_device_sound l x y lent h s =
           (subst (λ (d : OneDevice). AllByRecursion (IsMarkRight d.records.ranges d.records.queues) x.device.marks) (sym same) s.marked);
       lent = s.lent ∙ ap (λ (d : OneDevice). length d.records.loans) (sym same);
     }
-
-pub same_store_sound : (c d : Contents) → d.limits ≡ c.limits → d.state ≡ c.state → IsStoreSound c → IsStoreSound d
-same_store_sound c d limits state h =
-    subst (λ (l : Limits). IsStoreSound (record { limits = l; state = d.state; room = d.room })) (sym limits)
-    (subst (λ (s : State). IsStoreSound (record { limits = c.limits; state = s; room = d.room })) (sym state) (record { sound = h.sound; few = h.few; holdings = h.holdings }))

@@ -9,13 +9,12 @@ use Rattle.acc_base.specs.contracts.configs.Config as Config
 use Rattle.acc_clauses.specs.contracts.environments.Environment as Environment
 use Rattle.acc_clauses.specs.contracts.devices.DeviceData as DeviceData
 use Rattle.acc_clauses.specs.contracts.devices.DeviceData.TheInside as inside
-use Rattle.acc_clauses.specs.contracts.spares.Spare as Spare
-use Rattle.acc_clauses.specs.contracts.stores.Store as Store
+use Rattle.acc_clauses.specs.contracts.shared.Shared as Shared
 use Rattle.acc_clauses.specs.contracts.bases.Base as Base
 use Rattle.acc_clauses.specs.contracts.bases.DeviceBase as DeviceBase
 use Rattle.acc_clauses.specs.contracts.plans.Plan as Plan
 
--- ---- a store, and what one device has while another is in use
+-- ---- what one device has, and what all share
 
 environment_send : IsSend (Environment.the_field).row
 environment_send = search (sendable, crosses, device_send, present_send, attached_send, queues_send) depth 60 fits 100000
@@ -23,14 +22,11 @@ environment_send = search (sendable, crosses, device_send, present_send, attache
 pub config_send : IsSend Config.the_row
 config_send = search (sendable, crosses) depth 60 fits 100000
 
-device_data_send : IsSend DeviceData.the_row
+pub device_data_send : IsSend DeviceData.the_row
 device_data_send = view_send _ _ _ _ _ (recorded_send inside.the_field.row _ _ inside.the_type.to_one (struct_send (shape inside.the_type) (as_row_send Config.the_field config_send, (search (sendable, crosses) depth 20, (environment_send, (search (sendable, crosses) depth 20, tt))))))
 
-pub store_send : IsSend Store.the_row
-store_send = search (sendable, crosses, host_send, device_data_send) depth 60 fits 100000
-
-pub spare_send : IsSend Spare.the_row
-spare_send = search (sendable, crosses, device_data_send) depth 60 fits 100000
+pub shared_send : IsSend Shared.the_row
+shared_send = search (sendable, crosses, host_send) depth 60 fits 100000
 
 -- ---- what the devices of a table had, and a plan
 

@@ -1,4 +1,4 @@
--- A block is lent, and comes back: what the device needs for it, and what it leaves of the parts and of a store.
+-- A block is lent, and comes back: what the device needs for it, and what it leaves of the parts and of the whole.
 use Rattle.std.proofs.Common.{ℕ, ◌≡◌, ◌+◌, ◌-◌, ◌<◌, ◌≤◌, refl, sym, ◌∙◌, ap, subst, Bool, true, false, List, [], ◌∷◌, Option, Some, Ok, arith}
 use Rattle.std.specs.Prelude.{◌==◌, not, is_none, is_some, length}
 use Rattle.std.proofs.lemmas.Bool.Decides.{nat_tests}
@@ -28,7 +28,7 @@ use Rattle.acc_base.proofs.LegalEvents.{lend_legal, IsGathered, gather_legal}
 use Rattle.acc_dev.specs.Marks.{is_ended_at, IsMarkOf}
 use Rattle.acc_dev.specs.Device.{DeviceState, number_at, HasBlock, IsTakenOut, IsPutBack}
 use Rattle.acc_clauses.specs.Contents.{Numbers, WithHost, Contents, state_of, bare_numbers, bare_state, AreSizedBy, ArePartsSound}
-use Rattle.acc_clauses.specs.Stored.{IsStoreSound, AreHoldingsWithin}
+use Rattle.acc_clauses.specs.Stored.{AreContentsSound, AreHoldingsWithin}
 use Rattle.acc_clauses.specs.Lending.{IsLoanPlanned, lent_state, gathered_state}
 use Rattle.acc_clauses.proofs.Changes.{state_from_parts}
 use Rattle.acc_clauses.proofs.Standing.{told_by_mark}
@@ -155,7 +155,7 @@ gathered_parts l x n d lease parts fits back =
       lent = ap (λ k. k - 1) parts.lent ∙ (sym (length-without lease.block x.device.loans parts.sound.records.loans.rising (returnable_lent l.full l.number lease s fits)) ∙ ap length (sym back.loans));
     }
 
--- ---- the store
+-- ---- beside what all devices share
 
 -- what a planned loan says: it is legal, its block is not lent, and its section lies in the range of the block
 pub record IsLendable (l : Limits) (region : ℕ) (section : Section) (s : State) (loan : Loan) : Type 0 where
@@ -178,15 +178,15 @@ pub gathered_after : (full : Bool) (lease : Leased) (s : State) → gathered_sta
 unfolding after loaned drained act_all_state
 gathered_after full lease s = refl
 
-pub lent_store : (region : ℕ) (section : Section) (c f : Contents) (loan : Loan) → IsWithinBounds c.limits → IsStoreSound c → IsLoanPlanned c.limits region section c.state loan → f.limits ≡ c.limits → f.state ≡ lent_state c.limits.full loan c.state → IsStoreSound f
-lent_store region section c f loan bounds h p limits is =
+pub lent_sound : (region : ℕ) (section : Section) (c f : Contents) (loan : Loan) → IsWithinBounds c.limits → AreContentsSound c → IsLoanPlanned c.limits region section c.state loan → f.limits ≡ c.limits → f.state ≡ lent_state c.limits.full loan c.state → AreContentsSound f
+lent_sound region section c f loan bounds h p limits is =
     let says : IsLendable c.limits region section c.state loan = planned_says c.limits region section c.state loan h.sound.layout.records p in
     event_sound c.limits (Lent c.limits.number region section loan.block loan.serial) [] c f bounds refl limits h says.legal tt (is ∙ lent_after c.limits.full c.limits.number region section loan c.state p.loan_is) h.sound.layout.register.few (subst (λ (t : State). length t.records.loans < t.register.serial) (sym is) (omega (arith, length-with loan c.state.records.loans, h.few)))
     (subst (λ (t : State). used_bytes t.records.blocks ≤ c.limits.device) (sym is) h.sound.bytes_accounted)
     (subst (λ (t : State). AreHoldingsWithin t.records t.register.regions) (sym is) (holdings_same c.state.records (lent_state c.limits.full loan c.state).records c.state.register.regions refl refl h.holdings))
 
-pub gathered_store : (c f : Contents) (lease : Leased) → IsWithinBounds c.limits → IsStoreSound c → gather_event c.limits lease c.state ≡ Ok (gathered c.limits.full lease) → f.limits ≡ c.limits → f.state ≡ gathered_state lease c.state → IsStoreSound f
-gathered_store c f lease bounds h fits limits is =
+pub gathered_sound : (c f : Contents) (lease : Leased) → IsWithinBounds c.limits → AreContentsSound c → gather_event c.limits lease c.state ≡ Ok (gathered c.limits.full lease) → f.limits ≡ c.limits → f.state ≡ gathered_state lease c.state → AreContentsSound f
+gathered_sound c f lease bounds h fits limits is =
     let says : IsGathered c.limits lease c.state (gathered c.limits.full lease) = gather_legal c.limits lease c.state (gathered c.limits.full lease) h.sound.layout.records fits in
     event_sound c.limits (gathered c.limits.full lease) lease.bytes c f bounds refl limits h says.legal says.fits (is ∙ gathered_after c.limits.full lease c.state) h.sound.layout.register.few (subst (λ (t : State). length t.records.loans < t.register.serial) (sym is) (omega (arith, length-without_most lease.block c.state.records.loans, h.few)))
     (subst (λ (t : State). used_bytes t.records.blocks ≤ c.limits.device) (sym is) h.sound.bytes_accounted)

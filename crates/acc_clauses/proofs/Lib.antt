@@ -35,7 +35,7 @@ mod Doing
 mod Remaining
 mod Holding
 mod Entering
-pub mod Spared
+pub mod Beside
 mod AfterPlan
 mod Committing
 pub mod AimsCounted

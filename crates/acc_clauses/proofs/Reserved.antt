@@ -10,7 +10,7 @@ use Rattle.acc_present.specs.Queued.{spare_at}
 use Rattle.acc_clauses.specs.Planned.{Planned, holdings_by, IsPlanOf}
 use Rattle.acc_clauses.specs.Overlays.{is_queue, puts_in}
 use Rattle.acc_clauses.specs.Contents.{Contents, Room}
-use Rattle.acc_clauses.specs.Stored.{IsStoreSound}
+use Rattle.acc_clauses.specs.Stored.{AreContentsSound}
 use Rattle.acc_clauses.proofs.Asking.{asked_fit}
 use Rattle.acc_clauses.specs.Acts.{lens_born, pointers_in, HasRoomFor, HasPutRoom, HasRegionRoom, HasPlanRoom, regions_entered}
 
@@ -29,17 +29,17 @@ none_in q queue [] (d ∷ ds) h other = refl
 none_in q queue (t ∷ ts) [] h other = refl
 none_in q queue (t ∷ ts) (d ∷ ds) h other = grind (arith, nat_tests, none_in q queue ts ds h.1 other)
 
-planned_queue : (d : Directive) (c : Contents) (p : Planned) → IsStoreSound c → IsPlanOf c.limits d c.state p → AreOfQueue (queue_in d) p.tasks
+planned_queue : (d : Directive) (c : Contents) (p : Planned) → AreContentsSound c → IsPlanOf c.limits d c.state p → AreOfQueue (queue_in d) p.tasks
 planned_queue d c p h planned = (asked_fit d c.state.register p.tasks h.sound.layout.register.few planned.asked).queues
 
 -- ---- room in the queues
 
 -- a directive that names no queue puts nothing
-pub none_room : (d : Directive) (c : Contents) (p : Planned) (room : Room) → IsStoreSound c → IsPlanOf c.limits d c.state p → queue_in d ≡ None → HasPutRoom (λ q. puts_in q p.tasks p.dids) room
+pub none_room : (d : Directive) (c : Contents) (p : Planned) (room : Room) → AreContentsSound c → IsPlanOf c.limits d c.state p → queue_in d ≡ None → HasPutRoom (λ q. puts_in q p.tasks p.dids) room
 none_room d c p room h planned none = grind (arith, nat_tests, none_in, planned_queue)
 
 -- one that names a queue puts into that one alone
-pub one_room : (d : Directive) (c : Contents) (p : Planned) (named : ℕ) (room : Room) → IsStoreSound c → IsPlanOf c.limits d c.state p → queue_in d ≡ Some named → puts_in named p.tasks p.dids ≤ spare_at named room.puts
+pub one_room : (d : Directive) (c : Contents) (p : Planned) (named : ℕ) (room : Room) → AreContentsSound c → IsPlanOf c.limits d c.state p → queue_in d ≡ Some named → puts_in named p.tasks p.dids ≤ spare_at named room.puts
     → HasPutRoom (λ q. puts_in q p.tasks p.dids) room
 one_room d c p named room h planned is enough = grind (arith, nat_tests, none_in, planned_queue)
 

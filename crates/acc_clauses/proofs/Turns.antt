@@ -13,7 +13,6 @@ use Rattle.acc_base.proofs.Walked.{records-act_all_state}
 use Rattle.acc_base.proofs.Legality.{IsJudgedItem, item_judged}
 use Rattle.acc_clauses.specs.declared.acted.Acted.{Acted}
 use Rattle.acc_clauses.specs.Overlays.{IsPlanned, AreUnmixed, tasks_in, dids_in, records_after, state_after}
-use Rattle.std.specs.Prelude.{reverse}
 use Rattle.acc_clauses.specs.Planned.{IsJudgedNext}
 use Rattle.acc_clauses.proofs.Laws.{unmixed_front}
 
@@ -103,9 +102,3 @@ asked_turn i xs ys x tasks d within item more so = grind (arith, nat_tests, drop
 -- one task more is done
 pub few_turn : (i : ℕ) (xs ys : List Acted) (x : Acted) → ys ≡ xs ++ x ∷ [] → length xs ≡ i → length ys ≡ i + 1
 few_turn i xs ys x more few = rw more (omega (arith, length-append xs (x ∷ []), few))
-
--- one alone stands where it stood
-pub reverse_few : (dids : List Did) → length dids ≤ 1 → reverse dids ≡ dids
-reverse_few [] few = refl
-reverse_few (d ∷ []) few = refl
-reverse_few (d ∷ e ∷ ds) few = absurd (omega (arith, few))

@@ -1,10 +1,11 @@
--- What contracts see of a store: the limits, the state, and the room for more. And what holds of the parts of a device.
+-- What contracts see of a device beside what all devices share: the limits, the state, and the room for more. And what
+-- holds of its parts.
 use Rattle.std.specs.Prelude.{ℕ, ◌≡◌, List, is_none, length}
 use Rattle.std.specs.List.{AllByRecursion}
 use Rattle.acc_clauses.specs.Words.{Range, Transfer}
 use Rattle.acc_base.specs.Limits.{Limits, IsWithinBounds}
 use Rattle.acc_base.specs.Section.{device_memory}
-use Rattle.acc_base.specs.Records.{State, new_state}
+use Rattle.acc_base.specs.Records.{State}
 use Rattle.acc_base.specs.Ranges.{range_of}
 use Rattle.acc_base.specs.Queues.{pins_of}
 use Rattle.acc_base.specs.Accounts.{AreRecordsSound, AreMemoriesSized}
@@ -98,8 +99,3 @@ pub record ArePartsSound (l : Limits) (x : WithHost) (n : ℕ) : Type 0 where
   pub sound : IsStateSound l (bare_state x)
   pub marked : AreMarked x
   pub lent : n ≡ length x.device.loans
-
--- nothing is mapped, no region is open, and host memory is zero
-pub record AreNew (l : Limits) (c : Contents) : Type 0 where
-  pub limits : c.limits ≡ l
-  pub state : c.state ≡ new_state l.host

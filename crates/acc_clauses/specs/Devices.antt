@@ -1,12 +1,11 @@
 -- What contracts see of one device, and what holds of every device beside host memory.
-use Rattle.std.specs.Prelude.{ℕ, ◌≡◌, List, [], replicate}
+use Rattle.std.specs.Prelude.{ℕ, ◌≡◌, ◌≤◌, List, [], length, replicate}
 use Rattle.acc_base.specs.Limits.{Limits}
 use Rattle.acc_base.specs.Records.{State}
 use Rattle.acc_base.specs.Devices.{OneDevice, new_device}
 use Rattle.acc_dev.specs.Device.{IsUnchanged}
 use Rattle.acc_clauses.specs.declared.environments.Environment.{Environment}
 use Rattle.acc_clauses.specs.Contents.{Contents, Numbers, Room, beside, room_of, AreSizedBy, ArePartsSound}
-use Rattle.acc_clauses.specs.Stored.{IsStoreSound}
 
 -- the limits of a device, what it has, and the room for more
 pub record DeviceContents : Type 0 where
@@ -62,19 +61,22 @@ contents_beside x host n = record { limits = x.limits; state = state_beside x.de
 abbrev pub device_in_view : State → OneDevice
 device_in_view s = record { records = s.records; regions = s.register.regions; memories = s.memories }
 
--- ---- while another device is in use
+-- ---- beside what all devices share
 
--- what contracts see of a device that stands apart: its limits, what it has, and the numbers when it was set apart
-pub record Parked : Type 0 where
-  pub limits : Limits
-  pub device : OneDevice
-  pub next : ℕ
-  pub serial : ℕ
+-- the bytes of host memory, and the numbers of the next region and the next loan
+pub record SharedContents : Type 0 where
+  pub host : List ℕ
+  pub numbers : Numbers
 
--- beside any host memory of the size, the store would be sound
-abbrev pub IsSpareSound : DeviceContents → Numbers → Type 0
-IsSpareSound x n = IsStoreSound (contents_beside x (replicate x.limits.host 0) n)
+-- what devices of a new table share, where host memory has so many bytes
+abbrev pub new_shared : ℕ → SharedContents
+new_shared size = record { host = replicate size 0; numbers = record { region = 1; serial = 1 } }
 
--- the device beside host memory and the numbers that a state has
-abbrev pub in_use : OneDevice → State → State
-in_use x s = record { records = x.records; register = record { regions = x.regions; next = s.register.next; serial = s.register.serial }; host = s.host; memories = x.memories }
+abbrev pub contents_with : DeviceContents → SharedContents → Contents
+contents_with x s = contents_beside x s.host s.numbers
+
+-- host memory has as many bytes as before, and no number has fallen
+pub record HaveRisen (s t : SharedContents) : Type 0 where
+  pub host : length t.host ≡ length s.host
+  pub region : s.numbers.region ≤ t.numbers.region
+  pub serial : s.numbers.serial ≤ t.numbers.serial

@@ -1,4 +1,4 @@
--- What holds of every store.
+-- What holds of every device beside what all devices share.
 use Rattle.std.specs.Prelude.{ℕ, ◌≡◌, ◌<◌, ◌≤◌, true, List, Some, length}
 use Rattle.std.specs.List.{AllByRecursion}
 use Rattle.acc_clauses.specs.Words.{Section, Range, Holding}
@@ -24,7 +24,7 @@ AreHoldingsWithin w regions = AllByRecursion (λ (r : Region). AllByRecursion (I
 
 -- the state is sound, and what open regions hold lies in the ranges that they counted. Fewer blocks are lent than the
 -- number of the next loan
-pub record IsStoreSound (c : Contents) : Type 0 where
+pub record AreContentsSound (c : Contents) : Type 0 where
   pub sound : IsSound c.limits c.state
   pub few : length c.state.records.loans < c.state.register.serial
   pub holdings : AreHoldingsWithin c.state.records c.state.register.regions

@@ -1,16 +1,16 @@
 //! What a step changes. Nothing is judged here, nothing is allocated, and nothing is refused.
 
-ghost use Rattle.std.specs.Prelude.{◌≡◌, ◌++◌, ◌∷◌, ◌<◌, ◌≤◌, [], ℕ, IsSome, Some, true, false, length};
-ghost use Rattle.acc_base.specs.Ranges.{range_of, start_of, counter_of, changed_at, risen};
+ghost use Rattle.std.specs.Prelude.{◌≡◌, ◌∷◌, ◌<◌, ◌≤◌, [], ℕ, Some, true, false};
+ghost use Rattle.acc_base.specs.Ranges.{changed_at};
 ghost use Rattle.acc_base.specs.Loans.{is_lent};
 ghost use Rattle.acc_base.specs.Tasks.{section_of, recounted};
 ghost use Rattle.acc_base.specs.Clauses.{is_attach, section_named, copies_in};
 ghost use Rattle.acc_base.specs.declared.tasks.Task.TheVariants.{Enter};
 ghost use Rattle.acc_base.specs.declared.events.Step.TheVariants.{Born, Dropped, Moved};
-ghost use Rattle.acc_present.specs.Present.{HasRange, with_ranges, IsRoomKept};
+ghost use Rattle.acc_present.specs.Present.{with_ranges, IsRoomKept};
 ghost use Rattle.acc_clauses.specs.Contents.{AreMarked, beside, room_of, bare_state};
 ghost use Rattle.acc_clauses.specs.Overlays.{puts_by};
-ghost use Rattle.acc_clauses.specs.Acts.{CanAct, CanCount, CanBear, CanMove, CanDrop, HasRoomFor, IsRoomLeft, IsActedBy, CanMake, IsBlockMade, is_copied_now, birth_of, CanDo, IsDoneBy, pointers_of, CanPut, CanQueue, CanNeed, HasPutRoom, IsFilledLater, IsGivenBy};
+ghost use Rattle.acc_clauses.specs.Acts.{CanAct, CanCount, CanBear, CanMove, CanDrop, HasRoomFor, IsActedBy, CanMake, IsBlockMade, is_copied_now, birth_of, CanDo, IsDoneBy, pointers_of, CanPut, CanQueue, CanNeed, HasPutRoom, IsFilledLater, IsGivenBy};
 
 use crate::acted::Acted;
 use crate::environments::Environment;

@@ -19,7 +19,8 @@ ghost use Rattle.acc_present.specs.Queued.{spare_at};
 ghost use Rattle.acc_base.specs.Judge.{leased};
 ghost use Rattle.acc_base.specs.Accounts.{AreRecordsSound, IsLoanSound};
 ghost use Rattle.acc_clauses.specs.Contents.{Numbers};
-ghost use Rattle.acc_clauses.specs.Devices.{state_beside};
+ghost use Rattle.acc_clauses.specs.Stored.{AreContentsSound};
+ghost use Rattle.acc_clauses.specs.Devices.{state_beside, contents_with, new_shared};
 ghost use Rattle.acc_clauses.specs.Overlays.{puts_by, tasks_in, dids_in};
 ghost use Rattle.acc_clauses.specs.Planned.{holdings_by};
 ghost use Rattle.acc_clauses.specs.Lending.{lent_state, gathered_state};
@@ -29,6 +30,7 @@ use crate::acted::Acted;
 use crate::acting::act_on;
 use crate::environments::Environment;
 use crate::notes::note_holdings;
+use crate::shared::Shared;
 use crate::transfers::step;
 use crate::views::View;
 use acc_base::{Config, Fault, Loan};
@@ -41,13 +43,24 @@ use std::marker::Model;
 /// What one device has, with its limits and its number. Its parts fit one another, whatever bytes host memory has.
 ///
 /// Contracts see the limits, what the device has, and the room that was made for more.
-#[derive(Drop)]
-pub(crate) struct DeviceData {
+pub struct DeviceData {
     config: Config,
     number: u64,
     environment: Environment,
     // How many blocks are lent.
     lent: u64,
+}
+
+// By hand, so that a crate above does not prove the drops of its parts again.
+impl Drop for DeviceData {
+    fn drop(self) {
+        let DeviceData {
+            config: _,
+            number: _,
+            environment: _,
+            lent: _,
+        } = self;
+    }
 }
 
 impl Model for DeviceData {
@@ -81,10 +94,11 @@ impl DeviceData {
     /// # Errors
     ///
     /// [`Fault::Memory`] alone.
-    pub(crate) fn new(alloc: Global, config: &Config, number: u64) -> Result<DeviceData, Fault>
+    pub fn new(alloc: Global, config: &Config, number: u64) -> Result<DeviceData, Fault>
         requires { number < config.now.devices }
         ensures limits { IfOk result (λ x. x.limits ≡ limits_on number config.now) }
         ensures device { IfOk result (λ x. x.device ≡ new_device) }
+        ensures sound { IfOk result (λ x. AreContentsSound (contents_with x (new_shared config.now.host))) }
         ensures only { IfErr result (λ fault. fault ≡ Memory) }
     {
         config.laws();
@@ -97,25 +111,34 @@ impl DeviceData {
         })
     }
 
-    /// The device beside host memory and the numbers of the next region and the next loan, to look at.
-    pub(crate) fn view<'a>(
-        &'a self,
-        host: &'a HostMem,
-        next_region: u64,
-        next_serial: u64,
-    ) -> View<'a>
-        requires { length host.now ≡ self.now.limits.host }
-        ensures { result ≡ record { limits = self.now.limits; state = state_beside self.now.device host.now (record { region = next_region; serial = next_serial }) } }
+    /// What a directive sees of the device, beside what all devices share.
+    pub fn view<'a>(&'a self, shared: &'a Shared) -> View<'a>
+        requires { length shared.now.host ≡ self.now.limits.host }
+        ensures { result ≡ record { limits = self.now.limits; state = (contents_with self.now shared.now).state } }
     {
         View {
             config: &self.config,
             number: self.number,
             environment: &self.environment,
-            host,
-            next_region,
-            next_serial,
+            host: &shared.host,
+            next_region: shared.next_region,
+            next_serial: shared.next_serial,
             lent: self.lent,
         }
+    }
+
+    /// The number of the device. A lease of another is refused by [`DeviceData::check_lease`].
+    pub fn number(&self) -> u64
+        ensures { result ≡ self.now.limits.number }
+    {
+        self.number
+    }
+
+    /// How many transfers wait in a queue.
+    pub(crate) fn queue_len(&self, q: u64) -> u64
+        ensures { result ≡ length (queue_at q self.now.device.records.queues) }
+    {
+        self.environment.queues.len(q)
     }
 
     /// The records are sound, and the limits lie within their bounds. The blocks and the holes between them are the
@@ -177,7 +200,7 @@ impl DeviceData {
     ///
     /// [`Fault::Memory`] alone, where some of that room was missing. The bytes of a birth are always made anew. None
     /// are kept where it is refused.
-    pub(crate) fn reserve(
+    pub(crate) fn reserve_parts(
         &mut self,
         lens: &[u64],
         regions: u64,
@@ -260,7 +283,7 @@ impl DeviceData {
     /// # Errors
     ///
     /// [`Fault::Memory`], and with full traces alone. Nothing changed.
-    pub(crate) fn lend(&mut self, loan: Loan) -> Result<Lease, Fault>
+    pub(crate) fn take_out(&mut self, loan: Loan) -> Result<Lease, Fault>
         requires free { is_lent loan.block self.old.device.records.loans ≡ false }
         requires sound { IsLoanSound self.old.device.records.ranges loan }
         requires few { length self.old.device.records.loans < 2 ^ 48 }
@@ -282,7 +305,7 @@ impl DeviceData {
     }
 
     /// Moves the bytes of a lease back into its block. It allocates nothing and is never refused.
-    pub(crate) fn gather(&mut self, lease: Lease)
+    pub(crate) fn put_back(&mut self, lease: Lease)
         requires { is_returnable self.old.limits.full self.old.limits.number lease self.old.device.records.blocks self.old.device.records.loans self.old.device.memories ≡ true }
         ensures limits { self.new.limits ≡ self.old.limits }
         ensures room { self.new.room ≡ self.old.room }

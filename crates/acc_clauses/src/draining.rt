@@ -19,7 +19,7 @@ fn drain_queue(device: &mut DeviceData, host: &mut HostMem, q: u64)
     ensures host { length host.new ≡ length host.old }
     ensures state { (n : Numbers) → state_beside device.new.device host.new n ≡ drained (replicate (length (queue_at q device.old.device.records.queues)) q) (state_beside device.old.device host.old n) }
 {
-    let count = device.view(host, 0, 0).queue_len(q);
+    let count = device.queue_len(q);
     for _ in 0..count {
         device.step(host, q);
     }

@@ -1,6 +1,6 @@
 //! What a directive does beside its tasks.
 
-ghost use Rattle.std.specs.Prelude.{ℕ, ◌≡◌, length};
+ghost use Rattle.std.specs.Prelude.{ℕ, ◌≡◌, ◌≤◌, length};
 ghost use Rattle.acc_clauses.specs.Planned.{finished, holdings_by};
 ghost use Rattle.acc_clauses.specs.Devices.{state_beside, contents_beside};
 ghost use Rattle.acc_clauses.specs.Acts.{CanFinish};
@@ -23,6 +23,8 @@ pub(crate) fn finish(
     requires host { length host.old ≡ device.old.limits.host }
     requires can { (serial : ℕ) × CanFinish directive.now (length (holdings_by plan.now.tasks plan.now.dids)) (contents_beside device.old host.old (record { region = next_region.old; serial = serial })) }
     ensures limits { device.new.limits ≡ device.old.limits }
+    ensures host { length host.new ≡ length host.old }
+    ensures rises { next_region.old ≤ next_region.new }
     ensures state { (serial : ℕ) → state_beside device.new.device host.new (record { region = next_region.new; serial = serial }) ≡ finished directive.now plan.now (state_beside device.old.device host.old (record { region = next_region.old; serial = serial })) }
 {
     match directive {

@@ -1,13 +1,13 @@
 //! The clause tables: what a task does after those that were judged before it, or why it is refused.
 
-ghost use Rattle.std.specs.Prelude.{ℕ, ◌≡◌, ◌+◌, ◌++◌, ◌∷◌, [], ◌<◌, ◌≤◌, ◌^◌, ◌&&◌, not, Option, Ok, Err, Some, IfSome, MatchResult, true};
+ghost use Rattle.std.specs.Prelude.{ℕ, ◌≡◌, ◌+◌, ◌++◌, ◌∷◌, [], ◌<◌, ◌^◌, ◌&&◌, not, Option, Ok, Err, Some, IfSome, MatchResult, true};
 ghost use Rattle.std.specs.List.{list_all};
 ghost use Rattle.acc_base.specs.declared.addresses.TheConstants.{MEMORY_MAX};
-ghost use Rattle.acc_base.specs.Limits.{IsFromOne};
-ghost use Rattle.acc_base.specs.Ranges.{where_is, range_of, ends_by};
+ghost use Rattle.acc_base.specs.Limits.{Limits, IsFromOne};
+ghost use Rattle.acc_base.specs.Ranges.{where_is, range_of};
 ghost use Rattle.acc_base.specs.Records.{Records};
-ghost use Rattle.acc_base.specs.Clauses.{in_host, pointer_checked, born, enter_absent, counted, enter_row, leave_row, exit_row, move_row};
-ghost use Rattle.acc_base.specs.Tasks.{section_of, queue_of, recounted, checked};
+ghost use Rattle.acc_base.specs.Clauses.{in_host, pointer_checked, born, enter_absent, counted};
+ghost use Rattle.acc_base.specs.Tasks.{section_of, queue_of, checked};
 ghost use Rattle.acc_base.specs.Detaching.{block_aimed};
 ghost use Rattle.acc_clauses.specs.Aims.{step_free};
 ghost use Rattle.acc_base.specs.Steps.{block_needed, judge_row};
@@ -30,18 +30,29 @@ use acc_base::{
 use acc_placement::rounded;
 use acc_present::{Located, Place};
 
-/// A section that is not empty lies in host memory. Nothing of an empty one is checked.
-pub(crate) fn in_host(view: &View<'_>, n: u64, section: Section) -> Result<(), Fault>
-    ensures { result ≡ in_host view.now.limits n section }
+/// A section that is not empty lies in host memory of so many bytes. Nothing of an empty one is checked.
+///
+/// # Errors
+///
+/// [`Fault::OutOfHost`] with the place of the item, where some address of the section is outside.
+pub fn check_host(size: u64, n: u64, section: Section) -> Result<(), Fault>
+    ensures { (l : Limits) → l.host ≡ size → result ≡ in_host l n section }
 {
     let host = Section {
         start: HOST_BASE,
-        len: view.host_size(),
+        len: size,
     };
     if section.len != 0 && !section.is_within(host) {
         return Err(Fault::OutOfHost { item: n });
     }
     Ok(())
+}
+
+/// A section that is not empty lies in host memory.
+pub(crate) fn in_host(view: &View<'_>, n: u64, section: Section) -> Result<(), Fault>
+    ensures { result ≡ in_host view.now.limits n section }
+{
+    check_host(view.host_size(), n, section)
 }
 
 // The eight bytes of an item's pointer, if it names one, lie in host memory, from a multiple of eight on.

@@ -122,7 +122,7 @@ fn judge_all(
 /// How many items a directive may name.
 const ITEM_LIMIT: usize = 64;
 
-/// The directive names no more items than it may. [`crate::Store::plan`] refuses this before all else.
+/// The directive names no more items than it may, as [`crate::DeviceData::plan`] requires.
 ///
 /// # Errors
 ///
@@ -153,19 +153,6 @@ pub fn device_named(directive: &Directive) -> Option<u64>
         Directive::Wait { device, .. } => Some(*device),
         Directive::Step { device, .. } => Some(*device),
     }
-}
-
-// The directive names no other device than that of the view.
-fn check_device(view: &View<'_>, directive: &Directive) -> Result<(), Fault>
-    ensures { result ≡ own_device view.now.limits.number (device_named directive.now) }
-{
-    let Some(device) = device_named(directive) else {
-        return Ok(());
-    };
-    if device != view.number() {
-        return Err(Fault::NoDevice { device });
-    }
-    Ok(())
 }
 
 // What the region holds that a directive leaves, which undoes it.
@@ -215,12 +202,11 @@ fn check_queue(queue: Option<u64>) -> Result<(), Fault>
     }
 }
 
-/// Judges a directive whole for the device that is seen: its first refusal, or what each of its items will do. It
-/// allocates nothing, and nothing that is seen changes.
+/// Judges a directive whole for the device that is seen: its first refusal, or what each of its items will do. It names
+/// no other device, and no more items than it may. It allocates nothing, and nothing that is seen changes.
 ///
 /// # Errors
 ///
-/// [`Fault::TooManyItems`] above 64 items. [`Fault::NoDevice`] where the directive names another device.
 /// [`Fault::NoRegion`] where the region that is left is not open. [`Fault::NoQueue`] where there is no queue of the
 /// number that it names. Else the first refusal of an item, with its place in the directive, counted from 0. This is
 /// [`Fault::OutOfHost`], [`Fault::Misaligned`], [`Fault::PartlyPresent`], [`Fault::NotPresent`],
@@ -228,13 +214,13 @@ fn check_queue(queue: Option<u64>) -> Result<(), Fault>
 /// or a step it is [`Fault::Lent`] at the first transfer whose block is lent.
 #[tactic(auto, using(crate::proofs::Asking::event_laws))]
 pub(crate) fn plan(view: &View<'_>, directive: &Directive, plan: &mut Plan) -> Result<(), Fault>
+    requires items { few_items directive.now ≡ Ok tt }
+    requires own { own_device view.now.limits.number (device_named directive.now) ≡ Ok tt }
     requires births { view.now.state.records.births < 2 ^ 48 }
     requires register { AllByRecursion HasFewHoldings view.now.state.register.regions }
     ensures judged { let s = view.now.state in MatchResult result (λ _. plan_of view.now.limits directive.now s ≡ Ok (verdict_of view.now.limits.number directive.now s plan.new.dids)) (λ fault. plan_of view.now.limits directive.now s ≡ Err fault) }
     ensures planned { OnOk result (IsPlanOf view.now.limits directive.now view.now.state plan.new) }
 {
-    check_items(directive)?;
-    check_device(view, directive)?;
     let holdings = holdings_left(view, directive)?;
     check_queue(queue_in(directive))?;
     judge_all(view, directive, holdings, &mut plan.draft)?;

@@ -33,7 +33,7 @@ impl Model for Plan {
 }
 
 impl Plan {
-    /// A plan of nothing, to be filled by [`crate::Store::plan`]. It allocates nothing.
+    /// A plan of nothing, to be filled by [`crate::DeviceData::plan`]. It allocates nothing.
     pub fn new() -> Self
         ensures { result ≡ record { tasks = []; dids = [] } }
     {

@@ -1,7 +1,7 @@
 //! What attaching and detaching a pointer changes. Nothing is judged here, nothing is allocated, and nothing is
 //! refused.
 
-ghost use Rattle.std.specs.Prelude.{ℕ, List, [], ◌≡◌, ◌-◌, ◌≤◌, length, slice_index};
+ghost use Rattle.std.specs.Prelude.{ℕ, List, [], ◌≡◌, ◌-◌, ◌≤◌, slice_index};
 ghost use Rattle.std.specs.Int.{w64, to_le_bytes};
 ghost use Rattle.acc_base.specs.declared.attachments.Aim.TheVariants.{Less};
 ghost use Rattle.acc_base.specs.Bytes.{host_byte};

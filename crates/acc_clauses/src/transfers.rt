@@ -1,10 +1,9 @@
 //! Transfers between host memory and a block, made at once or put into a queue (OpenACC 3.3, sections 2.7 and 2.16).
 
-ghost use Rattle.std.specs.Prelude.{ℕ, List, [], ◌≡◌, ◌-◌, ◌≤◌, Some};
+ghost use Rattle.std.specs.Prelude.{ℕ, List, [], ◌≡◌, ◌-◌, Some};
 ghost use Rattle.acc_base.specs.Ranges.{start_of};
-ghost use Rattle.acc_base.specs.Queues.{put as put_at};
 ghost use Rattle.acc_base.specs.Bytes.{host_made, memories_made};
-ghost use Rattle.acc_base.specs.Transfers.{transfer_at, at_once, queues_after};
+ghost use Rattle.acc_base.specs.Transfers.{transfer_at};
 ghost use Rattle.acc_base.specs.Waits.{stepped};
 ghost use Rattle.acc_present.specs.Present.{HasRange};
 ghost use Rattle.acc_clauses.specs.Contents.{AreMarked, beside, bare_state};

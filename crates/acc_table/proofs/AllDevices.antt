@@ -1,6 +1,6 @@
 -- One device after the other: their bases, their open regions, and the one on which a region is open.
 use Rattle.std.proofs.Common.{ℕ, ◌≡◌, ◌+◌, ◌<◌, ◌≤◌, refl, sym, ◌∙◌, ap, Bool, true, false, List, [], ◌∷◌, ◌++◌, append_assoc, length, drop, Option, Some, None, cond, arith}
-use Rattle.std.specs.Prelude.{map, nat_lt, slice_index_or, is_some, sum_by, unwrap_or, max, ◌==◌, IfSome, IfNone}
+use Rattle.std.specs.Prelude.{map, nat_lt, slice_index_or, is_some, sum_by, unwrap_or, max, IfSome, IfNone}
 use Rattle.std.specs.List.{position_or_len}
 use Rattle.std.proofs.lemmas.Bool.Decides.{nat_tests}
 use Rattle.std.proofs.lemmas.List.{drop_more, length-map, append-nil}
@@ -11,53 +11,35 @@ use Rattle.acc_base.specs.Records.{State}
 use Rattle.acc_base.specs.Calls.{Base, base_of}
 use Rattle.acc_base.specs.Register.{region_at, newest_region}
 use Rattle.acc_base.specs.Devices.{OneDevice, Whole, view, device_at, new_device, open_regions, device_of_region, recorded_device}
-use Rattle.acc_base.proofs.Results.{equal, differ}
 use Rattle.acc_base.proofs.Views.{device_beyond}
-use Rattle.acc_clauses.specs.Devices.{Seen, Parked, device_in_view, in_use}
+use Rattle.acc_clauses.specs.Devices.{Seen, DeviceContents, contents_with}
 use Rattle.acc_table.specs.declared.devices.Devices.{Devices}
-use Rattle.acc_table.specs.Devices.{device_or, whole_of, AreSet}
+use Rattle.acc_table.specs.Devices.{own, whole_of, AreSet}
 use Rattle.acc_table.specs.Queries.{later, newest_of}
-use Rattle.acc_table.proofs.DeviceLists.{view_used, device_apart}
-use Rattle.acc_table.proofs.Selecting.{is_apart}
+use Rattle.acc_table.proofs.DeviceLists.{view_used}
 
 -- there are as many devices as places
-pub devices_count : (x : Devices) → length (whole_of x).devices ≡ length x.spares.items
-devices_count x = length-map x.spares.items (device_or (device_in_view x.store.state))
+pub devices_count : (x : Devices) → length (whole_of x).devices ≡ length x.each.items
+devices_count x = length-map x.each.items own
 
 -- ---- the view of one
 
--- one that stands apart, and the one in use
-pub seen_apart : (l : Limits) (x : Devices) (d : ℕ) (p : Parked) (v : Seen) → AreSet l x → slice_index_or x.spares.items d None ≡ Some p → v ≡ record { limits = p.limits; state = in_use p.device x.store.state } → v ≡ record { limits = limits_on d l; state = view d (whole_of x) }
-seen_apart l x d p v set at is =
-    let limits : p.limits ≡ limits_on d l = (set.apart d p at).limits in
-    let device : p.device ≡ device_at d (whole_of x).devices = sym (device_apart (device_in_view x.store.state) d x.spares.items p at) in
-    is ∙ (ap (λ (m : Limits). let v : Seen = record { limits = m; state = in_use p.device x.store.state } in v) limits ∙ ap (λ (y : OneDevice). let v : Seen = record { limits = limits_on d l; state = in_use y x.store.state } in v) device)
-
--- all have host memory of one size
-pub apart_size : (l : Limits) (x : Devices) (d : ℕ) (p : Parked) → AreSet l x → slice_index_or x.spares.items d None ≡ Some p → p.limits.host ≡ x.store.limits.host
-apart_size l x d p set at = ap (λ (m : Limits). m.host) (set.apart d p at).limits ∙ sym (ap (λ (m : Limits). m.host) set.used)
-
-pub seen_used : (l : Limits) (x : Devices) (d : ℕ) (v : Seen) → AreSet l x → d < length x.spares.items → slice_index_or x.spares.items d None ≡ None → v ≡ record { limits = x.store.limits; state = x.store.state } → v ≡ record { limits = limits_on d l; state = view d (whole_of x) }
-seen_used l x d v set there at is = go (d == x.current) refl
-  where
-    go : (b : Bool) → (d == x.current) ≡ b → v ≡ record { limits = limits_on d l; state = view d (whole_of x) }
-    go true same =
-        let n : d ≡ x.current = equal d x.current same in
-        let state : x.store.state ≡ view d (whole_of x) = sym (ap (λ m. view m (whole_of x)) n ∙ view_used x.current x.spares.items x.store.state set.only) in
-        let limits : x.store.limits ≡ limits_on d l = set.used ∙ ap (λ m. limits_on m l) (sym n) in
-        is ∙ (ap (λ (m : Limits). let v : Seen = record { limits = m; state = x.store.state } in v) limits ∙ ap (λ (s : State). let v : Seen = record { limits = limits_on d l; state = s } in v) state)
-    go false other = absurd (is_apart l x d set there (differ d x.current other) at)
+pub seen_there : (l : Limits) (x : Devices) (d : ℕ) (y : DeviceContents) (v : Seen) → AreSet l x → d < length x.each.items → y ≡ slice_index_or x.each.items d y → v ≡ record { limits = y.limits; state = (contents_with y x.shared).state } → v ≡ record { limits = limits_on d l; state = view d (whole_of x) }
+seen_there l x d y v set there at is =
+    let limits : y.limits ≡ limits_on d l = ap (λ (z : DeviceContents). z.limits) at ∙ (set.each d y there).limits in
+    let state : (contents_with y x.shared).state ≡ view d (whole_of x) = sym (view_used d x.each.items y x.shared there at) in
+    is ∙ (ap (λ (m : Limits). let v : Seen = record { limits = m; state = (contents_with y x.shared).state } in v) limits ∙ ap (λ (s : State). let v : Seen = record { limits = limits_on d l; state = s } in v) state)
 
 -- what is there is seen by the limits of the devices
 pub seen_some : (l : Limits) (x : Devices) (d : ℕ) (r : Option Seen) → AreSet l x → IfSome r (λ v. (m : Limits) → AreSet m x → v ≡ record { limits = limits_on d m; state = view d (whole_of x) }) → IfSome r (λ v. v ≡ record { limits = limits_on d l; state = view d (whole_of x) })
 seen_some l x d (Some v) set h = h l set
 seen_some l x d None set h = tt
 
-pub seen_known : (l : Limits) (x : Devices) (d : ℕ) (r : Option Seen) → AreSet l x → IfSome r (λ _. d < length x.spares.items) → IfSome r (λ _. d < l.devices)
+pub seen_known : (l : Limits) (x : Devices) (d : ℕ) (r : Option Seen) → AreSet l x → IfSome r (λ _. d < length x.each.items) → IfSome r (λ _. d < l.devices)
 seen_known l x d (Some v) set h = omega (arith, h, set.count)
 seen_known l x d None set h = tt
 
-pub seen_none : (l : Limits) (x : Devices) (d : ℕ) (r : Option Seen) → AreSet l x → IfNone r (length x.spares.items ≤ d) → IfNone r (device_at d (whole_of x).devices ≡ new_device)
+pub seen_none : (l : Limits) (x : Devices) (d : ℕ) (r : Option Seen) → AreSet l x → IfNone r (length x.each.items ≤ d) → IfNone r (device_at d (whole_of x).devices ≡ new_device)
 seen_none l x d (Some v) set h = tt
 seen_none l x d None set h = device_beyond d (whole_of x).devices (omega (arith, h, devices_count x))
 

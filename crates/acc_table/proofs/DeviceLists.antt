@@ -1,110 +1,63 @@
--- The devices of a table as one list: which stands where after the one in use changes, and after another is put in use.
-use Rattle.std.proofs.Common.{ℕ, zero, suc, ◌≡◌, ◌<◌, refl, ap, List, [], ◌∷◌, length, Option, Some, None, arith}
-use Rattle.std.specs.Prelude.{map, slice_index_or, slice_set, IsSome}
-use Rattle.std.specs.List.{AllByRecursion}
-use Rattle.acc_base.specs.Records.{State}
-use Rattle.acc_base.specs.Devices.{OneDevice, Whole, device_at, view, with_view}
-use Rattle.acc_clauses.specs.Devices.{Parked, device_in_view}
-use Rattle.acc_table.specs.Devices.{device_or, whole_with, IsOnlyNone}
+-- The devices of a table as one list: what one of them has, and what a change of it leaves of all.
+use Rattle.std.proofs.Common.{ℕ, zero, suc, ◌≡◌, ◌<◌, refl, sym, ◌∙◌, ap, subst, List, [], ◌∷◌, length, arith, inl, inr, length-set}
+use Rattle.std.specs.Prelude.{map, slice_index_or, slice_set}
+use Rattle.std.specs.List.{AllZip}
+use Rattle.std.proofs.lemmas.List.{length-map, get_or-map, map-set, get_or-set_same, get_or-set_other}
+use Rattle.std.proofs.lemmas.Bool.{cases_eq}
+use Rattle.acc_base.specs.Limits.{Limits}
+use Rattle.acc_base.specs.Devices.{OneDevice, Whole, device_at, new_device, view, with_view}
+use Rattle.acc_clauses.specs.Devices.{DeviceContents, SharedContents, HaveRisen, state_beside, contents_with}
+use Rattle.acc_clauses.proofs.Beside.{sound_beside}
+use Rattle.acc_table.specs.Devices.{own, whole_with, IsDeviceOf, AreDevicesFrom}
 
--- ---- the one in use
+-- ---- one of them
 
-pub used_there : (n : ℕ) (xs : List (Option Parked)) → IsOnlyNone n xs → n < length xs
-used_there n [] h = absurd h
-used_there zero (x ∷ xs) h = omega arith
-used_there (suc n) (x ∷ xs) h = let later : n < length xs = used_there n xs h.1 in omega arith
+pub device_used : (n : ℕ) (xs : List DeviceContents) (y : DeviceContents) → n < length xs → y ≡ slice_index_or xs n y → device_at n (map own xs) ≡ y.device
+device_used n xs y there is = get_or-map own xs n y new_device there ∙ ap own (sym is)
 
-pub device_used : (y : OneDevice) (n : ℕ) (xs : List (Option Parked)) → IsOnlyNone n xs → device_at n (map (device_or y) xs) ≡ y
-device_used y n [] h = absurd h
-device_used y zero (x ∷ xs) h = ap (device_or y) h.0
-device_used y (suc n) (x ∷ xs) h = device_used y n xs h.1
+-- its view is its state beside what all share
+pub view_used : (n : ℕ) (xs : List DeviceContents) (y : DeviceContents) (s : SharedContents) → n < length xs → y ≡ slice_index_or xs n y → view n (whole_with xs s) ≡ (contents_with y s).state
+view_used n xs y s there is = ap (λ (x : OneDevice). state_beside x s.host s.numbers) (device_used n xs y there is)
 
--- its view is the state of the store
-pub view_used : (n : ℕ) (xs : List (Option Parked)) (s : State) → IsOnlyNone n xs → view n (whole_with xs s) ≡ s
-view_used n xs s h = ap (λ (x : OneDevice). record { records = x.records; register = record { regions = x.regions; next = s.register.next; serial = s.register.serial }; host = s.host; memories = x.memories }) (device_used (device_in_view s) n xs h)
+-- ---- after a change
 
-all_apart : (y z : OneDevice) (xs : List (Option Parked)) → AllByRecursion (λ p. IsSome p) xs → map (device_or y) xs ≡ map (device_or z) xs
-all_apart y z [] h = refl
-all_apart y z (None ∷ xs) h = cc
-all_apart y z (Some p ∷ xs) h = ap (λ ds. p.device ∷ ds) (all_apart y z xs h.1)
-
-devices_put : (y z : OneDevice) (n : ℕ) (xs : List (Option Parked)) → IsOnlyNone n xs → map (device_or z) xs ≡ slice_set (map (device_or y) xs) n z
-devices_put y z n [] h = absurd h
-devices_put y z zero (None ∷ xs) h = ap (λ ds. z ∷ ds) (all_apart z y xs h.1)
-devices_put y z zero (Some p ∷ xs) h = cc
-devices_put y z (suc n) (None ∷ xs) h = cc
-devices_put y z (suc n) (Some p ∷ xs) h = ap (λ ds. p.device ∷ ds) (devices_put y z n xs h.1)
-
--- another state of the store is that view of the whole put back
-pub whole_put : (n : ℕ) (xs : List (Option Parked)) (s t : State) → IsOnlyNone n xs → whole_with xs t ≡ with_view n t (whole_with xs s)
-whole_put n xs s t h = ap (λ (ds : List OneDevice). let w : Whole = record { devices = ds; next = t.register.next; serial = t.register.serial; host = t.host } in w) (devices_put (device_in_view s) (device_in_view t) n xs h)
-
--- ---- another one
-
-pub device_apart : (y : OneDevice) (d : ℕ) (xs : List (Option Parked)) (p : Parked) → slice_index_or xs d None ≡ Some p → device_at d (map (device_or y) xs) ≡ p.device
-device_apart y d [] p e = cc
-device_apart y zero (x ∷ xs) p e = ap (device_or y) e
-device_apart y (suc d) (x ∷ xs) p e = device_apart y d xs p e
-
-some_apart : (d : ℕ) (xs : List (Option Parked)) → AllByRecursion (λ p. IsSome p) xs → d < length xs → IsSome (slice_index_or xs d None)
-some_apart d [] h there = absurd (omega (arith, there))
-some_apart zero (x ∷ xs) h there = h.0
-some_apart (suc d) (x ∷ xs) h there = some_apart d xs h.1 (omega (arith, there))
-
--- each that is there and not in use stands apart
-pub other_apart : (n d : ℕ) (xs : List (Option Parked)) → IsOnlyNone n xs → (d ≡ n → ⊥) → d < length xs → IsSome (slice_index_or xs d None)
-other_apart n d [] h other there = absurd h
-other_apart zero zero (x ∷ xs) h other there = absurd (other refl)
-other_apart zero (suc d) (x ∷ xs) h other there = some_apart d xs h.1 (omega (arith, there))
-other_apart (suc n) zero (x ∷ xs) h other there = h.0
-other_apart (suc n) (suc d) (x ∷ xs) h other there = other_apart n d xs h.1 (λ same. other (ap suc same)) (omega (arith, there))
-
--- ---- another one is put in use
-
--- it is taken out of its place, and the one that was in use is put into its own
-abbrev pub moved : ℕ → ℕ → Parked → List (Option Parked) → List (Option Parked)
-moved n d q xs = slice_set (slice_set xs d None) n (Some q)
-
-some_but : (d : ℕ) (xs : List (Option Parked)) → AllByRecursion (λ p. IsSome p) xs → d < length xs → IsOnlyNone d (slice_set xs d None)
-some_but d [] h there = absurd (omega (arith, there))
-some_but zero (x ∷ xs) h there = (refl, h.1)
-some_but (suc d) (x ∷ xs) h there = (h.0, some_but d xs h.1 (omega (arith, there)))
-
-all_put : (n : ℕ) (q : Parked) (xs : List (Option Parked)) → IsOnlyNone n xs → AllByRecursion (λ p. IsSome p) (slice_set xs n (Some q))
-all_put n q [] h = absurd h
-all_put zero q (x ∷ xs) h = (refl, h.1)
-all_put (suc n) q (x ∷ xs) h = (h.0, all_put n q xs h.1)
-
-pub only_moved : (n d : ℕ) (q : Parked) (xs : List (Option Parked)) → IsOnlyNone n xs → (d ≡ n → ⊥) → d < length xs → IsOnlyNone d (moved n d q xs)
-only_moved n d q [] h other there = absurd h
-only_moved zero zero q (x ∷ xs) h other there = absurd (other refl)
-only_moved zero (suc d) q (x ∷ xs) h other there = (refl, some_but d xs h.1 (omega (arith, there)))
-only_moved (suc n) zero q (x ∷ xs) h other there = (refl, all_put n q xs h.1)
-only_moved (suc n) (suc d) q (x ∷ xs) h other there = (h.0, only_moved n d q xs h.1 (λ same. other (ap suc same)) (omega (arith, there)))
-
-apart_but : (y : OneDevice) (d : ℕ) (xs : List (Option Parked)) (p : Parked) → AllByRecursion (λ o. IsSome o) xs → slice_index_or xs d None ≡ Some p → map (device_or p.device) (slice_set xs d None) ≡ map (device_or y) xs
-apart_but y d [] p h e = cc
-apart_but y zero (x ∷ xs) p h e = let same : device_or y x ≡ p.device = ap (device_or y) e in rw (same, all_apart p.device y xs h.1) refl
-apart_but y (suc d) (None ∷ xs) p h e = cc
-apart_but y (suc d) (Some o ∷ xs) p h e = ap (λ ds. o.device ∷ ds) (apart_but y d xs p h.1 e)
-
-apart_put : (y z : OneDevice) (n : ℕ) (xs : List (Option Parked)) (q : Parked) → IsOnlyNone n xs → q.device ≡ y → map (device_or z) (slice_set xs n (Some q)) ≡ map (device_or y) xs
-apart_put y z n [] q h e = absurd h
-apart_put y z zero (x ∷ xs) q h e = let same : device_or y x ≡ y = ap (device_or y) h.0 in rw (same, e, all_apart z y xs h.1) refl
-apart_put y z (suc n) (None ∷ xs) q h e = cc
-apart_put y z (suc n) (Some o ∷ xs) q h e = ap (λ ds. o.device ∷ ds) (apart_put y z n xs q h.1 e)
-
--- and no device has other than before
-pub devices_moved : (y : OneDevice) (n d : ℕ) (xs : List (Option Parked)) (p q : Parked) → IsOnlyNone n xs → slice_index_or xs d None ≡ Some p → q.device ≡ y → map (device_or p.device) (moved n d q xs) ≡ map (device_or y) xs
-devices_moved y n d [] p q h e f = cc
-devices_moved y zero zero (x ∷ xs) p q h e f = absurd (let none : x ≡ None = h.0 in let some : x ≡ Some p = e in cc)
-devices_moved y zero (suc d) (x ∷ xs) p q h e f = let same : device_or y x ≡ y = ap (device_or y) h.0 in rw (same, f, apart_but y d xs p h.1 e) refl
-devices_moved y (suc n) zero (x ∷ xs) p q h e f = let same : device_or y x ≡ p.device = ap (device_or y) e in rw (same, apart_put y p.device n xs q h.1 f) refl
-devices_moved y (suc n) (suc d) (None ∷ xs) p q h e f = cc
-devices_moved y (suc n) (suc d) (Some o ∷ xs) p q h e f = ap (λ ds. o.device ∷ ds) (devices_moved y n d xs p q h.1 e f)
+-- another in its place is that view of the whole put back
+pub whole_put : (n : ℕ) (xs : List DeviceContents) (z : DeviceContents) (s t : SharedContents) → whole_with (slice_set xs n z) t ≡ with_view n (contents_with z t).state (whole_with xs s)
+whole_put n xs z s t = ap (λ (ds : List OneDevice). let w : Whole = record { devices = ds; next = t.numbers.region; serial = t.numbers.serial; host = t.host } in w) (map-set own xs n z)
 
 -- what a device has, put where it stands, changes nothing
 pub set_own : (n : ℕ) (ds : List OneDevice) → slice_set ds n (device_at n ds) ≡ ds
 set_own n [] = refl
 set_own zero (x ∷ ds) = refl
 set_own (suc n) (x ∷ ds) = ap (λ rest. x ∷ rest) (set_own n ds)
+
+-- each is sound beside what all share later
+pub devices_later : (l : Limits) (s t : SharedContents) (xs : List DeviceContents) → HaveRisen s t → AreDevicesFrom l s xs → AreDevicesFrom l t xs
+devices_later l s t xs risen h = λ d x there. let old : IsDeviceOf l d s (slice_index_or xs d x) = h d x there in record { limits = old.limits; sound = sound_beside (slice_index_or xs d x) s t risen old.sound }
+
+-- and so they are with another in the place of one
+pub devices_put : (l : Limits) (s t : SharedContents) (xs : List DeviceContents) (n : ℕ) (z : DeviceContents) → HaveRisen s t → n < length xs → IsDeviceOf l n t z → AreDevicesFrom l s xs → AreDevicesFrom l t (slice_set xs n z)
+devices_put l s t xs n z risen there is h = λ d x within. elim (cases_eq d n) [
+  | inl same ↦ subst (λ k. IsDeviceOf l k t (slice_index_or (slice_set xs n z) k x)) (sym same) (subst (λ y. IsDeviceOf l n t y) (sym (get_or-set_same xs n z x there)) is)
+  | inr other ↦ subst (λ y. IsDeviceOf l d t y) (sym (get_or-set_other xs n d z x other)) (devices_later l s t xs risen h d x (omega (arith, within, length-set xs n z)))
+]
+
+-- ---- copies
+
+-- copies have the same, but for room
+abbrev pub AreCopied : List DeviceContents → List DeviceContents → Type 0
+AreCopied = AllZip (λ (x y : DeviceContents). (y.limits ≡ x.limits) × (y.device ≡ x.device))
+
+pub copied_own : (xs ys : List DeviceContents) → AreCopied xs ys → map own ys ≡ map own xs
+copied_own [] [] h = refl
+copied_own (x ∷ xs) (y ∷ ys) h = let rest : map own ys ≡ map own xs = copied_own xs ys h.1 in rw (h.0.1, rest) refl
+copied_own _ _ h = absurd h
+
+pub copied_each : (P : ℕ → Limits → OneDevice → Type 0) (xs ys : List DeviceContents) → AreCopied xs ys → ((d : ℕ) (x : DeviceContents) → d < length xs → P d (slice_index_or xs d x).limits (slice_index_or xs d x).device) → (d : ℕ) (y : DeviceContents) → d < length ys → P d (slice_index_or ys d y).limits (slice_index_or ys d y).device
+copied_each P [] [] h each d y there = absurd (omega (arith, there))
+copied_each P (x ∷ xs) (y ∷ ys) h each zero z there = rw (h.0.0, h.0.1) (each zero x (omega arith))
+copied_each P (x ∷ xs) (y ∷ ys) h each (suc d) z there = copied_each (λ k. P (suc k)) xs ys h.1 (λ k v within. each (suc k) v (omega (arith, within))) d z (omega (arith, there))
+copied_each P _ _ h each d y there = absurd h
+
+pub copied_count : (xs ys : List DeviceContents) → AreCopied xs ys → length ys ≡ length xs
+copied_count xs ys h = sym (length-map ys own) ∙ (ap length (copied_own xs ys h) ∙ length-map xs own)

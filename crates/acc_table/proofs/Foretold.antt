@@ -1,4 +1,4 @@
--- A directive that is judged on its device, which is the one in use, and not carried out.
+-- A directive that is judged on its device, and not carried out.
 use Rattle.std.proofs.Common.{ℕ, ◌≡◌, ◌∙◌, inl, inr, refl, sym, ap, List, [], ◌∷◌, Option, Some, None, Result, Ok, Err}
 use Rattle.std.specs.Prelude.{⊤, MatchResult, IfOk, IfErr}
 use Rattle.acc_clauses.specs.Words.{Directive, Task, Did, Transfer, Event, Fault}
@@ -17,7 +17,8 @@ use Rattle.acc_clauses.specs.Planned.{Planned, IsPlanOf, in_written_order}
 use Rattle.acc_table.specs.declared.devices.Devices.{Devices}
 use Rattle.acc_table.specs.Making.{admitted}
 use Rattle.acc_table.specs.Foreseen.{test_of, dids_of, AreForeseen}
-use Rattle.acc_table.proofs.InUse.{AreDevicesOf, in_view}
+use Rattle.acc_clauses.specs.Devices.{DeviceContents, contents_with}
+use Rattle.acc_table.proofs.InUse.{AreDevicesOf, IsUsed, in_view}
 use Rattle.acc_table.proofs.Verdicts.{planned_on, judge_directive, judged_plan}
 
 -- what is refused before the items are judged
@@ -28,11 +29,11 @@ judged_before w d fault e = judge_directive w d ∙ rw e refl
 abbrev pub IsJudgedTo : Result Verdict Fault → Verdict → Result ⊤ Fault → Type 0
 IsJudgedTo judged verdict r = MatchResult r (λ _. judged ≡ Ok verdict) (λ fault. judged ≡ Err fault)
 
--- so is a directive that is planned in the store of its device
-pub directive_judged : {l : Limits} {base : Base} {x : Devices} {trace : List Event} {w : World} → AreDevicesOf l base x trace w → (d : Directive) (dids : List Did) (r : Result ⊤ Fault) → x.current ≡ device_for d w.state → admitted w d ≡ Ok tt
-    → IsJudgedTo (plan_of x.store.limits d x.store.state) (verdict_of x.store.limits.number d x.store.state dids) r
+-- so is a directive that is planned for its device
+pub directive_judged : {l : Limits} {base : Base} {x : Devices} {trace : List Event} {w : World} {n : ℕ} {y : DeviceContents} → AreDevicesOf l base x trace w → IsUsed x n y → (d : Directive) (dids : List Did) (r : Result ⊤ Fault) → n ≡ device_for d w.state → admitted w d ≡ Ok tt
+    → IsJudgedTo (plan_of y.limits d (contents_with y x.shared).state) (verdict_of y.limits.number d (contents_with y x.shared).state dids) r
     → IsJudgedTo (judge w (Do d)) (verdict_of (device_for d w.state) d (view (device_for d w.state) w.state) dids) r
-directive_judged {w = w} t d dids r on ok h = go r (in_view t n (λ m s. IsJudgedTo (plan_of m d s) (verdict_of m.number d s dids) r) on h)
+directive_judged {w = w} t u d dids r on ok h = go r (in_view t u n (λ m s. IsJudgedTo (plan_of m d s) (verdict_of m.number d s dids) r) on h)
   where
     n : ℕ
     n = device_for d w.state

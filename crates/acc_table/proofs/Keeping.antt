@@ -1,31 +1,31 @@
 -- Each accepted call keeps what a table keeps.
-use Rattle.std.proofs.Common.{ℕ, zero, suc, replicate, ◌≡◌, ◌+◌, ◌*◌, ◌≤◌, refl, sym, ◌∙◌, ap, subst, Bool, true, false, List, [], ◌∷◌, ◌++◌, length, Result, Ok, Err, arith, length-append}
+use Rattle.std.proofs.Common.{ℕ, zero, suc, replicate, ◌≡◌, ◌+◌, ◌*◌, ◌<◌, ◌≤◌, refl, sym, ◌∙◌, ap, subst, Bool, true, false, List, [], ◌∷◌, ◌++◌, length, Result, Ok, Err, arith, length-append, length-set}
 use Rattle.std.specs.Prelude.{◌==◌, slice_index_or, IfOk, OnOk, OnErr}
 use Rattle.acc_clauses.specs.Words.{Section, Fault, Directive, Call, Task, Did, Event}
 use Rattle.acc_base.specs.declared.calls.Call.TheVariants.{Do, HostWrite}
 use Rattle.acc_base.specs.Loans.{Leased}
-use Rattle.acc_base.specs.declared.events.Event.TheVariants.{Entered, Left, Lent}
-use Rattle.acc_base.specs.Limits.{Limits, IsWithinBounds}
+use Rattle.acc_base.specs.declared.events.Event.TheVariants.{Entered}
+use Rattle.acc_base.specs.Limits.{Limits, IsWithinBounds, limits_on}
 use Rattle.acc_base.specs.Records.{Records, Layout, State, layout_of}
-use Rattle.acc_base.specs.Register.{Register}
 use Rattle.acc_base.specs.Devices.{Whole, view, with_view, device_in, new_whole, new_device}
 use Rattle.acc_base.specs.Steps.{act, act_all}
 use Rattle.acc_base.specs.Waits.{records_drained}
-use Rattle.acc_base.specs.Walk.{walk, asked_in, done_in, stepped_in, loaned, register_after}
+use Rattle.acc_base.specs.Walk.{walk, asked_in, done_in, stepped_in, loaned}
 use Rattle.acc_base.specs.Acting.{after}
 use Rattle.acc_base.specs.Calls.{Base, World, base_of, event_count, judge, device_for, world_after, bytes_brought, new_world, rebased}
 use Rattle.acc_base.specs.Judge.{Verdict, Makes, Idle, plan_of, written}
 use Rattle.acc_base.specs.Bytes.{host_after_write}
 use Rattle.acc_base.proofs.SameMapping.{mapping-act}
 use Rattle.acc_base.proofs.Walked.{layout-after}
-use Rattle.acc_base.proofs.Accounted.{accepted_accounted, new_accounted, rebased_accounted, sound_on, register-after}
+use Rattle.acc_base.proofs.Accounted.{accepted_accounted, new_accounted, rebased_accounted, sound_on}
 use Rattle.acc_base.proofs.Accepted.{IsAccepted, accepted}
 use Rattle.acc_base.proofs.Results.{equal, differ}
 use Rattle.acc_base.proofs.Views.{view-own, view-other}
 use Rattle.acc_base.proofs.Births.{births_most, births-drained}
-use Rattle.acc_clauses.specs.Contents.{Contents}
+use Rattle.acc_clauses.specs.Stored.{AreContentsSound}
+use Rattle.acc_clauses.specs.Devices.{DeviceContents, SharedContents, HaveRisen, contents_with}
 use Rattle.acc_table.specs.declared.devices.Devices.{Devices}
-use Rattle.acc_table.specs.Devices.{whole_of, IsParkedFor, AreSet}
+use Rattle.acc_table.specs.Devices.{whole_of, AreSet}
 use Rattle.acc_clauses.specs.Planned.{Planned, IsPlanOf}
 use Rattle.acc_clauses.proofs.Events.{planned_asked}
 use Rattle.acc_table.specs.declared.calls.Reply.{Reply}
@@ -34,7 +34,8 @@ use Rattle.acc_table.specs.Calls.{IsDone}
 use Rattle.acc_table.specs.Tables.{IsTableSound, world_of}
 use Rattle.acc_clauses.specs.Acts.{CanWrite}
 use Rattle.acc_table.specs.Making.{admitted, write_admitted, planned_verdict, IsMadeInto, IsCommitted, IsAsBefore}
-use Rattle.acc_table.proofs.InUse.{with_store, world_in, AreDevicesOf, seen_in, event_made, unchanged}
+use Rattle.acc_table.proofs.DeviceLists.{devices_put, devices_later}
+use Rattle.acc_table.proofs.InUse.{with_device, world_in, AreDevicesOf, IsUsed, device_used, seen_in, event_made, unchanged}
 use Rattle.acc_table.proofs.Verdicts.{told_on, made_done, directive_done, directive_judged, write_made, judged_write, can_write}
 
 -- ---- births, of which a directive has at most 64
@@ -75,37 +76,26 @@ unfolding walk
 walk_serials (Entered device number items did) lay = omega arith
 walk_serials _ lay = omega arith
 
--- ---- the numbers of the next region and the next loan, which rise
-
-rises : (e : Event) (g : Register) → (g.next ≤ (register_after e g).next) × (g.serial ≤ (register_after e g).serial)
-rises (Entered device number items did) g = (omega arith, omega arith)
-rises (Left device number did) g = (omega arith, omega arith)
-rises (Lent device region section block serial) g = (omega arith, omega arith)
-rises _ g = (omega arith, omega arith)
-
 -- ---- the devices
 
--- they stay set after a change of the one in use in which the numbers rise
-pub set_after : (l : Limits) (x : Devices) (new : Contents) → AreSet l x → new.limits ≡ x.store.limits → x.store.state.register.next ≤ new.state.register.next → x.store.state.register.serial ≤ new.state.register.serial → AreSet l (with_store x new)
-set_after l x new set limits next serial = record {
-  count = set.count;
-  only = set.only;
-  used = limits ∙ set.used;
-  apart = λ d p is. let old : IsParkedFor l d x.store.state p = set.apart d p is in record { limits = old.limits; next = omega (arith, old.next); serial = omega (arith, old.serial) };
+-- what a call leaves of a device and of what all share: it is sound, and nothing has fallen
+pub record IsLeft (old new : SharedContents) (z : DeviceContents) : Type 0 where
+  pub sound : AreContentsSound (contents_with z new)
+  pub risen : HaveRisen old new
+
+pub risen_none : (s : SharedContents) → HaveRisen s s
+risen_none s = record { host = refl; region = omega arith; serial = omega arith }
+
+-- they stay set with another in the place of one
+pub set_put : (l : Limits) (x : Devices) (n : ℕ) (z : DeviceContents) (s : SharedContents) → AreSet l x → n < length x.each.items → z.limits ≡ limits_on n l → IsLeft x.shared s z → AreSet l (with_device x n z s)
+set_put l x n z s set there limits left = record {
+  count = length-set x.each.items n z ∙ set.count;
+  each = devices_put l x.shared s x.each.items n z left.risen there (record { limits = limits; sound = left.sound }) set.each;
 }
 
-pub set_made : (l : Limits) (x : Devices) (new : Contents) (e : Event) (call : Call Leased) (reply : Reply) (trace longer : List Event) → AreSet l x → IsMadeInto e (bytes_brought call) reply x.store new trace longer → AreSet l (with_store x new)
-set_made l x new e call reply trace longer set m =
-    let is : new.state.register ≡ register_after e x.store.state.register = ap (λ (s : State). s.register) m.state ∙ register-after x.store.limits.full e (bytes_brought call) x.store.state in
-    let up = rises e x.store.state.register in
-    set_after l x new set m.limits (subst (λ (g : Register). x.store.state.register.next ≤ g.next) (sym is) up.0) (subst (λ (g : Register). x.store.state.register.serial ≤ g.serial) (sym is) up.1)
-
-pub set_same : (l : Limits) (x : Devices) (new : Contents) (trace same : List Event) → AreSet l x → IsAsBefore x.store new trace same → AreSet l (with_store x new)
-set_same l x new trace same set h = set_after l x new set h.limits (subst (λ (s : State). x.store.state.register.next ≤ s.register.next) (sym h.state) (omega arith)) (subst (λ (s : State). x.store.state.register.serial ≤ s.register.serial) (sym h.state) (omega arith))
-
--- so they do after a write of host memory
-pub set_written : (l : Limits) (x : Devices) (new : Contents) (host : List ℕ) → AreSet l x → new.limits ≡ x.store.limits → new.state ≡ record x.store.state { host = host } → AreSet l (with_store x new)
-set_written l x new host set limits state = set_after l x new set limits (subst (λ (s : State). x.store.state.register.next ≤ s.register.next) (sym state) (omega arith)) (subst (λ (s : State). x.store.state.register.serial ≤ s.register.serial) (sym state) (omega arith))
+-- and with what they share later
+pub set_later : (l : Limits) (x : Devices) (s : SharedContents) → AreSet l x → HaveRisen x.shared s → AreSet l (record { shared = s; each = x.each })
+set_later l x s set risen = record { count = set.count; each = devices_later l x.shared s x.each.items risen set.each }
 
 -- ---- a call
 
@@ -187,59 +177,62 @@ rebased_kept w k = record { bounds = k.bounds; accounted = rebased_accounted w k
 pub kept_rebased : (l : Limits) (base new : Base) (x : Devices) (trace : List Event) → IsTableSound (world_in l base x trace) → new ≡ base_of l.full (whole_of x) (event_count (world_in l base x trace).history) → IsTableSound (world_in l new x [])
 kept_rebased l base new x trace k is = subst (λ b. IsTableSound (world_in l b x [])) (sym is) (rebased_kept (world_in l base x trace) k)
 
--- ---- a table, whichever device is in use
+-- ---- a table, whichever device is used
 
-module _ {l : Limits} {base : Base} {x : Devices} {trace : List Event} {w : World} (t : AreDevicesOf l base x trace w) where
+module _ {l : Limits} {base : Base} {x : Devices} {trace : List Event} {w : World} (t : AreDevicesOf l base x trace w) {n : ℕ} {y : DeviceContents} (u : IsUsed x n y) {z : DeviceContents} {s : SharedContents} (left : IsLeft x.shared s z) where
   -- what the devices and a trace keep that were made into those after an event
-  pub kept_called : (new : Contents) (call : Call Leased) (e : Event) (reply : Reply) (longer : List Event) → device_in e ≡ x.current → IsTableSound (world_after call e w) → IsMadeInto e (bytes_brought call) reply x.store new trace longer → IsTableSound (world_in l base (with_store x new) longer) × AreSet l (with_store x new)
-  kept_called new call e reply longer on k m = (subst (λ v. IsTableSound v) (sym (event_made t new call e reply longer on m)) k, set_made l x new e call reply trace longer t.set m)
+  pub kept_called : (call : Call Leased) (e : Event) (reply : Reply) (longer : List Event) → device_in e ≡ n → IsTableSound (world_after call e w) → IsMadeInto e (bytes_brought call) reply (contents_with y x.shared) (contents_with z s) trace longer → IsTableSound (world_in l base (with_device x n z s) longer) × AreSet l (with_device x n z s)
+  kept_called call e reply longer on k m = (subst (λ v. IsTableSound v) (sym (event_made t u z s call e reply longer on m)) k, set_put l x n z s t.set u.there (m.limits ∙ (device_used t u).limits) left)
 
   -- or only had room made
-  pub kept_same : (new : Contents) (same : List Event) → IsAsBefore x.store new trace same → IsTableSound (world_in l base (with_store x new) same) × AreSet l (with_store x new)
-  kept_same new same h = (subst (λ v. IsTableSound v) (t.same ∙ sym (unchanged t new same h)) t.kept, set_same l x new trace same t.set h)
+  pub kept_same : (same : List Event) → IsAsBefore (contents_with y x.shared) (contents_with z s) trace same → IsTableSound (world_in l base (with_device x n z s) same) × AreSet l (with_device x n z s)
+  kept_same same h = (subst (λ v. IsTableSound v) (t.same ∙ sym (unchanged t u z s same h)) t.kept, set_put l x n z s t.set u.there (h.limits ∙ (device_used t u).limits) left)
 
   -- a call whose event asks no task is done, and keeps it, or only room was made
-  pub made_alone : {E : Type 0} (new : Contents) (call : Call Leased) (e : Event) (longer : List Event) (r : Result Reply E) → device_in e ≡ x.current → judge w call ≡ Ok (Makes e) → asked_in e (view (device_in e) w.state).register ≡ []
-      → IfOk r (λ reply. IsMadeInto e (bytes_brought call) reply x.store new trace longer) → OnErr r (IsAsBefore x.store new trace longer)
-      → (IsTableSound (world_in l base (with_store x new) longer) × AreSet l (with_store x new)) × IfOk r (λ reply. IsDone w call reply (world_in l base (with_store x new) longer))
-  made_alone new call e longer (Ok reply) on h none m same = (kept_called new call e reply longer on (kept_alone w call e (subst (λ v. IsTableSound v) t.same t.kept) h none) m, made_done t new call e reply longer on h m)
-  made_alone new call e longer (Err back) on h none m same = (kept_same new longer same, tt)
+  pub made_alone : {E : Type 0} (call : Call Leased) (e : Event) (longer : List Event) (r : Result Reply E) → device_in e ≡ n → judge w call ≡ Ok (Makes e) → asked_in e (view (device_in e) w.state).register ≡ []
+      → IfOk r (λ reply. IsMadeInto e (bytes_brought call) reply (contents_with y x.shared) (contents_with z s) trace longer) → OnErr r (IsAsBefore (contents_with y x.shared) (contents_with z s) trace longer)
+      → (IsTableSound (world_in l base (with_device x n z s) longer) × AreSet l (with_device x n z s)) × IfOk r (λ reply. IsDone w call reply (world_in l base (with_device x n z s) longer))
+  made_alone call e longer (Ok reply) on h none m same = (kept_called call e reply longer on (kept_alone w call e (subst (λ v. IsTableSound v) t.same t.kept) h none) m, made_done t u z s call e reply longer on h m)
+  made_alone call e longer (Err back) on h none m same = (kept_same longer same, tt)
 
   -- so do they that carried a directive out, or were asked in vain
-  directive_kept : (d : Directive) (p : Planned) (e : Event) → IsPlanOf x.store.limits d x.store.state p → planned_verdict d p x.store ≡ Makes e → judge w (Do d) ≡ Ok (Makes e) → IsTableSound (world_after (Do d) e w)
+  directive_kept : (d : Directive) (p : Planned) (e : Event) → IsPlanOf y.limits d (contents_with y x.shared).state p → planned_verdict d p (contents_with y x.shared) ≡ Makes e → judge w (Do d) ≡ Ok (Makes e) → IsTableSound (world_after (Do d) e w)
   directive_kept d p e planned is h =
-      let asked : asked_in e x.store.state.register ≡ p.tasks = planned_asked x.store.limits x.store.limits.number d x.store.state p e planned is in
-      kept_after w (Do d) e p.tasks (subst (λ v. IsTableSound v) t.same t.kept) h (subst (λ (s : State). asked_in e s.register ≡ p.tasks) (seen_in t e (told_on t d p e is)) asked) planned.few
+      let asked : asked_in e (contents_with y x.shared).state.register ≡ p.tasks = planned_asked y.limits y.limits.number d (contents_with y x.shared).state p e planned is in
+      kept_after w (Do d) e p.tasks (subst (λ v. IsTableSound v) t.same t.kept) h (subst (λ (s : State). asked_in e s.register ≡ p.tasks) (seen_in t u e (told_on t u d p e is)) asked) planned.few
 
-  kept_carried : (new : Contents) (d : Directive) (p : Planned) (longer : List Event) (r : Result Reply (Directive × Fault)) → OnOk r (IsPlanOf x.store.limits d x.store.state p) → OnOk r (judge w (Do d) ≡ Ok (planned_verdict d p x.store))
-      → IfOk r (λ reply. IsCommitted (planned_verdict d p x.store) reply x.store new trace longer) → OnErr r (IsAsBefore x.store new trace longer) → IsTableSound (world_in l base (with_store x new) longer) × AreSet l (with_store x new)
-  kept_carried new d p longer (Ok reply) planned h done same = go (planned_verdict d p x.store) refl done
+  kept_carried : (d : Directive) (p : Planned) (longer : List Event) (r : Result Reply (Directive × Fault)) → OnOk r (IsPlanOf y.limits d (contents_with y x.shared).state p) → OnOk r (judge w (Do d) ≡ Ok (planned_verdict d p (contents_with y x.shared)))
+      → IfOk r (λ reply. IsCommitted (planned_verdict d p (contents_with y x.shared)) reply (contents_with y x.shared) (contents_with z s) trace longer) → OnErr r (IsAsBefore (contents_with y x.shared) (contents_with z s) trace longer) → IsTableSound (world_in l base (with_device x n z s) longer) × AreSet l (with_device x n z s)
+  kept_carried d p longer (Ok reply) planned h done same = go (planned_verdict d p (contents_with y x.shared)) refl done
     where
-      go : (v : Verdict) → planned_verdict d p x.store ≡ v → IsCommitted v reply x.store new trace longer → IsTableSound (world_in l base (with_store x new) longer) × AreSet l (with_store x new)
-      go (Makes e) is m = kept_called new (Do d) e reply longer (told_on t d p e is) (directive_kept d p e planned is (h ∙ ap Ok is)) m
-      go Idle is m = kept_same new longer m.1
-  kept_carried new d p longer (Err back) planned h done same = kept_same new longer same
+      go : (v : Verdict) → planned_verdict d p (contents_with y x.shared) ≡ v → IsCommitted v reply (contents_with y x.shared) (contents_with z s) trace longer → IsTableSound (world_in l base (with_device x n z s) longer) × AreSet l (with_device x n z s)
+      go (Makes e) is m = kept_called (Do d) e reply longer (told_on t u d p e is) (directive_kept d p e planned is (h ∙ ap Ok is)) m
+      go Idle is m = kept_same longer m.1
+  kept_carried d p longer (Err back) planned h done same = kept_same longer same
 
-  pub carried : (new : Contents) (d : Directive) (p : Planned) (longer : List Event) (r : Result Reply (Directive × Fault)) → x.current ≡ device_for d w.state → admitted w d ≡ Ok tt → OnOk r (plan_of x.store.limits d x.store.state ≡ Ok (planned_verdict d p x.store)) → OnOk r (IsPlanOf x.store.limits d x.store.state p)
-      → IfOk r (λ reply. IsCommitted (planned_verdict d p x.store) reply x.store new trace longer) → OnErr r (IsAsBefore x.store new trace longer)
-      → (IsTableSound (world_in l base (with_store x new) longer) × AreSet l (with_store x new)) × IfOk r (λ reply. IsDone w (Do d) reply (world_in l base (with_store x new) longer))
-  carried new d p longer r for ok plan planned done same = let judged = directive_judged t d p r for ok plan in (kept_carried new d p longer r planned judged done same, directive_done t new d p longer r judged done)
+  pub carried : (d : Directive) (p : Planned) (longer : List Event) (r : Result Reply (Directive × Fault)) → n ≡ device_for d w.state → admitted w d ≡ Ok tt → OnOk r (plan_of y.limits d (contents_with y x.shared).state ≡ Ok (planned_verdict d p (contents_with y x.shared))) → OnOk r (IsPlanOf y.limits d (contents_with y x.shared).state p)
+      → IfOk r (λ reply. IsCommitted (planned_verdict d p (contents_with y x.shared)) reply (contents_with y x.shared) (contents_with z s) trace longer) → OnErr r (IsAsBefore (contents_with y x.shared) (contents_with z s) trace longer)
+      → (IsTableSound (world_in l base (with_device x n z s) longer) × AreSet l (with_device x n z s)) × IfOk r (λ reply. IsDone w (Do d) reply (world_in l base (with_device x n z s) longer))
+  carried d p longer r for ok plan planned done same = let judged = directive_judged t u d p r for ok plan in (kept_carried d p longer r planned judged done same, directive_done t u z s d p longer r judged done)
 
+-- ---- a write of the host
+
+module _ {l : Limits} {base : Base} {x : Devices} {trace : List Event} {w : World} (t : AreDevicesOf l base x trace w) where
   -- the addresses of a write of the host that is not refused are in host memory
-  pub may_write : (s : Section) → write_admitted w s ≡ Ok tt → CanWrite s x.store.state.host
+  pub may_write : (s : Section) → write_admitted w s ≡ Ok tt → CanWrite s x.shared.host
   may_write s ok = can_write (world_in l base x trace) s (subst (λ (v : World). write_admitted v s ≡ Ok tt) (sym t.same) ok) (host_sized (world_in l base x trace) t.kept)
 
   -- such a write is done, and keeps it
-  pub written_so : (new : Contents) (addr : ℕ) (bytes : List ℕ) (longer : List Event) → write_admitted w (record { start = addr; len = length bytes }) ≡ Ok tt → new.limits ≡ x.store.limits
-      → new.state ≡ record x.store.state { host = host_after_write addr (length bytes) bytes x.store.state.host } → longer ≡ trace ++ written x.store.limits.full addr bytes ∷ []
-      → (IsTableSound (world_in l base (with_store x new) longer) × AreSet l (with_store x new)) × IsDone w (HostWrite addr bytes) Done (world_in l base (with_store x new) longer)
-  written_so new addr bytes longer ok limits state is =
+  pub written_so : (s : SharedContents) (addr : ℕ) (bytes : List ℕ) (longer : List Event) → write_admitted w (record { start = addr; len = length bytes }) ≡ Ok tt
+      → s.host ≡ host_after_write addr (length bytes) bytes x.shared.host → s.numbers ≡ x.shared.numbers → HaveRisen x.shared s → longer ≡ trace ++ written l.full addr bytes ∷ []
+      → let y : Devices = record { shared = s; each = x.each } in (IsTableSound (world_in l base y longer) × AreSet l y) × IsDone w (HostWrite addr bytes) Done (world_in l base y longer)
+  written_so s addr bytes longer ok host numbers risen is =
       let v : World = world_in l base x trace in
+      let y : Devices = record { shared = s; each = x.each } in
       let call : Call Leased = HostWrite addr bytes in
       let judged : judge v call ≡ Ok (Makes (written l.full addr bytes)) = judged_write v addr bytes (subst (λ (v : World). write_admitted v (record { start = addr; len = length bytes }) ≡ Ok tt) (sym t.same) ok) in
-      let full : longer ≡ trace ++ written l.full addr bytes ∷ [] = is ∙ ap (λ (m : Limits). trace ++ written m.full addr bytes ∷ []) t.set.used in
-      let made : world_in l base (with_store x new) longer ≡ world_after call (written l.full addr bytes) v = write_made l base x new addr bytes trace longer state full in
-      let done : IsDone v call Done (world_in l base (with_store x new) longer) = rw judged (refl, made) in (
-        (subst (λ u. IsTableSound u) (sym made) (kept_alone v call (written l.full addr bytes) t.kept judged refl), set_written l x new _ t.set limits state),
-        subst (λ (u : World). IsDone u call Done (world_in l base (with_store x new) longer)) t.same done,
+      let made : world_in l base y longer ≡ world_after call (written l.full addr bytes) v = write_made l base x s addr bytes trace longer host numbers is in
+      let done : IsDone v call Done (world_in l base y longer) = rw judged (refl, made) in (
+        (subst (λ u. IsTableSound u) (sym made) (kept_alone v call (written l.full addr bytes) t.kept judged refl), set_later l x s t.set risen),
+        subst (λ (u : World). IsDone u call Done (world_in l base y longer)) t.same done,
       )

@@ -1,6 +1,5 @@
 pub mod DeviceLists
 pub mod NewDevices
-pub mod Selecting
 pub mod AllDevices
 pub mod InUse
 pub mod Nothing

@@ -23,7 +23,6 @@ use Rattle.acc_table.specs.declared.calls.Answer.{Answer}
 use Rattle.acc_table.specs.declared.calls.Reply.{Reply}
 use Rattle.acc_table.specs.declared.calls.Reply.TheVariants as replies
 use Rattle.acc_table.specs.Calls.{reply_of, IsCarriedOut, IsDone}
-use Rattle.acc_clauses.specs.Contents.{Contents}
 use Rattle.acc_base.specs.Limits.{Limits, limits_on}
 use Rattle.acc_base.specs.Devices.{view, device_in}
 use Rattle.acc_table.specs.declared.devices.Devices.{Devices}
@@ -32,9 +31,10 @@ use Rattle.acc_table.specs.Tables.{IsTableSound}
 use Rattle.acc_table.specs.Making.{is_loan, IsLeaseJudged, IsMadeInto}
 use Rattle.acc_table.specs.Turns.{is_meant, brought_back, asked_by, kept_by, lent_by, refuse_back, MayAnswer, IsRun}
 use Rattle.acc_table.specs.Turning.{is_lend, lends_in, IsTurnMade, IsRefusalOf}
-use Rattle.acc_table.proofs.InUse.{with_store, world_in, AreDevicesOf, of_view, gathers_in}
+use Rattle.acc_clauses.specs.Devices.{DeviceContents, SharedContents, contents_with}
+use Rattle.acc_table.proofs.InUse.{with_device, world_in, AreDevicesOf, IsUsed, of_view, gathers_in}
 use Rattle.acc_table.proofs.Verdicts.{directive_no_loan, write_no_loan, gather_rewritten, judged_rewritten, refused_rewritten, judged_refused, made_wanted, made_done}
-use Rattle.acc_table.proofs.Keeping.{kept_alone, kept_called}
+use Rattle.acc_table.proofs.Keeping.{IsLeft, kept_alone, kept_called}
 
 -- ---- which call lends
 
@@ -131,24 +131,24 @@ returned {serial = serial} {bytes = bytes} {leases = leases} {at = at} {lease = 
       stored = sym (section_written lease bytes loan back.len);
     })
 
-module _ {l : Limits} {base : Base} {x : Devices} {trace : List Event} {w : World} (t : AreDevicesOf l base x trace w) {serial : ℕ} {bytes : List ℕ} {leases : List Leased} {at : ℕ} {lease : Leased} (back : IsReturned w serial bytes leases at lease) (on : lease.device ≡ x.current) where
-  -- it may come back to the store
-  pub back_ready : gather_event x.store.limits lease x.store.state ≡ Ok (gathered x.store.limits.full lease)
-  back_ready = of_view t lease.device (λ m s. gather_event m lease s ≡ Ok (gathered m.full lease)) (sym on) back.event
+module _ {l : Limits} {base : Base} {x : Devices} {trace : List Event} {w : World} (t : AreDevicesOf l base x trace w) {n : ℕ} {y : DeviceContents} (u : IsUsed x n y) {serial : ℕ} {bytes : List ℕ} {leases : List Leased} {at : ℕ} {lease : Leased} (back : IsReturned w serial bytes leases at lease) (on : lease.device ≡ n) where
+  -- it may come back to its device
+  pub back_ready : gather_event y.limits lease (contents_with y x.shared).state ≡ Ok (gathered y.limits.full lease)
+  back_ready = of_view t u lease.device (λ m s. gather_event m lease s ≡ Ok (gathered m.full lease)) (sym on) back.event
 
   -- what the devices and a trace keep that took it back, and the turn that brought it back
-  pub back_made : (new : Contents) (reply : Reply) (room longer : List Event) → room ≡ trace → IsMadeInto (gathered x.store.limits.full lease) lease.bytes reply x.store new room longer
-      → (IsTableSound (world_in l base (with_store x new) longer) × AreSet l (with_store x new)) × IsTurnMade w leases (Back serial bytes) reply (world_in l base (with_store x new) longer) (remove leases at)
-  back_made new reply room longer same m =
-      let e : Event = gathered x.store.limits.full lease in
-      let judged : judge w (Gather lease) ≡ Ok (Makes e) = gathers_in t lease back.judged in
-      let made : IsMadeInto e lease.bytes reply x.store new trace longer = subst (λ (events : List Event). IsMadeInto e lease.bytes reply x.store new events longer) same m in
+  pub back_made : {z : DeviceContents} {s : SharedContents} → IsLeft x.shared s z → (reply : Reply) (room longer : List Event) → room ≡ trace → IsMadeInto (gathered y.limits.full lease) lease.bytes reply (contents_with y x.shared) (contents_with z s) room longer
+      → (IsTableSound (world_in l base (with_device x n z s) longer) × AreSet l (with_device x n z s)) × IsTurnMade w leases (Back serial bytes) reply (world_in l base (with_device x n z s) longer) (remove leases at)
+  back_made {z = z} {s = s} left reply room longer same m =
+      let e : Event = gathered y.limits.full lease in
+      let judged : judge w (Gather lease) ≡ Ok (Makes e) = gathers_in t u lease back.judged in
+      let made : IsMadeInto e lease.bytes reply (contents_with y x.shared) (contents_with z s) trace longer = subst (λ (events : List Event). IsMadeInto e lease.bytes reply (contents_with y x.shared) (contents_with z s) events longer) same m in
       let none : lent_by reply ≡ [] = ap lent_by m.reply in (
-        kept_called t new (Gather lease) e reply longer on (kept_alone w (Gather lease) e (subst (λ v. IsTableSound v) t.same t.kept) judged refl) made,
+        kept_called t u left (Gather lease) e reply longer on (kept_alone w (Gather lease) e (subst (λ v. IsTableSound v) t.same t.kept) judged refl) made,
         record {
           call = Gather lease;
           asked = back.asked;
-          done = made_done t new (Gather lease) e reply longer on judged made;
+          done = made_done t u z s (Gather lease) e reply longer on judged made;
           kept_is = back.kept;
           idle = λ idle. (let both : ◌≡◌ {A = Reply} replies.Done replies.Idle = sym m.reply ∙ idle in cc);
           few = omega (arith, ap length none);

@@ -1,6 +1,6 @@
 -- A directive that was judged becomes its event, and a call its verdict.
 use Rattle.std.proofs.Common.{ℕ, ◌≡◌, ◌+◌, ◌-◌, ◌<◌, ◌≤◌, Bool, true, false, arith, refl, sym, ◌∙◌, ap, subst, length-append, length-drop, List, [], ◌∷◌, ◌++◌, length, Option, Some, None, Result, Ok, Err}
-use Rattle.std.specs.Prelude.{⊤, not, nat_le, take, drop, is_none, option_map, unwrap_or, ◌&&◌, IfOk, IfErr, OnOk}
+use Rattle.std.specs.Prelude.{⊤, not, nat_le, take, drop, is_none, option_map, unwrap_or, ◌&&◌, IfOk, IfErr, OnErr, OnOk}
 use Rattle.std.proofs.lemmas.List.{take_all, length-take-le}
 use Rattle.std.proofs.lemmas.Bool.Decides.{nat_tests}
 use Rattle.acc_clauses.specs.Words.{Section, Directive, Call, Event, Did, Transfer, Fault}
@@ -25,7 +25,7 @@ use Rattle.acc_base.specs.Clauses.{in_host}
 use Rattle.acc_base.specs.Judge.{few_items, device_named, own_device, step_verdict, verdict_of, plan_of, written, host_write_event, gathered, gather_event}
 use Rattle.acc_base.specs.Calls.{Base, World, judge, ticket, allowance, trace_room, device_for, device_there, verdict_on, bytes_brought, world_after}
 use Rattle.acc_base.specs.Judge.{Verdict, Makes, Idle}
-use Rattle.acc_clauses.specs.Contents.{Contents}
+use Rattle.acc_clauses.specs.Devices.{DeviceContents, SharedContents, contents_with}
 use Rattle.acc_clauses.specs.Planned.{Planned, in_written_order}
 use Rattle.acc_base.specs.Leases.{is_returnable}
 use Rattle.acc_lend.specs.Loans.{IsLoan, with_section, written_over}
@@ -36,8 +36,8 @@ use Rattle.acc_table.specs.declared.devices.Devices.{Devices}
 use Rattle.acc_table.specs.Devices.{whole_with, whole_of}
 use Rattle.acc_table.specs.Tables.{world_of}
 use Rattle.acc_table.proofs.DeviceLists.{set_own}
-use Rattle.acc_table.proofs.InUse.{with_store, world_in, AreDevicesOf, number_used, in_view, seen_in, event_made, unchanged}
-use Rattle.acc_table.specs.Making.{is_idle, number_told, event_told, reply_told, is_loan, admitted, write_admitted, planned_verdict, MayBeToldOf, IsMadeInto, IsCommitted}
+use Rattle.acc_table.proofs.InUse.{with_device, world_in, AreDevicesOf, IsUsed, number_used, in_view, seen_in, event_made, unchanged}
+use Rattle.acc_table.specs.Making.{is_idle, number_told, event_told, reply_told, is_loan, admitted, write_admitted, planned_verdict, MayBeToldOf, IsMadeInto, IsCommitted, IsAsBefore}
 
 -- ---- the event
 
@@ -66,17 +66,18 @@ told_idle n _ s dids e = cc
 
 -- ---- the world
 
--- the world of a store and a trace after a write of the host, whatever device is in use
+-- the world of the devices and a trace after a write of the host
 write_whole : (n : ℕ) (w : Whole) (host : List ℕ) → with_view n (record (view n w) { host = host }) w ≡ record w { host = host }
 write_whole n w host = ap (λ (ds : List OneDevice). let v : Whole = record { devices = ds; next = w.next; serial = w.serial; host = host } in v) (set_own n w.devices)
 
-pub write_made : (l : Limits) (base : Base) (x : Devices) (new : Contents) (addr : ℕ) (bytes : List ℕ) (trace longer : List Event) → new.state ≡ record x.store.state { host = host_after_write addr (length bytes) bytes x.store.state.host } → longer ≡ trace ++ written l.full addr bytes ∷ []
-    → world_in l base (with_store x new) longer ≡ world_after (HostWrite addr bytes) (written l.full addr bytes) (world_in l base x trace)
+pub write_made : (l : Limits) (base : Base) (x : Devices) (s : SharedContents) (addr : ℕ) (bytes : List ℕ) (trace longer : List Event) → s.host ≡ host_after_write addr (length bytes) bytes x.shared.host → s.numbers ≡ x.shared.numbers → longer ≡ trace ++ written l.full addr bytes ∷ []
+    → world_in l base (record { shared = s; each = x.each }) longer ≡ world_after (HostWrite addr bytes) (written l.full addr bytes) (world_in l base x trace)
 unfolding world_after after loaned drained act_all_state
-write_made l base x new addr bytes trace longer state is =
-    let host : List ℕ = host_after_write addr (length bytes) bytes (whole_of x).host in
-    let whole : whole_of (with_store x new) ≡ with_view 0 (record (view 0 (whole_of x)) { host = host }) (whole_of x) = ap (λ s. whole_with x.spares.items s) state ∙ sym (write_whole 0 (whole_of x) host) in
-    ap (λ w. world_of l base w longer) whole ∙ ap (λ t. world_of l base (with_view 0 (record (view 0 (whole_of x)) { host = host }) (whole_of x)) t) is
+write_made l base x s addr bytes trace longer host numbers is =
+    let new : List ℕ = host_after_write addr (length bytes) bytes x.shared.host in
+    let whole : whole_with x.each.items s ≡ with_view 0 (record (view 0 (whole_of x)) { host = new }) (whole_of x) =
+    ap (λ h. whole_with x.each.items (record { host = h; numbers = s.numbers })) host ∙ (ap (λ m. whole_with x.each.items (record { host = new; numbers = m })) numbers ∙ sym (write_whole 0 (whole_of x) new)) in
+    ap (λ w. world_of l base w longer) whole ∙ ap (λ t. world_of l base (with_view 0 (record (view 0 (whole_of x)) { host = new }) (whole_of x)) t) is
 
 -- ---- the verdict
 
@@ -85,7 +86,7 @@ abbrev pub planned_on : World → Directive → Result Verdict Fault
 planned_on w d = plan_of (limits_on (device_for d w.state) w.limits) d (view (device_for d w.state) w.state)
 
 -- it is the device that the directive names, if it names one
-own_named : (w : World) (d : Directive) → own_device (device_for d w.state) (device_named d) ≡ Ok tt
+pub own_named : (w : World) (d : Directive) → own_device (device_for d w.state) (device_named d) ≡ Ok tt
 own_named w (Exit number) = refl
 own_named w (Enter device items) = rw (equal_self device) refl
 own_named w (EnterData device items queue) = rw (equal_self device) refl
@@ -129,16 +130,20 @@ refused_plan w d fault ok told = go (planned_on w d) refl told
 pub refused_before : (w : World) (d : Directive) (fault : Fault) → admitted w d ≡ Err fault → IsRefusal w (Do d) fault
 refused_before w d fault e = let v : judge w (Do d) ≡ Err fault = judge_directive w d ∙ rw e refl in rw v refl
 
--- a device is there whose directive is not refused before its items are judged
-pub device_admitted : (w : World) (d : Directive) → admitted w d ≡ Ok tt → device_for d w.state < w.limits.devices
+-- what is known of a directive that is not refused before its items are judged: it has few items, and its device is there
+pub record IsAdmitted (w : World) (d : Directive) : Type 0 where
+  pub few : few_items d ≡ Ok tt
+  pub there : device_for d w.state < w.limits.devices
+
+pub is_admitted : (w : World) (d : Directive) → admitted w d ≡ Ok tt → IsAdmitted w d
 unfolding admitted
-device_admitted w d ok =
+is_admitted w d ok =
     let tickets = then_ok (ticket w) (allowance w d >> (few_items d >> (trace_room w >> device_there w (device_for d w.state)))) tt ok in
     let regions = then_ok (allowance w d) (few_items d >> (trace_room w >> device_there w (device_for d w.state))) tt tickets.1 in
     let items = then_ok (few_items d) (trace_room w >> device_there w (device_for d w.state)) tt regions.1 in
     let room = then_ok (trace_room w) (device_there w (device_for d w.state)) tt items.1 in
     let there : nat_le w.limits.devices (device_for d w.state) ≡ false = refused_not _ _ room.1 in
-    grind (arith, nat_tests)
+    record { few = items.0; there = grind (arith, nat_tests) }
 
 -- the verdict on a write of the host
 pub judge_write : (w : World) (addr : ℕ) (bytes : List ℕ) → judge w (HostWrite addr bytes) ≡ (write_admitted w (record { start = addr; len = length bytes }) >> Ok (Makes (written w.limits.full addr bytes)))
@@ -271,31 +276,42 @@ device_told n d s dids e h = go (is_idle d s) refl
     go true idle = let none : verdict_of n d s dids ≡ Idle = told_idle n d s dids idle in cc
     go false busy = same _ (sym (told n d s dids busy) ∙ h) (on d (number_told d s) (in_written_order d dids))
 
-module _ {l : Limits} {base : Base} {x : Devices} {trace : List Event} {w : World} (t : AreDevicesOf l base x trace w) where
+module _ {l : Limits} {base : Base} {x : Devices} {trace : List Event} {w : World} (t : AreDevicesOf l base x trace w) {n : ℕ} {y : DeviceContents} (u : IsUsed x n y) where
   -- a call that was judged so and made its event is done
-  pub made_done : (new : Contents) (call : Call Leased) (e : Event) (reply : Reply) (longer : List Event) → device_in e ≡ x.current → judge w call ≡ Ok (Makes e) → IsMadeInto e (bytes_brought call) reply x.store new trace longer
-      → IsDone w call reply (world_in l base (with_store x new) longer)
-  made_done new call e reply longer on h m = rw h (m.reply ∙ ap (reply_of e) (seen_in t e on), event_made t new call e reply longer on m)
+  pub made_done : (z : DeviceContents) (s : SharedContents) (call : Call Leased) (e : Event) (reply : Reply) (longer : List Event) → device_in e ≡ n → judge w call ≡ Ok (Makes e) → IsMadeInto e (bytes_brought call) reply (contents_with y x.shared) (contents_with z s) trace longer
+      → IsDone w call reply (world_in l base (with_device x n z s) longer)
+  made_done z s call e reply longer on h m = rw h (m.reply ∙ ap (reply_of e) (seen_in t u e on), event_made t u z s call e reply longer on m)
 
-  -- the event of a directive is one of the device in use
-  pub told_on : (d : Directive) (p : Planned) (e : Event) → planned_verdict d p x.store ≡ Makes e → device_in e ≡ x.current
-  told_on d p e is = device_told x.store.limits.number d x.store.state p.dids e is ∙ number_used t
+  -- the event of a directive is one of its device
+  pub told_on : (d : Directive) (p : Planned) (e : Event) → planned_verdict d p (contents_with y x.shared) ≡ Makes e → device_in e ≡ n
+  told_on d p e is = device_told y.limits.number d (contents_with y x.shared).state p.dids e is ∙ number_used t u
 
   -- what a directive came to, which was judged so, is done
-  carried_out : (new : Contents) (d : Directive) (p : Planned) (v : Verdict) (reply : Reply) (longer : List Event) → planned_verdict d p x.store ≡ v → IsCommitted v reply x.store new trace longer → IsCarriedOut w (Do d) v reply (world_in l base (with_store x new) longer)
-  carried_out new d p (Makes e) reply longer is h = (h.reply ∙ ap (reply_of e) (seen_in t e (told_on d p e is)), event_made t new (Do d) e reply longer (told_on d p e is) h)
-  carried_out new d p Idle reply longer is h = (h.0, unchanged t new longer h.1)
+  carried_out : (z : DeviceContents) (s : SharedContents) (d : Directive) (p : Planned) (v : Verdict) (reply : Reply) (longer : List Event) → planned_verdict d p (contents_with y x.shared) ≡ v → IsCommitted v reply (contents_with y x.shared) (contents_with z s) trace longer → IsCarriedOut w (Do d) v reply (world_in l base (with_device x n z s) longer)
+  carried_out z s d p (Makes e) reply longer is h = (h.reply ∙ ap (reply_of e) (seen_in t u e (told_on d p e is)), event_made t u z s (Do d) e reply longer (told_on d p e is) h)
+  carried_out z s d p Idle reply longer is h = (h.0, unchanged t u z s longer h.1)
 
-  pub directive_done : (new : Contents) (d : Directive) (p : Planned) (longer : List Event) (r : Result Reply (Directive × Fault)) → OnOk r (judge w (Do d) ≡ Ok (planned_verdict d p x.store))
-      → IfOk r (λ reply. IsCommitted (planned_verdict d p x.store) reply x.store new trace longer) → IfOk r (λ reply. IsDone w (Do d) reply (world_in l base (with_store x new) longer))
-  directive_done new d p longer (Ok reply) h done = rw h (carried_out new d p (planned_verdict d p x.store) reply longer refl done)
-  directive_done new d p longer (Err back) h done = tt
+  pub directive_done : (z : DeviceContents) (s : SharedContents) (d : Directive) (p : Planned) (longer : List Event) (r : Result Reply (Directive × Fault)) → OnOk r (judge w (Do d) ≡ Ok (planned_verdict d p (contents_with y x.shared)))
+      → IfOk r (λ reply. IsCommitted (planned_verdict d p (contents_with y x.shared)) reply (contents_with y x.shared) (contents_with z s) trace longer) → IfOk r (λ reply. IsDone w (Do d) reply (world_in l base (with_device x n z s) longer))
+  directive_done z s d p longer (Ok reply) h done = rw h (carried_out z s d p (planned_verdict d p (contents_with y x.shared)) reply longer refl done)
+  directive_done z s d p longer (Err back) h done = tt
 
-  -- what is planned in the store is judged on the device in use
-  pub directive_judged : (d : Directive) (p : Planned) (r : Result Reply (Directive × Fault)) → x.current ≡ device_for d w.state → admitted w d ≡ Ok tt → OnOk r (plan_of x.store.limits d x.store.state ≡ Ok (planned_verdict d p x.store)) → OnOk r (judge w (Do d) ≡ Ok (planned_verdict d p x.store))
-  directive_judged d p (Ok reply) for ok h = judged_plan w d (planned_verdict d p x.store) ok (in_view t (device_for d w.state) (λ m s. plan_of m d s ≡ Ok (planned_verdict d p x.store)) for h)
+  -- what is planned for the device is judged on it
+  pub directive_judged : (d : Directive) (p : Planned) (r : Result Reply (Directive × Fault)) → n ≡ device_for d w.state → admitted w d ≡ Ok tt → OnOk r (plan_of y.limits d (contents_with y x.shared).state ≡ Ok (planned_verdict d p (contents_with y x.shared))) → OnOk r (judge w (Do d) ≡ Ok (planned_verdict d p (contents_with y x.shared)))
+  directive_judged d p (Ok reply) for ok h = judged_plan w d (planned_verdict d p (contents_with y x.shared)) ok (in_view t u (device_for d w.state) (λ m s. plan_of m d s ≡ Ok (planned_verdict d p (contents_with y x.shared))) for h)
   directive_judged d p (Err back) for ok h = tt
 
-  pub directive_refused : (d : Directive) (r : Result Reply (Directive × Fault)) → x.current ≡ device_for d w.state → admitted w d ≡ Ok tt → IfErr r (λ back. MayBeToldOf (plan_of x.store.limits d x.store.state) back.1) → IfErr r (λ back. IsRefusal w (Do d) back.1)
+  pub directive_refused : (d : Directive) (r : Result Reply (Directive × Fault)) → n ≡ device_for d w.state → admitted w d ≡ Ok tt → IfErr r (λ back. MayBeToldOf (plan_of y.limits d (contents_with y x.shared).state) back.1) → IfErr r (λ back. IsRefusal w (Do d) back.1)
   directive_refused d (Ok reply) for ok h = tt
-  directive_refused d (Err back) for ok h = refused_plan w d back.1 ok (in_view t (device_for d w.state) (λ m s. MayBeToldOf (plan_of m d s) back.1) for h)
+  directive_refused d (Err back) for ok h = refused_plan w d back.1 ok (in_view t u (device_for d w.state) (λ m s. MayBeToldOf (plan_of m d s) back.1) for h)
+
+  -- a refused call leaves the world as it was
+  pub same_refused : {E : Type 0} (z : DeviceContents) (s : SharedContents) (longer : List Event) (r : Result Reply E) → OnErr r (IsAsBefore (contents_with y x.shared) (contents_with z s) trace longer) → OnErr r (world_in l base (with_device x n z s) longer ≡ w)
+  same_refused z s longer (Ok reply) same = tt
+  same_refused z s longer (Err back) same = unchanged t u z s longer same
+
+  -- and hands back what it was asked
+  pub back_refused : {X : Type 0} (z : DeviceContents) (s : SharedContents) (asked : X) (longer : List Event) (r : Result Reply (X × Fault)) → IfErr r (λ back. back.0 ≡ asked) → OnErr r (IsAsBefore (contents_with y x.shared) (contents_with z s) trace longer)
+      → IfErr r (λ back. (back.0 ≡ asked) × (world_in l base (with_device x n z s) longer ≡ w))
+  back_refused z s asked longer (Ok reply) is same = tt
+  back_refused z s asked longer (Err back) is same = (is, unchanged t u z s longer same)

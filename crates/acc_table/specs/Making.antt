@@ -101,13 +101,13 @@ planned_verdict d p c = verdict_of c.limits.number d c.state p.dids
 abbrev pub MayBeToldOf : Result Verdict Fault → Fault → Type 0
 MayBeToldOf judged fault = MatchResult judged (λ verdict. MayWantMemory verdict fault) (λ refusal. fault ≡ refusal)
 
--- what a store and a trace hold is as before; only room may have been made
+-- what a device and a trace hold is as before; only room may have been made
 pub record IsAsBefore (old new : Contents) (before after_it : List Event) : Type 0 where
   pub limits : new.limits ≡ old.limits
   pub state : new.state ≡ old.state
   pub trace : after_it ≡ before
 
--- a store and a trace after an event, for which a call brought these bytes and got this reply
+-- a device and a trace after an event, for which a call brought these bytes and got this reply
 pub record IsMadeInto (e : Event) (brought : List ℕ) (answered : Reply) (old new : Contents) (before after_it : List Event) : Type 0 where
   pub reply : answered ≡ reply_of e old.state
   pub limits : new.limits ≡ old.limits
@@ -119,7 +119,7 @@ abbrev pub is_loan : Event → Bool
 is_loan (events.Lent device region section block serial) = true
 is_loan _ = false
 
--- a store and a trace after what a directive came to
+-- a device and a trace after what a directive came to
 abbrev pub IsCommitted : Verdict → Reply → Contents → Contents → List Event → List Event → Type 0
 IsCommitted (Makes e) reply old new before after_it = IsMadeInto e [] reply old new before after_it
 IsCommitted Idle reply old new before after_it = (reply ≡ replies.Idle) × IsAsBefore old new before after_it

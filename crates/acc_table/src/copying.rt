@@ -28,9 +28,8 @@ impl Clone for Devices {
 
     fn clone(&self) -> Result<Devices, AllocError> {
         Ok(Devices {
-            store: self.store.clone()?,
-            current: self.current,
-            spares: self.spares.clone()?,
+            shared: self.shared.clone()?,
+            each: self.each.clone()?,
         })
     }
 }

@@ -1,4 +1,4 @@
-//! What the devices of a table have: one of them is in use, and the others stand apart.
+//! What the devices of a table have, and what they share.
 
 ghost use Rattle.std.specs.Prelude.{◌≡◌, ◌<◌, ◌≤◌, ◌^◌, length, is_some, IfOk, IfErr, IfSome, IfNone};
 ghost use Rattle.acc_base.specs.declared.faults.Fault.TheVariants.{Memory};
@@ -9,34 +9,29 @@ ghost use Rattle.acc_base.specs.Devices.{device_at, view, new_whole, open_region
 ghost use Rattle.acc_table.specs.Devices.{whole_of, AreSet, AreNewUpTo};
 
 use acc_base::{Config, Fault};
-use acc_clauses::{Base, Spare, Store, View};
+use acc_clauses::{Base, DeviceData, Shared, View};
 use std::alloc::Global;
 
-/// What the devices of a table have. That of one device stands in the store, with host memory and the numbers that all
-/// share. So a directive on it finds all in one place, and with one device nothing ever changes places.
+/// What the devices of a table have, and what they share.
 #[derive(Drop)]
 pub(crate) struct Devices {
-    /// Host memory, the numbers, and what the device in use has.
-    pub(crate) store: Store,
-    /// The number of the device in use.
-    pub(crate) current: u64,
-    /// What the others have, each in the place of its number.
-    pub(crate) spares: Vec<Option<Spare>>,
+    /// Host memory, and the numbers of the next region and the next loan.
+    pub(crate) shared: Shared,
+    /// What each device has, in the place of its number.
+    pub(crate) each: Vec<DeviceData>,
 }
 
-/// What all devices but the first have on a new table. The store is made behind it, since what owns a store takes long
-/// to check.
-fn new_spares(alloc: Global, config: &Config) -> Result<Vec<Option<Spare>>, Fault>
-    ensures ok { IfOk result (λ spares. AreNewUpTo config.now config.now.devices spares.items) }
+/// What each device of a new table has.
+fn new_each(alloc: Global, config: &Config) -> Result<Vec<DeviceData>, Fault>
+    ensures ok { IfOk result (λ each. AreNewUpTo config.now config.now.devices each.items) }
     ensures only { IfErr result (λ fault. fault ≡ Memory) }
 {
     config.laws();
-    let mut spares = Vec::new(alloc);
-    spares.push(None)?;
-    for device in 1..config.devices() {
-        spares.push(Some(Spare::new(alloc, config, device)?))?;
+    let mut each = Vec::new(alloc);
+    for device in 0..config.devices() {
+        each.push(DeviceData::new(alloc, config, device)?)?;
     }
-    Ok(spares)
+    Ok(each)
 }
 
 impl Devices {
@@ -46,59 +41,20 @@ impl Devices {
         ensures new { IfOk result (λ devices. whole_of devices ≡ new_whole config.now.devices config.now.host) }
         ensures only { IfErr result (λ fault. fault ≡ Memory) }
     {
-        config.laws();
-        let spares = new_spares(alloc, config)?;
-        let store = Store::new(alloc, config, 0)?;
         Ok(Devices {
-            store,
-            current: 0,
-            spares,
+            shared: Shared::new(alloc, config)?,
+            each: new_each(alloc, config)?,
         })
-    }
-
-    /// Puts a device in use, which is there. Nothing that any device has changes.
-    #[inline(always)]
-    pub(crate) fn select(&mut self, device: u64)
-        requires there { device < length self.old.spares.items }
-        requires set { (l : Limits) × AreSet l self.old }
-        ensures set { (l : Limits) → AreSet l self.old → AreSet l self.new }
-        ensures same { whole_of self.new ≡ whole_of self.old }
-        ensures current { self.new.current ≡ device }
-    {
-        if device != self.current {
-            self.change(device);
-        }
-    }
-
-    /// Puts a device in use that stands apart. The one that was in use stands apart then.
-    #[inline(never)]
-    fn change(&mut self, device: u64)
-        requires there { device < length self.old.spares.items }
-        requires set { (l : Limits) × AreSet l self.old }
-        requires other { device ≡ self.old.current → ⊥ }
-        ensures set { (l : Limits) → AreSet l self.old → AreSet l self.new }
-        ensures same { whole_of self.new ≡ whole_of self.old }
-        ensures current { self.new.current ≡ device }
-    {
-        let Some(spare) = self.spares[device as usize].take() else {
-            unreachable!()
-        };
-        let parked = self.store.exchange(spare);
-        self.spares[self.current as usize] = Some(parked);
-        self.current = device;
     }
 
     /// What a device has, to look at. `None` exactly where there is no such device.
     pub(crate) fn view(&self, device: u64) -> Option<View<'_>>
         requires { (l : Limits) × AreSet l self.now }
         ensures there { IfSome result (λ v. (l : Limits) → AreSet l self.now → v ≡ record { limits = limits_on device l; state = view device (whole_of self.now) }) }
-        ensures known { IfSome result (λ _. device < length self.now.spares.items) }
-        ensures none { IfNone result (length self.now.spares.items ≤ device) }
+        ensures known { IfSome result (λ _. device < length self.now.each.items) }
+        ensures none { IfNone result (length self.now.each.items ≤ device) }
     {
-        match self.spares.get(device as usize)? {
-            Some(spare) => Some(self.store.view_apart(spare)),
-            None => Some(self.store.view()),
-        }
+        Some(self.each.get(device as usize)?.view(&self.shared))
     }
 
     /// What all devices have as a base, where so many events had led here: with the bytes of all memories, or without.
@@ -113,7 +69,7 @@ impl Devices {
         ensures ok { IfOk result (λ base. base ≡ base_of full (whole_of self.now) events) }
         ensures only { IfErr result (λ fault. fault ≡ Memory) }
     {
-        let host = self.store.saved_host(alloc, full)?;
+        let host = self.shared.saved_host(alloc, full)?;
         let mut saved = Vec::new(alloc);
         for device in 0..config.devices() {
             if let Some(view) = self.view(device) {
@@ -122,8 +78,8 @@ impl Devices {
         }
         Ok(Base::of(
             saved,
-            self.store.next_region(),
-            self.store.next_serial(),
+            self.shared.next_region(),
+            self.shared.next_serial(),
             host,
             events,
         ))
@@ -147,7 +103,7 @@ impl Devices {
         ensures { result ≡ open_regions (whole_of self.now) }
     {
         let mut open = 0;
-        for device in 0..self.spares.len() as u64 {
+        for device in 0..self.each.len() as u64 {
             open += self.regions_on(device);
         }
         open
@@ -169,7 +125,7 @@ impl Devices {
         requires { (l : Limits) × AreSet l self.now }
         ensures { result ≡ device_of_region number (whole_of self.now) }
     {
-        for device in 0..self.spares.len() as u64 {
+        for device in 0..self.each.len() as u64 {
             if self.has_region(device, number) {
                 return device;
             }

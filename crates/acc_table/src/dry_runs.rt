@@ -36,8 +36,8 @@ impl Table {
     {
         let device = self.admit(directive)?;
         let data = &mut *self.data;
-        data.devices.select(device);
-        data.devices.store.plan(directive, &mut data.plan)
+        let devices = &data.devices;
+        devices.each[device as usize].plan(&devices.shared, directive, &mut data.plan)
     }
 
     /// What each item of a directive would do, in written order, as its event would say; nothing where it has no items.
@@ -53,10 +53,9 @@ impl Table {
     {
         let device = self.admit(directive)?;
         let data = &mut *self.data;
-        let devices = &mut data.devices;
+        let devices = &data.devices;
         let plan = &mut *data.plan;
-        devices.select(device);
-        devices.store.plan(directive, plan)?;
+        devices.each[device as usize].plan(&devices.shared, directive, plan)?;
         dids_of(*data.trace.allocator(), directive, plan)
     }
 }

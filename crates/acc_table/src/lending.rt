@@ -7,11 +7,13 @@ ghost use Rattle.acc_base.specs.Leases.{section_bytes};
 ghost use Rattle.acc_base.specs.declared.faults.Fault.TheVariants.{Memory};
 ghost use Rattle.acc_base.specs.Judge.{gathered, gather_event};
 ghost use Rattle.acc_clauses.specs.Lending.{IsLoanPlanned};
+ghost use Rattle.acc_clauses.specs.Stored.{AreContentsSound};
+ghost use Rattle.acc_clauses.specs.Devices.{SharedContents, HaveRisen, contents_with};
 ghost use Rattle.acc_table.specs.Making.{IsMadeInto, IsAsBefore};
 
 use crate::calls::Reply;
 use acc_base::{Event, Fault, List, Loan, Section};
-use acc_clauses::Store;
+use acc_clauses::{DeviceData, Shared};
 use acc_lend::Lease;
 
 /// Makes room for the event of a loan that was planned, lends its block and stores the event, and returns the lease.
@@ -21,25 +23,29 @@ use acc_lend::Lease;
 /// [`Fault::Memory`] alone, and nothing changed. There was no room in the trace for one event more, or with full traces
 /// none for the copy of the block that stays.
 pub fn lend(
-    store: &mut Store,
+    device: &mut DeviceData,
+    shared: &mut Shared,
     trace: &mut Vec<Event>,
     region: u64,
     section: Section,
     loan: Loan,
 ) -> Result<Reply, Fault>
-    requires planned { IsLoanPlanned store.old.limits region section store.old.state loan }
-    requires serial { store.old.state.register.serial < 2 ^ 48 }
-    ensures done { IfOk result (λ reply. IsMadeInto (Lent store.old.limits.number region section loan.block loan.serial) [] reply store.old store.new trace.old.items trace.new.items) }
+    requires sound { AreContentsSound (contents_with device.old shared.old) }
+    requires planned { let c = contents_with device.old shared.old in IsLoanPlanned c.limits region section c.state loan }
+    requires serial { shared.old.numbers.serial < 2 ^ 48 }
+    ensures done { let c = contents_with device.old shared.old in IfOk result (λ reply. IsMadeInto (Lent c.limits.number region section loan.block loan.serial) [] reply c (contents_with device.new shared.new) trace.old.items trace.new.items) }
     ensures only { IfErr result (λ fault. fault ≡ Memory) }
-    ensures succeeds { store.old.limits.full ≡ false → vec_len trace.old < vec_capacity trace.old → IsOk result }
-    ensures same { OnErr result (IsAsBefore store.old store.new trace.old.items trace.new.items) }
+    ensures succeeds { device.old.limits.full ≡ false → vec_len trace.old < vec_capacity trace.old → IsOk result }
+    ensures same { OnErr result (IsAsBefore (contents_with device.old shared.old) (contents_with device.new shared.new) trace.old.items trace.new.items) }
+    ensures sound { AreContentsSound (contents_with device.new shared.new) }
+    ensures risen { HaveRisen shared.old shared.new }
 {
     trace.reserve(1)?;
     let block = loan.block;
     let serial = loan.serial;
-    let lease = store.lend(loan)?;
+    let lease = device.lend(shared, loan)?;
     trace.push_reserved(Event::Lent {
-        device: store.number(),
+        device: device.number(),
         region,
         section,
         block,
@@ -50,18 +56,24 @@ pub fn lend(
 
 /// Takes the block of a lease back that may come back, and stores the event, for which there is room.
 /// These are the bytes that it stores: with full traces those of the section.
-pub fn take_back(store: &mut Store, trace: &mut Vec<Event>, lease: Lease, bytes: List<u8>) -> Reply
-    requires ready { gather_event store.old.limits lease store.old.state ≡ Ok (gathered store.old.limits.full lease) }
-    requires stored { bytes ≡ recorded store.old.limits.full (section_bytes lease) }
+pub fn take_back(
+    device: &mut DeviceData,
+    trace: &mut Vec<Event>,
+    lease: Lease,
+    bytes: List<u8>,
+) -> Reply
+    requires ready { (s : SharedContents) × let c = contents_with device.old s in AreContentsSound c × (gather_event c.limits lease c.state ≡ Ok (gathered c.limits.full lease)) }
+    requires stored { bytes ≡ recorded device.old.limits.full (section_bytes lease) }
     requires place { vec_len trace.old < vec_capacity trace.old }
-    ensures { IsMadeInto (gathered store.old.limits.full lease) lease.bytes result store.old store.new trace.old.items trace.new.items }
+    ensures made { (s : SharedContents) → IsMadeInto (gathered device.old.limits.full lease) lease.bytes result (contents_with device.old s) (contents_with device.new s) trace.old.items trace.new.items }
+    ensures sound { (s : SharedContents) → AreContentsSound (contents_with device.old s) → AreContentsSound (contents_with device.new s) }
 {
-    let device = lease.device();
+    let number = lease.device();
     let serial = lease.serial();
     let block = lease.block();
-    store.gather(lease);
+    device.gather(lease);
     trace.push_reserved(Event::Gathered {
-        device,
+        device: number,
         serial,
         block,
         bytes,
@@ -95,20 +107,22 @@ fn make_room(trace: &mut Vec<Event>, lease: &Lease, full: bool) -> Result<List<u
 /// [`Fault::Memory`] alone, and nothing changed. There was no room in the trace for one event more, or with full traces
 /// none for the bytes of the section.
 pub fn gather(
-    store: &mut Store,
+    device: &mut DeviceData,
     trace: &mut Vec<Event>,
     full: bool,
     lease: Lease,
 ) -> Result<Reply, (Lease, Fault)>
-    requires full { full ≡ store.old.limits.full }
-    requires ready { gather_event store.old.limits lease store.old.state ≡ Ok (gathered store.old.limits.full lease) }
-    ensures done { IfOk result (λ reply. IsMadeInto (gathered store.old.limits.full lease) lease.bytes reply store.old store.new trace.old.items trace.new.items) }
-    ensures succeeds { store.old.limits.full ≡ false → vec_len trace.old < vec_capacity trace.old → IsOk result }
-    ensures back { IfErr result (λ back. (back.0 ≡ lease) × (back.1 ≡ Memory)) }
-    ensures same { OnErr result (IsAsBefore store.old store.new trace.old.items trace.new.items) }
+    requires full { full ≡ device.old.limits.full }
+    requires ready { (s : SharedContents) × let c = contents_with device.old s in AreContentsSound c × (gather_event c.limits lease c.state ≡ Ok (gathered c.limits.full lease)) }
+    ensures done { (s : SharedContents) → IfOk result (λ reply. IsMadeInto (gathered device.old.limits.full lease) lease.bytes reply (contents_with device.old s) (contents_with device.new s) trace.old.items trace.new.items) }
+    ensures succeeds { device.old.limits.full ≡ false → vec_len trace.old < vec_capacity trace.old → IsOk result }
+    ensures back { IfErr result (λ back. back.0 ≡ lease) }
+    ensures only { IfErr result (λ back. back.1 ≡ Memory) }
+    ensures same { (s : SharedContents) → OnErr result (IsAsBefore (contents_with device.old s) (contents_with device.new s) trace.old.items trace.new.items) }
+    ensures sound { (s : SharedContents) → AreContentsSound (contents_with device.old s) → AreContentsSound (contents_with device.new s) }
 {
     match make_room(trace, &lease, full) {
-        Ok(bytes) => Ok(take_back(store, trace, lease, bytes)),
+        Ok(bytes) => Ok(take_back(device, trace, lease, bytes)),
         Err(fault) => Err((lease, fault)),
     }
 }

@@ -5,36 +5,40 @@ ghost use Rattle.acc_base.specs.declared.directives.Directive.{Directive};
 ghost use Rattle.acc_base.specs.declared.faults.Fault.TheVariants.{Memory};
 ghost use Rattle.acc_base.specs.Limits.{recorded};
 ghost use Rattle.acc_base.specs.Bytes.{host_after_write};
-ghost use Rattle.acc_base.specs.Judge.{plan_of, written};
+ghost use Rattle.acc_base.specs.Judge.{few_items, device_named, own_device, plan_of, written};
 ghost use Rattle.acc_clauses.specs.Acts.{CanWrite, HasPlanRoom, lens_born};
 ghost use Rattle.acc_clauses.specs.Overlays.{dids_in};
+ghost use Rattle.acc_clauses.specs.Stored.{AreContentsSound};
+ghost use Rattle.acc_clauses.specs.Devices.{SharedContents, HaveRisen, contents_with};
 ghost use Rattle.acc_clauses.specs.Planned.{IsPlanOf, in_written_order, state_by};
 ghost use Rattle.acc_table.specs.Making.{is_idle, kind_of, number_told, event_told, reply_told, apart_of, planned_verdict, MayBeToldOf, IsCommitted, IsAsBefore};
 
 use crate::calls::Reply;
 use acc_base::{Did, Directive, Event, Fault, List};
-use acc_clauses::{Acted, Plan, Store};
+use acc_clauses::{Acted, DeviceData, Plan, Shared};
 use std::alloc::{AllocError, Global};
 
 /// Whether the directive is the step of an empty queue, with which there is nothing to do.
-fn is_idle(store: &Store, directive: &Directive) -> bool
-    ensures { result ≡ is_idle directive.now store.now.state }
+fn is_idle(device: &DeviceData, shared: &Shared, directive: &Directive) -> bool
+    requires { length shared.now.host ≡ device.now.limits.host }
+    ensures { result ≡ is_idle directive.now (contents_with device.now shared.now).state }
 {
     match directive {
-        Directive::Step { queue, .. } => store.view().head_block(*queue).is_none(),
+        Directive::Step { queue, .. } => device.view(shared).head_block(*queue).is_none(),
         _ => false,
     }
 }
 
 /// The number that the event of a directive has from the state before it. It is that of the region that is entered, of
 /// the transfers that a wait makes, or of the block that a step's transfer names. It is 0 for all others.
-fn number_told(store: &Store, directive: &Directive) -> u64
-    ensures { result ≡ number_told directive.now store.now.state }
+fn number_told(device: &DeviceData, shared: &Shared, directive: &Directive) -> u64
+    requires { length shared.now.host ≡ device.now.limits.host }
+    ensures { result ≡ number_told directive.now (contents_with device.now shared.now).state }
 {
     match directive {
-        Directive::Enter { .. } => store.next_region(),
-        Directive::Wait { queue, .. } => store.view().waiting(*queue),
-        Directive::Step { queue, .. } => store.view().head_block(*queue).unwrap_or(0),
+        Directive::Enter { .. } => shared.next_region(),
+        Directive::Wait { queue, .. } => device.view(shared).waiting(*queue),
+        Directive::Step { queue, .. } => device.view(shared).head_block(*queue).unwrap_or(0),
         _ => 0,
     }
 }
@@ -181,26 +185,28 @@ pub fn list_of(directive: &Directive, acts: &[Acted], apart: Vec<Did>) -> List<D
     }
 }
 
-/// Makes room for a planned directive in the store and for its event in the trace. It returns of what the items will do
+/// Makes room for a planned directive on its device and for its event in the trace. It returns of what the items will do
 /// what stands in memory of its own. Where room is refused, no bytes are kept for births, unless some were before.
 fn make_room(
-    store: &mut Store,
+    device: &mut DeviceData,
     trace: &mut Vec<Event>,
     directive: &Directive,
     plan: &Plan,
 ) -> Result<Vec<Did>, Fault>
-    requires { IsPlanOf store.old.limits directive.now store.old.state plan.now }
-    ensures same { IsAsBefore store.old store.new trace.old.items trace.new.items }
+    requires planned { (s : SharedContents) × let c = contents_with device.old s in AreContentsSound c × IsPlanOf c.limits directive.now c.state plan.now }
+    ensures limits { device.new.limits ≡ device.old.limits }
+    ensures device { device.new.device ≡ device.old.device }
+    ensures trace { trace.new.items ≡ trace.old.items }
     ensures apart { IfOk result (λ apart. apart.items ≡ apart_of (in_written_order directive.now plan.now.dids)) }
-    ensures room { OnOk result (HasPlanRoom directive.now plan.now store.new.room) }
-    ensures births { OnOk result (store.new.room.births ≡ lens_born plan.now.tasks plan.now.dids) }
-    ensures refused { OnErr result (store.old.room.births ≡ [] → store.new.room.births ≡ []) }
+    ensures room { OnOk result (HasPlanRoom directive.now plan.now device.new.room) }
+    ensures births { OnOk result (device.new.room.births ≡ lens_born plan.now.tasks plan.now.dids) }
+    ensures refused { OnErr result (device.old.room.births ≡ [] → device.new.room.births ≡ []) }
     ensures place { OnOk result (vec_len trace.new < vec_capacity trace.new) }
     ensures only { IfErr result (λ fault. fault ≡ Memory) }
 {
     let apart = copy_apart(*trace.allocator(), directive, plan.acts())?;
     trace.reserve(1)?;
-    store.reserve(directive, plan)?;
+    device.reserve(directive, plan)?;
     Ok(apart)
 }
 
@@ -209,29 +215,35 @@ fn make_room(
 ///
 /// # Errors
 ///
-/// What the store refuses to plan, or [`Fault::Memory`] where there is no such refusal.
+/// What the device refuses to plan, or [`Fault::Memory`] where there is no such refusal.
 #[inline(always)]
 fn prepare(
-    store: &mut Store,
+    device: &mut DeviceData,
+    shared: &Shared,
     trace: &mut Vec<Event>,
     plan: &mut Plan,
     directive: &Directive,
 ) -> Result<Option<Vec<Did>>, Fault>
-    requires births { store.old.state.records.births + 64 ≤ 2 ^ 48 }
-    ensures same { IsAsBefore store.old store.new trace.old.items trace.new.items }
-    ensures judged { OnOk result (plan_of store.old.limits directive.now store.old.state ≡ Ok (planned_verdict directive.now plan.new store.old)) }
-    ensures planned { OnOk result (IsPlanOf store.new.limits directive.now store.new.state plan.new) }
-    ensures idle { IfOk result (λ apart. is_none apart ≡ is_idle directive.now store.old.state) }
+    requires items { few_items directive.now ≡ Ok tt }
+    requires own { own_device device.old.limits.number (device_named directive.now) ≡ Ok tt }
+    requires sound { AreContentsSound (contents_with device.old shared.now) }
+    requires births { device.old.device.records.births + 64 ≤ 2 ^ 48 }
+    ensures limits { device.new.limits ≡ device.old.limits }
+    ensures device { device.new.device ≡ device.old.device }
+    ensures trace { trace.new.items ≡ trace.old.items }
+    ensures judged { let c = contents_with device.old shared.now in OnOk result (plan_of c.limits directive.now c.state ≡ Ok (planned_verdict directive.now plan.new c)) }
+    ensures planned { let c = contents_with device.new shared.now in OnOk result (IsPlanOf c.limits directive.now c.state plan.new) }
+    ensures idle { IfOk result (λ apart. is_none apart ≡ is_idle directive.now (contents_with device.old shared.now).state) }
     ensures apart { IfOk result (λ told. IfSome told (λ apart. apart.items ≡ apart_of (in_written_order directive.now plan.new.dids))) }
-    ensures room { IfOk result (λ told. IfSome told (λ _. HasPlanRoom directive.now plan.new store.new.room)) }
+    ensures room { IfOk result (λ told. IfSome told (λ _. HasPlanRoom directive.now plan.new device.new.room)) }
     ensures place { IfOk result (λ told. IfSome told (λ _. vec_len trace.new < vec_capacity trace.new)) }
-    ensures refused { IfErr result (MayBeToldOf (plan_of store.old.limits directive.now store.old.state)) }
+    ensures refused { let c = contents_with device.old shared.now in IfErr result (MayBeToldOf (plan_of c.limits directive.now c.state)) }
 {
-    store.plan(directive, plan)?;
-    if is_idle(store, directive) {
+    device.plan(shared, directive, plan)?;
+    if is_idle(device, shared, directive) {
         return Ok(None);
     }
-    Ok(Some(make_room(store, trace, directive, plan)?))
+    Ok(Some(make_room(device, trace, directive, plan)?))
 }
 
 /// Judges a directive, makes room for it and its event, and does it. It returns the number of the event, and of what
@@ -240,33 +252,39 @@ fn prepare(
 ///
 /// # Errors
 ///
-/// What the store refuses to plan, or [`Fault::Memory`] where there is no such refusal. Nothing changed but room.
+/// What the device refuses to plan, or [`Fault::Memory`] where there is no such refusal. Nothing changed but room.
 #[inline(never)]
 fn enact(
-    store: &mut Store,
+    device: &mut DeviceData,
+    shared: &mut Shared,
     trace: &mut Vec<Event>,
     plan: &mut Plan,
     directive: &Directive,
 ) -> Result<Option<(u64, Vec<Did>)>, Fault>
-    requires births { store.old.state.records.births + 64 ≤ 2 ^ 48 }
-    requires regions { store.old.state.register.next < 2 ^ 48 }
-    ensures judged { OnOk result (plan_of store.old.limits directive.now store.old.state ≡ Ok (planned_verdict directive.now plan.new store.old)) }
-    ensures planned { OnOk result (IsPlanOf store.old.limits directive.now store.old.state plan.new) }
-    ensures idle { IfOk result (λ told. is_none told ≡ is_idle directive.now store.old.state) }
-    ensures number { IfOk result (λ told. IfSome told (λ t. t.0 ≡ number_told directive.now store.old.state)) }
+    requires items { few_items directive.now ≡ Ok tt }
+    requires own { own_device device.old.limits.number (device_named directive.now) ≡ Ok tt }
+    requires sound { AreContentsSound (contents_with device.old shared.old) }
+    requires births { device.old.device.records.births + 64 ≤ 2 ^ 48 }
+    requires regions { shared.old.numbers.region < 2 ^ 48 }
+    ensures judged { let c = contents_with device.old shared.old in OnOk result (plan_of c.limits directive.now c.state ≡ Ok (planned_verdict directive.now plan.new c)) }
+    ensures planned { let c = contents_with device.old shared.old in OnOk result (IsPlanOf c.limits directive.now c.state plan.new) }
+    ensures idle { IfOk result (λ told. is_none told ≡ is_idle directive.now (contents_with device.old shared.old).state) }
+    ensures number { IfOk result (λ told. IfSome told (λ t. t.0 ≡ number_told directive.now (contents_with device.old shared.old).state)) }
     ensures apart { IfOk result (λ told. IfSome told (λ t. t.1.items ≡ apart_of (in_written_order directive.now plan.new.dids))) }
     ensures place { IfOk result (λ told. IfSome told (λ _. vec_len trace.new < vec_capacity trace.new)) }
-    ensures limits { store.new.limits ≡ store.old.limits }
-    ensures state { OnOk result (store.new.state ≡ state_by store.old.limits.full (planned_verdict directive.now plan.new store.old) store.old.state) }
+    ensures limits { device.new.limits ≡ device.old.limits }
+    ensures state { let c = contents_with device.old shared.old in OnOk result ((contents_with device.new shared.new).state ≡ state_by c.limits.full (planned_verdict directive.now plan.new c) c.state) }
     ensures trace { trace.new.items ≡ trace.old.items }
-    ensures refused { IfErr result (MayBeToldOf (plan_of store.old.limits directive.now store.old.state)) }
-    ensures same { OnErr result (store.new.state ≡ store.old.state) }
+    ensures refused { let c = contents_with device.old shared.old in IfErr result (MayBeToldOf (plan_of c.limits directive.now c.state)) }
+    ensures same { OnErr result ((contents_with device.new shared.new).state ≡ (contents_with device.old shared.old).state) }
+    ensures sound { AreContentsSound (contents_with device.new shared.new) }
+    ensures risen { HaveRisen shared.old shared.new }
 {
-    let Some(apart) = prepare(store, trace, plan, directive)? else {
+    let Some(apart) = prepare(device, shared, trace, plan, directive)? else {
         return Ok(None);
     };
-    let number = number_told(store, directive);
-    store.commit(directive, plan);
+    let number = number_told(device, shared, directive);
+    device.commit(shared, directive, plan);
     Ok(Some((number, apart)))
 }
 
@@ -274,30 +292,36 @@ fn enact(
 ///
 /// # Errors
 ///
-/// What the store refuses to plan, or [`Fault::Memory`] where there is no such refusal. The directive comes back, and
+/// What the device refuses to plan, or [`Fault::Memory`] where there is no such refusal. The directive comes back, and
 /// nothing changed.
 #[inline(always)]
 pub fn carry_out(
-    store: &mut Store,
+    device: &mut DeviceData,
+    shared: &mut Shared,
     trace: &mut Vec<Event>,
     plan: &mut Plan,
     directive: Directive,
 ) -> Result<Reply, (Directive, Fault)>
-    requires births { store.old.state.records.births + 64 ≤ 2 ^ 48 }
-    requires regions { store.old.state.register.next < 2 ^ 48 }
-    ensures judged { OnOk result (plan_of store.old.limits directive store.old.state ≡ Ok (planned_verdict directive plan.new store.old)) }
-    ensures planned { OnOk result (IsPlanOf store.old.limits directive store.old.state plan.new) }
-    ensures done { IfOk result (λ reply. IsCommitted (planned_verdict directive plan.new store.old) reply store.old store.new trace.old.items trace.new.items) }
+    requires items { few_items directive ≡ Ok tt }
+    requires own { own_device device.old.limits.number (device_named directive) ≡ Ok tt }
+    requires sound { AreContentsSound (contents_with device.old shared.old) }
+    requires births { device.old.device.records.births + 64 ≤ 2 ^ 48 }
+    requires regions { shared.old.numbers.region < 2 ^ 48 }
+    ensures judged { let c = contents_with device.old shared.old in OnOk result (plan_of c.limits directive c.state ≡ Ok (planned_verdict directive plan.new c)) }
+    ensures planned { let c = contents_with device.old shared.old in OnOk result (IsPlanOf c.limits directive c.state plan.new) }
+    ensures done { let c = contents_with device.old shared.old in IfOk result (λ reply. IsCommitted (planned_verdict directive plan.new c) reply c (contents_with device.new shared.new) trace.old.items trace.new.items) }
     ensures back { IfErr result (λ back. back.0 ≡ directive) }
-    ensures refused { IfErr result (λ back. MayBeToldOf (plan_of store.old.limits directive store.old.state) back.1) }
-    ensures same { OnErr result (IsAsBefore store.old store.new trace.old.items trace.new.items) }
+    ensures refused { let c = contents_with device.old shared.old in IfErr result (λ back. MayBeToldOf (plan_of c.limits directive c.state) back.1) }
+    ensures same { OnErr result (IsAsBefore (contents_with device.old shared.old) (contents_with device.new shared.new) trace.old.items trace.new.items) }
+    ensures sound { AreContentsSound (contents_with device.new shared.new) }
+    ensures risen { HaveRisen shared.old shared.new }
 {
     let kind = kind_of(&directive);
-    match enact(store, trace, plan, &directive) {
+    match enact(device, shared, trace, plan, &directive) {
         Ok(Some((number, apart))) => {
             let reply = reply_told(kind, number);
             let did = list_of(&directive, plan.acts(), apart);
-            trace.push_reserved(event_told(kind, store.number(), directive, number, did));
+            trace.push_reserved(event_told(kind, device.number(), directive, number, did));
             Ok(reply)
         }
         Ok(None) => Ok(Reply::Idle),
@@ -322,25 +346,26 @@ pub fn recorded(full: bool, bytes: List<u8>, alloc: Global) -> List<u8>
 ///
 /// [`Fault::Memory`] alone, where there was no such room. The bytes come back, and nothing changed.
 pub fn write_host(
-    store: &mut Store,
+    shared: &mut Shared,
     trace: &mut Vec<Event>,
     full: bool,
     addr: u64,
     bytes: List<u8>,
 ) -> Result<(), (List<u8>, Fault)>
-    requires can { CanWrite (record { start = addr; len = length bytes }) store.old.state.host }
-    requires full { full ≡ store.old.limits.full }
-    ensures limits { store.new.limits ≡ store.old.limits }
-    ensures state { OnOk result (store.new.state ≡ record store.old.state { host = host_after_write addr (length bytes) bytes store.old.state.host }) }
-    ensures trace { OnOk result (trace.new.items ≡ trace.old.items ++ written store.old.limits.full addr bytes ∷ []) }
+    requires can { CanWrite (record { start = addr; len = length bytes }) shared.old.host }
+    ensures host { OnOk result (shared.new.host ≡ host_after_write addr (length bytes) bytes shared.old.host) }
+    ensures numbers { shared.new.numbers ≡ shared.old.numbers }
+    ensures risen { HaveRisen shared.old shared.new }
+    ensures trace { OnOk result (trace.new.items ≡ trace.old.items ++ written full addr bytes ∷ []) }
     ensures succeeds { vec_len trace.old < vec_capacity trace.old → IsOk result }
     ensures back { IfErr result (λ back. (back.0 ≡ bytes) × (back.1 ≡ Memory)) }
-    ensures same { OnErr result (IsAsBefore store.old store.new trace.old.items trace.new.items) }
+    ensures same { OnErr result (shared.new ≡ shared.old) }
+    ensures same_trace { OnErr result (trace.new.items ≡ trace.old.items) }
 {
     if trace.reserve(1).is_err() {
         return Err((bytes, Fault::Memory));
     }
-    store.host_write(addr, bytes.as_slice());
+    shared.host_write(addr, bytes.as_slice());
     let len = bytes.as_slice().len() as u64;
     let bytes = recorded(full, bytes, *trace.allocator());
     trace.push_reserved(Event::HostWritten { addr, len, bytes });
@@ -353,19 +378,20 @@ pub fn write_host(
 ///
 /// [`Fault::Memory`] alone, where there was no room for the event or for the copy. Nothing changed.
 pub fn copy_to_host(
-    store: &mut Store,
+    shared: &mut Shared,
     trace: &mut Vec<Event>,
     full: bool,
     addr: u64,
     bytes: &[u8],
 ) -> Result<(), Fault>
-    requires can { CanWrite (record { start = addr; len = length bytes.now }) store.old.state.host }
-    requires full { full ≡ store.old.limits.full }
-    ensures limits { store.new.limits ≡ store.old.limits }
-    ensures state { OnOk result (store.new.state ≡ record store.old.state { host = host_after_write addr (length bytes.now) bytes.now store.old.state.host }) }
-    ensures trace { OnOk result (trace.new.items ≡ trace.old.items ++ written store.old.limits.full addr bytes.now ∷ []) }
+    requires can { CanWrite (record { start = addr; len = length bytes.now }) shared.old.host }
+    ensures host { OnOk result (shared.new.host ≡ host_after_write addr (length bytes.now) bytes.now shared.old.host) }
+    ensures numbers { shared.new.numbers ≡ shared.old.numbers }
+    ensures risen { HaveRisen shared.old shared.new }
+    ensures trace { OnOk result (trace.new.items ≡ trace.old.items ++ written full addr bytes.now ∷ []) }
     ensures memory { IfErr result (λ fault. fault ≡ Memory) }
-    ensures same { OnErr result (IsAsBefore store.old store.new trace.old.items trace.new.items) }
+    ensures same { OnErr result (shared.new ≡ shared.old) }
+    ensures same_trace { OnErr result (trace.new.items ≡ trace.old.items) }
 {
     trace.reserve(1)?;
     let alloc = *trace.allocator();
@@ -374,7 +400,7 @@ pub fn copy_to_host(
     } else {
         List::from_vec(Vec::new(alloc))
     };
-    store.host_write(addr, bytes);
+    shared.host_write(addr, bytes);
     trace.push_reserved(Event::HostWritten {
         addr,
         len: bytes.len() as u64,

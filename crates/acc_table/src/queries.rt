@@ -167,7 +167,7 @@ impl Table {
     pub fn host_read(&self, section: Section) -> Option<&[u8]>
         ensures { option_map (λ bytes. bytes.now) result ≡ host_read_of section self.now.state.host }
     {
-        self.data.devices.store.host_read(section)
+        self.data.devices.shared.host_read(section)
     }
 
     /// The bytes that a device has of a section, as many as it is long. `None` where it is not inside one mapped range,

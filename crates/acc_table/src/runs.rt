@@ -148,8 +148,8 @@ impl Table {
         let mut lease = leases.remove(at);
         lease.overwrite(bytes.as_slice());
         let bytes = recorded(data.config.full(), bytes, *data.trace.allocator());
-        data.devices.select(lease.device());
-        Ok(take_back(&mut data.devices.store, &mut data.trace, lease, bytes))
+        let device = &mut data.devices.each[lease.device() as usize];
+        Ok(take_back(device, &mut data.trace, lease, bytes))
     }
 
     /// What bringing back a lease is refused for that is not in the list.

@@ -20,7 +20,7 @@ use crate::devices::Devices;
 use crate::lending::{gather, lend};
 use crate::making::{carry_out, copy_to_host, write_host};
 use acc_base::{Config, Directive, Event, Fault, List, Loan, Section};
-use acc_clauses::{Base, Plan, check_items};
+use acc_clauses::{Base, Plan, check_host, check_items};
 use acc_lend::Lease;
 use std::alloc::Global;
 use std::marker::Model;
@@ -209,7 +209,7 @@ impl Table {
         })?;
         let data = &mut *self.data;
         let full = data.config.full();
-        copy_to_host(&mut data.devices.store, &mut data.trace, full, addr, bytes)?;
+        copy_to_host(&mut data.devices.shared, &mut data.trace, full, addr, bytes)?;
         Ok(())
     }
 
@@ -226,9 +226,14 @@ impl Table {
             Err(fault) => return Err((directive, fault)),
         };
         let data = &mut *self.data;
-        data.devices.select(device);
-        let store = &mut data.devices.store;
-        carry_out(store, &mut data.trace, &mut *data.plan, directive)
+        let devices = &mut data.devices;
+        carry_out(
+            &mut devices.each[device as usize],
+            &mut devices.shared,
+            &mut data.trace,
+            &mut *data.plan,
+            directive,
+        )
     }
 
     /// There is a ticket for one more event.
@@ -303,7 +308,7 @@ impl Table {
     {
         self.admit_ticket()?;
         self.admit_event()?;
-        self.data.devices.store.check_host(0, section)
+        check_host(self.data.config.host(), 0, section)
     }
 
     /// Writes into host memory, or hands the bytes back with what that is refused for.
@@ -321,7 +326,7 @@ impl Table {
             Ok(()) => {
                 let data = &mut *self.data;
                 let full = data.config.full();
-                write_host(&mut data.devices.store, &mut data.trace, full, addr, bytes)?;
+                write_host(&mut data.devices.shared, &mut data.trace, full, addr, bytes)?;
                 Ok(Reply::Done)
             }
             Err(fault) => Err((bytes, fault)),
@@ -330,16 +335,15 @@ impl Table {
 
     /// Plans the loan of a section in an open region, on the region's device.
     #[tactic(auto, unfolding(acc_base::specs::Calls::judge))]
-    fn admit_loan(&mut self, device: u64, region: u64, section: Section) -> Result<Loan, Fault>
-        requires { device ≡ device_of_region region self.old.state }
-        ensures judged { IsLoanJudged self.old region section result }
-        ensures same { self.new ≡ self.old }
+    fn admit_loan(&self, device: u64, region: u64, section: Section) -> Result<Loan, Fault>
+        requires placed { device ≡ device_of_region region self.now.state }
+        requires there { device < self.now.limits.devices }
+        ensures { IsLoanJudged self.now region section result }
     {
         self.admit_ticket()?;
         self.admit_event()?;
-        let data = &mut *self.data;
-        data.devices.select(device);
-        data.devices.store.plan_loan(region, section)
+        let devices = &self.data.devices;
+        devices.each[device as usize].plan_loan(&devices.shared, region, section)
     }
 
     /// Lends the block of a section, and returns its lease.
@@ -351,9 +355,10 @@ impl Table {
         let device = self.device_of_region(region);
         let loan = self.admit_loan(device, region, section)?;
         let data = &mut *self.data;
-        data.devices.select(device);
+        let devices = &mut data.devices;
         lend(
-            &mut data.devices.store,
+            &mut devices.each[device as usize],
+            &mut devices.shared,
             &mut data.trace,
             region,
             section,
@@ -363,22 +368,19 @@ impl Table {
 
     /// What bringing back a lease is refused for. With full traces it compares its bytes outside of the section.
     #[tactic(auto, unfolding(acc_base::specs::Calls::judge))]
-    pub(crate) fn admit_lease(&mut self, lease: &Lease) -> Result<(), Fault>
-        ensures judged { IsLeaseJudged self.old lease.now result }
-        ensures there { OnOk result (lease.now.device < self.old.limits.devices) }
-        ensures same { self.new ≡ self.old }
+    pub(crate) fn admit_lease(&self, lease: &Lease) -> Result<(), Fault>
+        ensures judged { IsLeaseJudged self.now lease.now result }
+        ensures there { OnOk result (lease.now.device < self.now.limits.devices) }
     {
         self.admit_ticket()?;
         self.admit_event()?;
-        let device = lease.device();
-        let data = &mut *self.data;
-        if data.config.devices() <= device {
-            return Err(Fault::NoLease {
+        let devices = &self.data.devices;
+        match devices.each.get(lease.device() as usize) {
+            Some(device) => device.check_lease(&devices.shared, lease),
+            None => Err(Fault::NoLease {
                 serial: lease.serial(),
-            });
+            }),
         }
-        data.devices.select(device);
-        data.devices.store.check_lease(lease)
     }
 
     /// Brings a lease back, or hands it back with what it is refused for.
@@ -391,8 +393,8 @@ impl Table {
             Ok(()) => {
                 let data = &mut *self.data;
                 let full = data.config.full();
-                data.devices.select(lease.device());
-                gather(&mut data.devices.store, &mut data.trace, full, lease)
+                let device = &mut data.devices.each[lease.device() as usize];
+                gather(device, &mut data.trace, full, lease)
             }
             Err(fault) => Err((lease, fault)),
         }

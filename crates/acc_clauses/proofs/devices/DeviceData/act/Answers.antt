@@ -6,7 +6,7 @@ use Rattle.acc_clauses.specs.Devices.{DeviceContents, device_of, state_beside}
 use Rattle.acc_clauses.specs.Overlays.{puts_by}
 use Rattle.acc_clauses.specs.Acts.{IsJudged, IsKnown, HasRoomFor, HasPutRoom, birth_of, pointers_of}
 use Rattle.acc_clauses.proofs.Ready.{can_do, parts_sound}
-use Rattle.acc_clauses.proofs.Spared.{parts_of, device_sound}
+use Rattle.acc_clauses.proofs.Beside.{parts_of, device_sound}
 use Rattle.acc_clauses.proofs.devices.DeviceData.act.Goals as goal
 
 pub act_on-requires-clause-can : goal.act_on-requires-clause-can

@@ -1,36 +1,25 @@
-use Rattle.std.proofs.Common.{◌≡◌, ℕ, refl, sym, subst, replicate, Bool, true, false, List, Result, Ok, Err, OnOk}
-use Rattle.std.specs.Prelude.{not, ◌&&◌, ◌||◌}
-use Rattle.std.specs.Result.{IsOk}
-use Rattle.acc_base.specs.declared.mappings.Block.{Block}
-use Rattle.acc_base.specs.declared.loans.Loan.{Loan}
-use Rattle.acc_base.specs.Loans.{Leased}
-use Rattle.acc_base.specs.Records.{Memory}
-use Rattle.acc_base.specs.Bytes.{bytes_of}
-use Rattle.acc_base.specs.Leases.{is_of_loan, is_kept_outside, is_returnable}
-use Rattle.acc_dev.specs.Device.{number_at, IsPutBack}
-use Rattle.acc_base.specs.Limits.{limits_on}
-use Rattle.acc_clauses.specs.Contents.{beside, ArePartsSound}
-use Rattle.acc_clauses.specs.Devices.{DeviceContents}
-use Rattle.acc_clauses.proofs.Lends.{number_told, gathered_parts}
+use Rattle.std.proofs.Common.{◌≡◌, ◌∙◌, true}
+use Rattle.acc_base.specs.Leases.{is_returnable}
+use Rattle.acc_base.specs.Judge.{gathered}
+use Rattle.acc_clauses.specs.Devices.{contents_with}
+use Rattle.acc_clauses.proofs.Lends.{returnable, gather_is, gathered_after, gathered_sound}
+use Rattle.acc_clauses.proofs.devices.DeviceData.gather.Goals.{After-laws}
 use Rattle.acc_clauses.proofs.devices.DeviceData.gather.Goals as goal
 
-on_ok : {A E P : Type 0} (r : Result A E) → IsOk r → OnOk r P → P
-on_ok (Ok x) ok p = p
-on_ok (Err e) ok p = cc
+-- the lease fits the device, whatever all devices share
+fits : (c : After-laws) → let x = c.args.self.now in is_returnable x.limits.full x.limits.number c.args.lease x.device.records.blocks x.device.records.loans x.device.memories ≡ true
+fits c =
+    let l = c.args.self.now.limits in
+    returnable l c.args.lease (contents_with c.args.self.now c.requires.planned.0).state (gathered l.full c.args.lease) c.requires.planned.1.1
 
-both_true : (a b : Bool) → a && b ≡ true → a && true ≡ true
-both_true true b h = refl
-both_true false b h = h
+pub put_back-requires : goal.put_back-requires
+put_back-requires c = fits (goal.at.put_back-requires c).After-laws
 
--- what a lease that comes back has beside a copy that was kept, it has without the copy
-not_compared : (full : Bool) (d : ℕ) (lease : Leased) (blocks : List Block) (loans : List Loan) (memories : List Memory) → is_returnable full d lease blocks loans memories ≡ true → is_returnable false d lease blocks loans memories ≡ true
-not_compared full d lease blocks loans memories h = both_true (is_of_loan d lease blocks loans) (not full || is_kept_outside lease (bytes_of lease.block memories)) h
+pub returns-clause-state : goal.returns-clause-state
+returns-clause-state c = λ s. c.put_back.ensures.state s.host s.numbers ∙ gathered_after c.args.self.now.limits.full c.args.lease (contents_with c.args.self.now s).state
 
-pub invariant_of-self : goal.invariant_of-self
-invariant_of-self c =
-    let p = c.self.inside in
-    let fits : is_returnable p.config.full p.number c.args.lease p.environment.device.blocks p.environment.device.loans p.environment.device.memories ≡ true
-    = subst (λ (k : DeviceContents). is_returnable k.limits.full k.limits.number c.args.lease k.device.records.blocks k.device.records.loans k.device.memories ≡ true) (sym c.self.view_is) c.requires in
-    let device = subst (λ n. is_returnable p.config.full n c.args.lease p.environment.device.blocks p.environment.device.loans p.environment.device.memories ≡ true) (sym (number_told (limits_on p.number p.config) (beside p.environment (replicate p.config.host 0)) c.self.invariant.sized)) fits in
-    let put : IsPutBack p.environment.device c.put_back.new.self c.args.lease = on_ok c.put_back.result (c.put_back.ensures.fits.1 (not_compared p.config.full (number_at p.environment.device.memory.start) c.args.lease p.environment.device.blocks p.environment.device.loans p.environment.device.memories device)) c.put_back.ensures.put in
-    subst (λ k. ArePartsSound (limits_on p.number p.config) (record (beside p.environment (replicate p.config.host 0)) { device = c.put_back.new.self }) k) (sym c.saturating_sub-self-inside.ensures) (gathered_parts (limits_on p.number p.config) (beside p.environment (replicate p.config.host 0)) p.lent c.put_back.new.self c.args.lease c.self.invariant fits put)
+pub returns-clause-sound : goal.returns-clause-sound
+returns-clause-sound c = λ s h.
+    let x = contents_with c.args.self.now s in
+    let ready = gather_is x.limits c.args.lease x.state (fits (goal.at.returns-clause-sound c).After-laws) in
+    gathered_sound x (contents_with c.put_back.new.self s) c.args.lease c.laws.ensures.limits h ready c.put_back.ensures.limits (c.put_back.ensures.state s.host s.numbers)

@@ -1,30 +1,42 @@
-use Rattle.std.proofs.Common.{◌≡◌, sym, subst, replicate, false}
-use Rattle.acc_base.specs.Loans.{is_lent}
-use Rattle.acc_base.specs.Accounts.{IsLoanSound}
-use Rattle.acc_base.specs.Limits.{limits_on}
-use Rattle.acc_clauses.specs.Contents.{beside}
-use Rattle.acc_clauses.specs.Devices.{DeviceContents}
-use Rattle.acc_clauses.proofs.Lends.{loan_has_block, lend_mapped, lend_within, lent_parts}
+use Rattle.std.proofs.Common.{◌≡◌, ◌+◌, ◌∙◌, refl, sym, subst, arith, []}
+use Rattle.acc_base.specs.declared.events.Event.TheVariants.{Lent}
+use Rattle.acc_base.specs.Limits.{Limits}
+use Rattle.acc_base.specs.Records.{State}
+use Rattle.acc_base.specs.Acting.{after}
+use Rattle.acc_clauses.specs.Devices.{SharedContents, HaveRisen, contents_with}
+use Rattle.acc_clauses.specs.Stored.{AreContentsSound}
+use Rattle.acc_clauses.proofs.Lends.{planned_says, lent_after, lent_sound}
 use Rattle.acc_clauses.proofs.devices.DeviceData.lend.Goals as goal
 
-pub take_out-requires-clause-there : goal.take_out-requires-clause-there
-take_out-requires-clause-there c =
-    let p = c.self.inside in
-    loan_has_block (limits_on p.number p.config) (beside p.environment (replicate p.config.host 0)) p.lent c.args.loan c.self.invariant (subst (λ (k : DeviceContents). IsLoanSound k.device.records.ranges c.args.loan) (sym c.self.view_is) c.requires.sound)
+pub take_out-requires-clause-free : goal.take_out-requires-clause-free
+take_out-requires-clause-free c = (planned_says _ _ _ _ c.args.loan c.requires.sound.sound.layout.records c.requires.planned.2).free
 
-pub take_out-requires-clause-mapped : goal.take_out-requires-clause-mapped
-take_out-requires-clause-mapped c =
-    let p = c.self.inside in
-    lend_mapped (limits_on p.number p.config) (beside p.environment (replicate p.config.host 0)) p.lent c.args.loan c.self.invariant c.laws.ensures.marks (subst (λ (k : DeviceContents). IsLoanSound k.device.records.ranges c.args.loan) (sym c.self.view_is) c.requires.sound)
+pub take_out-requires-clause-sound : goal.take_out-requires-clause-sound
+take_out-requires-clause-sound c = (planned_says _ _ _ _ c.args.loan c.requires.sound.sound.layout.records c.requires.planned.2).sound
 
-pub take_out-requires-clause-within : goal.take_out-requires-clause-within
-take_out-requires-clause-within c =
-    let p = c.self.inside in
-    lend_within (limits_on p.number p.config) (beside p.environment (replicate p.config.host 0)) p.lent c.args.loan c.self.invariant (subst (λ (k : DeviceContents). IsLoanSound k.device.records.ranges c.args.loan) (sym c.self.view_is) c.requires.sound)
+pub take_out-requires-clause-few : goal.take_out-requires-clause-few
+take_out-requires-clause-few c = omega (arith, c.requires.sound.few, c.requires.serial)
 
-pub invariant_of-self-2 : goal.invariant_of-self-2
-invariant_of-self-2 c =
-    let p = c.self.inside in
-    lent_parts (limits_on p.number p.config) c.full-keep.result (beside p.environment (replicate p.config.host 0)) p.lent c.take_out.new.self c.args.loan c.self.invariant
-    (subst (λ (k : DeviceContents). is_lent c.args.loan.block k.device.records.loans ≡ false) (sym c.self.view_is) c.requires.free)
-    (subst (λ (k : DeviceContents). IsLoanSound k.device.records.ranges c.args.loan) (sym c.self.view_is) c.requires.sound) c.in_ok-lease.ensures.out
+-- what is shared behind the loan
+abbrev next : SharedContents → SharedContents
+next s = record { host = s.host; numbers = record { region = s.numbers.region; serial = s.numbers.serial + 1 } }
+
+pub returns-clause-sound : goal.returns-clause-sound
+returns-clause-sound c =
+    let x = c.args.self.now in
+    subst (λ (s : SharedContents). AreContentsSound (contents_with c.take_out.new.self (next s))) (sym c.shared.view_is)
+    (lent_sound _ _ (contents_with x c.args.shared.now) (contents_with c.take_out.new.self (next c.args.shared.now)) c.args.loan c.laws.ensures.limits c.requires.sound c.requires.planned.2 c.take_out.ensures.limits (c.in_ok-lease.ensures.state c.args.shared.now.host c.args.shared.now.numbers))
+
+pub returns-clause-lease : goal.returns-clause-lease
+returns-clause-lease c = c.in_ok-lease.ensures.lease c.args.shared.now.host c.args.shared.now.numbers
+
+pub returns-clause-state : goal.returns-clause-state
+returns-clause-state c = λ region section p.
+    let l : Limits = c.args.self.now.limits in
+    let t : SharedContents = c.args.shared.now in
+    let old : State = (contents_with c.args.self.now t).state in
+    subst (λ (s : SharedContents). (contents_with c.take_out.new.self (next s)).state ≡ after l.full (Lent l.number region section c.args.loan.block c.args.loan.serial) [] old) (sym c.shared.view_is)
+    (c.in_ok-lease.ensures.state t.host t.numbers ∙ lent_after l.full l.number region section c.args.loan old p.loan_is)
+
+pub returns-clause-risen : goal.returns-clause-risen
+returns-clause-risen c = subst (λ (s : SharedContents). HaveRisen c.args.shared.now (next s)) (sym c.shared.view_is) (record { host = refl; region = omega arith; serial = omega arith })

@@ -6,7 +6,7 @@ use Rattle.acc_base.specs.Limits.{Limits, limits_on}
 use Rattle.acc_clauses.specs.Contents.{Numbers, beside, ArePartsSound}
 use Rattle.acc_clauses.specs.Devices.{DeviceContents, device_of, state_beside}
 use Rattle.acc_clauses.proofs.Making.{can_step, stepped_parts}
-use Rattle.acc_clauses.proofs.Spared.{parts_of, device_sound}
+use Rattle.acc_clauses.proofs.Beside.{parts_of, device_sound}
 use Rattle.acc_clauses.proofs.devices.DeviceData.step.Goals as goal
 
 pub step-requires-clause-can : goal.step-requires-clause-can

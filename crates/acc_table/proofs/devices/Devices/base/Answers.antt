@@ -19,7 +19,7 @@ loop-device-preserved c =
           let now : x.in_ok-saved.field-0 ≡ recorded_device c.args.full (device_at d w.devices) = x.in_ok-saved.ensures.ok ∙ ap (λ (v : Seen). recorded_device c.args.full (device_in_view v.state)) (x.in-Some.ensures.there l c.requires) in
           let items : c.match-view.saved.items ≡ c.loop-device.saved.items ++ x.in_ok-saved.field-0 ∷ [] = ap (λ (v : Vec OneDevice Global). v.items) x.saved-is ∙ x.in_ok-push.ensures.items in
           subst (λ (ds : List OneDevice). ds ++ map (recorded_device c.args.full) (drop (d + 1) w.devices) ≡ map (recorded_device c.args.full) w.devices) (sym items) (saved_more c.args.full d w.devices c.loop-device.saved.items x.in_ok-saved.field-0 there c.loop-device.invariant now)
-      | in_default x ↦ absurd (let none : length c.args.self.now.spares.items ≤ d = x.in_default.ensures.none in omega (arith, there, none, devices_count c.args.self.now))
+      | in_default x ↦ absurd (let none : length c.args.self.now.each.items ≤ d = x.in_default.ensures.none in omega (arith, there, none, devices_count c.args.self.now))
     ]
 
 pub returns-clause-ok : goal.returns-clause-ok

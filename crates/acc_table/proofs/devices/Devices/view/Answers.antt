@@ -1,24 +1,22 @@
-use Rattle.std.proofs.Common.{◌≡◌, ◌<◌, ◌∙◌, sym, ap, subst, List, length, Option, Some, None}
+use Rattle.std.proofs.Common.{◌≡◌, ◌<◌, sym, subst, List, length}
 use Rattle.std.specs.Prelude.{slice_index_or}
-use Rattle.acc_clauses.specs.Devices.{Parked}
-use Rattle.acc_table.proofs.AllDevices.{seen_apart, seen_used, apart_size}
+use Rattle.acc_clauses.specs.Devices.{DeviceContents}
+use Rattle.acc_table.proofs.AllDevices.{seen_there}
+use Rattle.acc_table.proofs.devices.Devices.view.Goals.{In_ok-get}
 use Rattle.acc_table.proofs.devices.Devices.view.Goals as goal
 
-pub view_apart-requires : goal.view_apart-requires
-view_apart-requires c =
-    let found = c.in_ok-spare.ensures.lookup in
-    let at : slice_index_or c.args.self.now.spares.items c.args.device None ≡ Some c.in-Some.spare = ap (λ (xs : List (Option Parked)). slice_index_or xs c.args.device None) (sym c.deref.ensures.value) ∙ (sym (found.3.1 None) ∙ c.in-Some.is) in
-    apart_size c.requires.0 c.args.self.now c.args.device c.in-Some.spare c.requires.1 at
+there : (c : In_ok-get) → c.args.device < length c.args.self.now.each.items
+there c = subst (λ (xs : List DeviceContents). c.args.device < length xs) c.deref.ensures.value c.in_ok-get.ensures.lookup.3.0
 
-pub returns-in-Some-clause-there : goal.returns-in-Some-clause-there
-returns-in-Some-clause-there c = λ l set.
-    let found = c.in_ok-spare.ensures.lookup in
-    let at : slice_index_or c.args.self.now.spares.items c.args.device None ≡ Some c.in-Some.spare = ap (λ (xs : List (Option Parked)). slice_index_or xs c.args.device None) (sym c.deref.ensures.value) ∙ (sym (found.3.1 None) ∙ c.in-Some.is) in
-    seen_apart l c.args.self.now c.args.device c.in-Some.spare c.view_apart.result set at c.view_apart.ensures
+at : (c : In_ok-get) → c.in_ok-get.field-0.now ≡ slice_index_or c.args.self.now.each.items c.args.device c.in_ok-get.field-0.now
+at c = subst (λ (xs : List DeviceContents). c.in_ok-get.field-0.now ≡ slice_index_or xs c.args.device c.in_ok-get.field-0.now) c.deref.ensures.value c.in_ok-get.ensures.lookup.1
 
-pub returns-in-None-clause-there : goal.returns-in-None-clause-there
-returns-in-None-clause-there c = λ l set.
-    let found = c.in_ok-spare.ensures.lookup in
-    let at : slice_index_or c.args.self.now.spares.items c.args.device None ≡ None = ap (λ (xs : List (Option Parked)). slice_index_or xs c.args.device None) (sym c.deref.ensures.value) ∙ (sym (found.3.1 None) ∙ c.in-None.is) in
-    let there : c.args.device < length c.args.self.now.spares.items = subst (λ (xs : List (Option Parked)). c.args.device < length xs) c.deref.ensures.value found.3.0 in
-    seen_used l c.args.self.now c.args.device c.view.result set there at c.view.ensures
+pub view-requires : goal.view-requires
+view-requires c =
+    let s = (goal.at.view-requires c).In_ok-get in
+    subst (λ (y : DeviceContents). length c.args.self.now.shared.host ≡ y.limits.host) (sym (at s)) (c.requires.1.each c.args.device c.in_ok-get.field-0.now (there s)).sound.sound.memories_sized.host
+
+pub returns-clause-there : goal.returns-clause-there
+returns-clause-there c = λ l set.
+    let s = (goal.at.returns-clause-there c).In_ok-get in
+    seen_there l c.args.self.now c.args.device c.in_ok-get.field-0.now c.view.result set (there s) (at s) c.view.ensures

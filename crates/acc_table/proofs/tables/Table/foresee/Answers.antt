@@ -1,34 +1,51 @@
-use Rattle.std.proofs.Common.{◌∙◌, ap, arith, rules, Ok}
-use Rattle.acc_base.specs.Calls.{World}
-use Rattle.acc_table.proofs.InUse.{AreDevicesOf, opened, selected, births_fit}
-use Rattle.acc_table.proofs.Verdicts.{device_admitted}
+use Rattle.std.proofs.Common.{◌<◌, arith, length, Ok, rules, ◌≡◌, ◌∙◌, sym, subst}
+use Rattle.acc_base.specs.Judge.{device_named, own_device}
+use Rattle.acc_base.specs.Calls.{device_for}
+use Rattle.acc_table.proofs.InUse.{AreDevicesOf, IsUsed, opened, there_of, device_used, number_used, births_fit}
+use Rattle.acc_table.proofs.Verdicts.{is_admitted, own_named}
 use Rattle.acc_table.proofs.Foretold.{directive_judged, dids_told, foreseen, foreseen_not}
-use Rattle.acc_table.proofs.tables.Table.foresee.Goals.{After-select}
+use Rattle.acc_table.proofs.tables.Table.foresee.Goals.{After-deref_mut-data}
 use Rattle.acc_table.proofs.tables.Table.foresee.Goals as goal
 
-used : (c : After-select) → AreDevicesOf c.deref_mut-data.result.now.config c.deref_mut-data.result.now.base c.select.new.self c.deref_mut-data.result.now.trace.items c.args.self.now
-used c = let o = opened c.deref_mut-data.ensures.value c.self.invariant c.self.view_is in selected o (c.select.ensures.set _ o.set) c.select.ensures.same
+held : (c : After-deref_mut-data) → AreDevicesOf c.deref_mut-data.result.now.config c.deref_mut-data.result.now.base c.deref_mut-data.result.now.devices c.deref_mut-data.result.now.trace.items c.args.self.now
+held c = opened c.deref_mut-data.ensures.value c.self.invariant c.self.view_is
 
-pub select-requires-clause-there : goal.select-requires-clause-there
-select-requires-clause-there c =
-    let o = opened c.deref_mut-data.ensures.value c.self.invariant c.self.view_is in
-    omega (arith, device_admitted c.args.self.now c.args.directive.now c.in_ok-device.ensures.1, c.in_ok-device.ensures.0, o.set.count, ap (λ (w : World). w.limits.devices) o.same)
+there : (c : After-deref_mut-data) → c.in_ok-device.device < length c.deref_mut-data.result.now.devices.each.items
+there c = there_of (held c) c.in_ok-device.device (omega (arith, (is_admitted c.args.self.now c.args.directive.now c.in_ok-device.ensures.1).there, c.in_ok-device.ensures.0))
 
-pub plan-requires : goal.plan-requires
-plan-requires c = let fit = births_fit (used (goal.at.plan-requires c).After-select) in omega (arith, fit)
+pub index-requires : goal.index-requires
+index-requires c = omega (arith, there (goal.at.index-requires c).After-deref_mut-data)
 
-pub invariant_of-self : goal.invariant_of-self
-invariant_of-self c = let t = used (goal.at.invariant_of-self c).After-select in (t.kept, t.set)
+pub plan-requires-clause-sound : goal.plan-requires-clause-sound
+plan-requires-clause-sound c =
+    let s = (goal.at.plan-requires-clause-sound c).After-deref_mut-data in
+    let u : IsUsed c.deref_mut-data.result.now.devices c.in_ok-device.device c.index.result.now = record { there = there s; is = c.index.ensures } in
+    (device_used (held s) u).sound
+
+pub plan-requires-clause-births : goal.plan-requires-clause-births
+plan-requires-clause-births c =
+    let s = (goal.at.plan-requires-clause-births c).After-deref_mut-data in
+    let u : IsUsed c.deref_mut-data.result.now.devices c.in_ok-device.device c.index.result.now = record { there = there s; is = c.index.ensures } in
+    let fit = births_fit (held s) u in omega (arith, fit)
 
 pub returns-in_err-plan-clause-foreseen : goal.returns-in_err-plan-clause-foreseen
 returns-in_err-plan-clause-foreseen c =
-    let t = used (goal.at.returns-in_err-plan-clause-foreseen c).After-select in
-    foreseen_not _ _ _ c.plan.result _ (directive_judged t c.args.directive.now c.plan.new.plan.dids c.plan.result (c.select.ensures.current ∙ c.in_ok-device.ensures.0) c.in_ok-device.ensures.1 c.plan.ensures.judged) c.in_err-plan.was (search rules)
+    let s = (goal.at.returns-in_err-plan-clause-foreseen c).After-deref_mut-data in
+    let u : IsUsed c.deref_mut-data.result.now.devices c.in_ok-device.device c.index.result.now = record { there = there s; is = c.index.ensures } in
+    foreseen_not _ _ _ c.plan.result _ (directive_judged (held s) u c.args.directive.now c.plan.new.plan.dids c.plan.result c.in_ok-device.ensures.0 c.in_ok-device.ensures.1 c.plan.ensures.judged) c.in_err-plan.was (search rules)
 
 pub returns-clause-foreseen : goal.returns-clause-foreseen
 returns-clause-foreseen c =
-    let t = used (goal.at.returns-clause-foreseen c).After-select in
-    foreseen _ _ _ c.dids_of.result (directive_judged t c.args.directive.now c.plan.new.plan.dids (Ok tt) (c.select.ensures.current ∙ c.in_ok-device.ensures.0) c.in_ok-device.ensures.1 c.in_ok-plan.ensures.judged) (dids_told _ _ c.args.directive.now _ _ c.plan.new.plan c.in_ok-plan.ensures.planned) c.dids_of.ensures.ok c.dids_of.ensures.only
+    let s = (goal.at.returns-clause-foreseen c).After-deref_mut-data in
+    let u : IsUsed c.deref_mut-data.result.now.devices c.in_ok-device.device c.index.result.now = record { there = there s; is = c.index.ensures } in
+    foreseen _ _ _ c.dids_of.result (directive_judged (held s) u c.args.directive.now c.plan.new.plan.dids (Ok tt) c.in_ok-device.ensures.0 c.in_ok-device.ensures.1 c.in_ok-plan.ensures.judged) (dids_told _ _ c.args.directive.now _ _ c.plan.new.plan c.in_ok-plan.ensures.planned) c.dids_of.ensures.ok c.dids_of.ensures.only
 
-pub invariant_of-self-2 : goal.invariant_of-self-2
-invariant_of-self-2 c = let t = used (goal.at.invariant_of-self-2 c).After-select in (t.kept, t.set)
+pub plan-requires-clause-items : goal.plan-requires-clause-items
+plan-requires-clause-items c = (is_admitted c.args.self.now c.args.directive.now c.in_ok-device.ensures.1).few
+
+pub plan-requires-clause-own : goal.plan-requires-clause-own
+plan-requires-clause-own c =
+    let s = (goal.at.plan-requires-clause-own c).After-deref_mut-data in
+    let u : IsUsed c.deref_mut-data.result.now.devices c.in_ok-device.device c.index.result.now = record { there = there s; is = c.index.ensures } in
+    let number : c.index.result.now.limits.number ≡ device_for c.args.directive.now c.args.self.now.state = number_used (held s) u ∙ c.in_ok-device.ensures.0 in
+    subst (λ n. own_device n (device_named c.args.directive.now) ≡ Ok tt) (sym number) (own_named c.args.self.now c.args.directive.now)

@@ -1,7 +1,8 @@
-use Rattle.std.proofs.Common.{◌≡◌, length, Ok, rules}
+use Rattle.std.proofs.Common.{◌≡◌, ◌∙◌, ◌++◌, ◌∷◌, [], ap, length, Ok, rules}
+use Rattle.acc_base.specs.Judge.{written}
 use Rattle.acc_table.specs.Making.{write_admitted}
 use Rattle.acc_table.proofs.InUse.{AreDevicesOf, opened}
-use Rattle.acc_table.proofs.Keeping.{kept_same, may_write, written_so}
+use Rattle.acc_table.proofs.Keeping.{may_write, written_so}
 use Rattle.acc_table.proofs.tables.Table.host_write.Goals.{After-deref_mut-data}
 use Rattle.acc_table.proofs.tables.Table.host_write.Goals as goal
 
@@ -11,18 +12,20 @@ held c = opened c.deref_mut-data.ensures.value c.self.invariant c.self.view_is
 admitted : (c : After-deref_mut-data) → write_admitted c.args.self.now (record { start = c.args.addr; len = length c.args.bytes.now }) ≡ Ok tt
 admitted c = search rules
 
-pub copy_to_host-requires-clause-can : goal.copy_to_host-requires-clause-can
-copy_to_host-requires-clause-can c = let s = (goal.at.copy_to_host-requires-clause-can c).After-deref_mut-data in may_write (held s) _ (admitted s)
+pub copy_to_host-requires : goal.copy_to_host-requires
+copy_to_host-requires c = let s = (goal.at.copy_to_host-requires c).After-deref_mut-data in record { can = may_write (held s) _ (admitted s) }
 
 pub invariant_of-self : goal.invariant_of-self
-invariant_of-self c = kept_same (held (goal.at.invariant_of-self c).After-deref_mut-data) c.copy_to_host.new.store c.copy_to_host.new.trace.items c.in_err-copy_to_host.ensures.same
+invariant_of-self c = let o = held (goal.at.invariant_of-self c).After-deref_mut-data in rw (c.in_err-copy_to_host.ensures.same, c.in_err-copy_to_host.ensures.same_trace) (o.kept, o.set)
 
 pub invariant_of-self-2 : goal.invariant_of-self-2
 invariant_of-self-2 c =
     let s = (goal.at.invariant_of-self-2 c).After-deref_mut-data in
-    (written_so (held s) c.copy_to_host.new.store c.args.addr c.args.bytes.now c.copy_to_host.new.trace.items (admitted s) c.in_ok-copy_to_host.ensures.limits c.in_ok-copy_to_host.ensures.state c.in_ok-copy_to_host.ensures.trace).0
+    let told = c.in_ok-copy_to_host.ensures in
+    (written_so (held s) c.copy_to_host.new.shared c.args.addr c.args.bytes.now c.copy_to_host.new.trace.items (admitted s) told.host told.numbers told.risen (told.trace ∙ ap (λ full. c.deref_mut-data.result.now.trace.items ++ written full c.args.addr c.args.bytes.now ∷ []) c.full-full.ensures)).0
 
 pub returns-clause-done : goal.returns-clause-done
 returns-clause-done c =
     let s = (goal.at.returns-clause-done c).After-deref_mut-data in
-    (written_so (held s) c.copy_to_host.new.store c.args.addr c.args.bytes.now c.copy_to_host.new.trace.items (admitted s) c.in_ok-copy_to_host.ensures.limits c.in_ok-copy_to_host.ensures.state c.in_ok-copy_to_host.ensures.trace).1
+    let told = c.in_ok-copy_to_host.ensures in
+    (written_so (held s) c.copy_to_host.new.shared c.args.addr c.args.bytes.now c.copy_to_host.new.trace.items (admitted s) told.host told.numbers told.risen (told.trace ∙ ap (λ full. c.deref_mut-data.result.now.trace.items ++ written full c.args.addr c.args.bytes.now ∷ []) c.full-full.ensures)).1

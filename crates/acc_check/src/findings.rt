@@ -2,7 +2,7 @@
 
 use crate::checks::{Line, Needless};
 use crate::histories::{Cause, Done};
-use crate::objects::{open_object, put_field, put_note_fields, put_section_fields};
+use crate::objects::{open_object, put_note_fields, put_section_fields};
 use acc_base::Section;
 use acc_read::{Names, Page, before_comment, is_word_byte};
 use acc_table::Mapped;
@@ -149,7 +149,11 @@ fn open_kind(page: &mut Page, origin: Origin<'_>, kind: &str) {
 }
 
 fn close(page: &mut Page, origin: Origin<'_>) {
-    page.text(if origin.json { "}\n" } else { "\n" });
+    if origin.json {
+        page.close_object();
+    } else {
+        page.text("\n");
+    }
 }
 
 /// Puts what a line did that a finding comes from.
@@ -207,8 +211,8 @@ pub(crate) fn put_drop(page: &mut Page, names: &Names, origin: Origin<'_>, secti
 pub(crate) fn put_needless(page: &mut Page, origin: Origin<'_>, needless: Needless) {
     open_kind(page, origin, "needless");
     if origin.json {
-        put_field(page, "bytes", needless.bytes);
-        put_field(page, "copies", needless.copies);
+        page.number_field("bytes", needless.bytes);
+        page.number_field("copies", needless.copies);
     } else {
         page.number(needless.bytes);
         page.text(" bytes in ");
@@ -232,7 +236,7 @@ pub(crate) fn put_leak(page: &mut Page, names: &Names, origin: Origin<'_>, range
 
 fn put_counter(page: &mut Page, origin: Origin<'_>, name: &str, count: u64) {
     if origin.json {
-        return put_field(page, name, count);
+        return page.number_field(name, count);
     }
     page.text(" ");
     page.text(name);

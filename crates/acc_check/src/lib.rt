@@ -10,4 +10,3 @@ mod looks;
 mod objects;
 
 pub use checks::{Check, Line, Telling};
-pub use objects::put_string;

@@ -1,30 +1,18 @@
-//! Copies what a script prints, with more lines between, or JSON in place of a report.
+//! Copies what a script prints, with each statement before that, or as JSON.
 
+use crate::effect_objects::{put_effect, put_statement};
 use crate::follows::Views;
-use crate::report_objects::put_report;
 use acc_base::Fault;
 use acc_read::{Page, Statement, statement_text};
 use acc_script::{Effect, MemorySink, Session, Sink, Status, Watcher, write_all};
 use acc_table::Table;
 use std::alloc::Global;
 
-/// A sink in memory, whose bytes are copied behind each line.
-pub trait InMemory: Sink {
-    /// Returns the bytes that it took so far.
-    fn printed(&self) -> &[u8];
-}
-
-impl InMemory for MemorySink {
-    fn printed(&self) -> &[u8] {
-        self.as_slice()
-    }
-}
-
-/// What a run prints in memory, but for its reports where they are shown as JSON.
+/// What a run prints, in memory. Nothing of it is kept where it is shown as JSON, which comes from effects.
 #[derive(Drop)]
 pub struct Printed {
     sink: MemorySink,
-    takes_reports: bool,
+    is_kept: bool,
 }
 
 impl Printed {
@@ -32,28 +20,26 @@ impl Printed {
     pub fn new(alloc: Global, views: Views) -> Printed {
         Printed {
             sink: MemorySink::new(alloc),
-            takes_reports: !views.json,
+            is_kept: !views.json,
         }
     }
 }
 
 impl Sink for Printed {
     fn write(&mut self, piece: &[u8]) -> Option<usize> {
-        self.sink.write(piece)
+        if self.is_kept {
+            self.sink.write(piece)
+        } else {
+            Some(piece.len())
+        }
     }
 
     fn takes_reports(&self) -> bool {
-        self.takes_reports
+        self.is_kept
     }
 }
 
-impl InMemory for Printed {
-    fn printed(&self) -> &[u8] {
-        self.sink.as_slice()
-    }
-}
-
-/// Copies what a run prints into memory to another sink, behind each line, for a watcher of that sink.
+/// Copies what a run prints to another sink, behind each line, for a watcher of that sink.
 #[derive(Drop)]
 pub struct Copier<'a, O, X> {
     views: Views,
@@ -116,12 +102,16 @@ impl<O: Sink, X: Watcher<O>> Copier<'_, O, X> {
         printed: &[u8],
     ) -> Result<(), Fault> {
         self.page.clear();
-        if self.views.echo {
-            put_echo(&mut self.page, statement_text(line));
-        }
-        if self.views.json && matches!(effect, Effect::Reported) {
-            put_report(&mut self.page, table);
+        let text = if self.views.echo {
+            statement_text(line)
         } else {
+            &[]
+        };
+        if self.views.json {
+            put_statement(&mut self.page, number, text);
+            put_effect(&mut self.page, number, table, effect);
+        } else {
+            put_echo(&mut self.page, text);
             self.page.bytes(printed.get(self.copied..).unwrap_or(&[]));
         }
         self.copied = printed.len();
@@ -136,7 +126,7 @@ impl<O: Sink, X: Watcher<O>> Copier<'_, O, X> {
     }
 }
 
-impl<W: InMemory, O: Sink, X: Watcher<O>> Watcher<W> for Copier<'_, O, X> {
+impl<O: Sink, X: Watcher<O>> Watcher<Printed> for Copier<'_, O, X> {
     fn before(&mut self, number: u64, line: &[u8], statement: &Statement<'_>, session: &Session) {
         self.watcher.before(number, line, statement, session);
     }
@@ -148,11 +138,11 @@ impl<W: InMemory, O: Sink, X: Watcher<O>> Watcher<W> for Copier<'_, O, X> {
         line: &[u8],
         session: &Session,
         effect: Effect,
-        writer: &mut W,
+        writer: &mut Printed,
     ) {
         if self.failed.is_none() {
             self.failed = self
-                .copy(number, line, &session.table, effect, writer.printed())
+                .copy(number, line, &session.table, effect, writer.sink.as_slice())
                 .err();
         }
         if self.failed.is_none() {

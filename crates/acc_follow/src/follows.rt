@@ -10,7 +10,7 @@ use crate::timelines::Timeline;
 use acc_base::{Config, Event, Fault, ScriptFault};
 use acc_check::{Check, Line, Telling};
 use acc_explain::fault_column;
-use acc_log::Log;
+use acc_log::{Log, LogForm};
 use acc_picture::Caption;
 use acc_read::{Names, Page, ScriptKernel, Statement};
 use acc_script::{
@@ -26,10 +26,10 @@ use std::thread::Threads;
 pub struct Views {
     /// Each statement, before what it prints.
     pub echo: bool,
-    /// A report as an object of JSON, and so what a check finds.
+    /// What it prints as objects of JSON, and so what a check finds.
     pub json: bool,
-    /// The log: what each call did.
-    pub log: bool,
+    /// The log in this form: what each call did.
+    pub log: Option<LogForm>,
     /// Why a line is at fault, why a statement is refused, and which lines are comments that look like directives.
     pub explain: bool,
     /// A picture of the memories at the end.
@@ -53,12 +53,13 @@ impl Views {
     fn show_any(self) -> bool {
         let lines = self.echo || self.json || self.lines;
         let pictures = self.picture || self.pictures || self.page;
-        lines || pictures || self.log || self.explain || self.check
+        lines || pictures || self.log.is_some() || self.explain || self.check
     }
 
     /// Whether any of it names arrays.
     fn name_arrays(self) -> bool {
-        self.log || self.check || self.picture || self.pictures || self.explain_faults()
+        let pictures = self.picture || self.pictures;
+        pictures || self.log.is_some() || self.check || self.explain_faults()
     }
 
     /// Whether any of it explains faults.
@@ -157,7 +158,7 @@ fn follow_shown<K: KernelRunner, S: Source, O: Sink, E: Sink, G: PictureSink>(
     follower.ended(out, ending)
 }
 
-/// Runs a script into memory, and copies what it prints.
+/// Runs a script, and copies what it prints.
 fn run_copied<K: KernelRunner, S: Source, O: Sink, X: Watcher<O>>(
     alloc: Global,
     kernels: &K,
@@ -174,6 +175,11 @@ fn run_copied<K: KernelRunner, S: Source, O: Sink, X: Watcher<O>>(
     let mut copier = Copier::new(alloc, views, out, watcher, lines);
     let ending = run(alloc, kernels, reader, &mut printed, config, &mut copier);
     copier.ended(ending)
+}
+
+/// The log of a script whose first line is yet to run, for these views.
+fn new_log(alloc: Global, views: Views) -> Log {
+    Log::new(alloc, views.log.unwrap_or(LogForm::Text))
 }
 
 /// Sees where a line is at fault. No line meets it before.
@@ -236,7 +242,7 @@ impl<'a, E, G> Follower<'a, E, G> {
             lines: beside.lines,
             is_silent: false,
             names: Names::new(alloc),
-            log: Log::new(alloc),
+            log: new_log(alloc, views),
             check: None,
             entries: Vec::new(alloc),
             timeline: Timeline::new(alloc),
@@ -248,7 +254,7 @@ impl<'a, E, G> Follower<'a, E, G> {
     /// Forgets the lines so far.
     pub fn forget(&mut self) {
         self.names = Names::new(self.alloc);
-        self.log = Log::new(self.alloc);
+        self.log = new_log(self.alloc, self.views);
         self.check = None;
         self.entries.clear();
         self.timeline = Timeline::new(self.alloc);
@@ -304,7 +310,7 @@ impl<O: Sink, E: Sink, G: PictureSink> Watcher<O> for Follower<'_, E, G> {
             Err(_) => {}
         }
         self.end_page(ending);
-        if self.views.log {
+        if self.views.log.is_some() {
             self.log.tell_total();
         }
     }
@@ -340,7 +346,7 @@ impl<E: Sink, G: PictureSink> Follower<'_, E, G> {
     #[inline(always)]
     fn tell(&mut self, ran: RanLine<'_>, effect: Effect) -> Result<(), Fault> {
         let (number, table) = (ran.number, &ran.session.table);
-        if self.views.log {
+        if self.views.log.is_some() {
             self.log
                 .tell(&self.names, number, ran.statement(), table, effect)?;
         }

@@ -3,18 +3,18 @@
 
 mod copiers;
 mod differences;
+mod effect_objects;
 mod follows;
 mod page_text;
 mod picture_sinks;
 mod ran_lines;
-mod report_objects;
 mod row_counts;
 mod timelines;
 
 pub use acc_explain::warnings_of;
-pub use acc_log::RowCounts;
+pub use acc_log::{LogForm, RowCounts};
 pub use acc_read::Page;
-pub use copiers::Copier;
+pub use copiers::{Copier, Printed};
 pub use differences::{Difference, first_difference};
 pub use follows::{Beside, Follower, Setting, Views, follow};
 pub use picture_sinks::{Frame, PictureSink, Stop, Unkept};

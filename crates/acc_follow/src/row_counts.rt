@@ -1,7 +1,7 @@
 //! Which rows of the clause tables a script reaches.
 
 use acc_base::{Config, Fault};
-use acc_log::{Log, RowCounts};
+use acc_log::{Log, LogForm, RowCounts};
 use acc_read::{Names, line_at, statement_text};
 use acc_script::{Effect, InOnePart, MemorySink, Session, Sink, Status, Watcher, run_text};
 use std::alloc::Global;
@@ -17,7 +17,7 @@ pub fn count_rows(
     script: &[u8],
     rows: RowCounts,
 ) -> Result<RowCounts, Fault> {
-    let mut log = Log::new(alloc);
+    let mut log = Log::new(alloc, LogForm::Text);
     log.rows = Some(rows);
     let mut counter = RowCounter {
         alloc,

@@ -3,7 +3,7 @@
 use crate::page_text::{HEAD, TAIL};
 use crate::ran_lines::RanLine;
 use acc_base::{Fault, ScriptFault};
-use acc_check::{Check, put_string};
+use acc_check::Check;
 use acc_read::{Names, Page};
 use acc_script::{Effect, MemorySink};
 use std::alloc::Global;
@@ -79,11 +79,11 @@ impl Timeline {
     fn open_line(&mut self, line: &[u8], printed: &[u8], reason: &[u8]) {
         let is_first = self.lines.as_slice().is_empty();
         self.lines.text(if is_first { "[" } else { ",\n[" });
-        put_string(&mut self.lines, line);
+        self.lines.string(line);
         self.lines.text(",");
-        put_string(&mut self.lines, printed);
+        self.lines.string(printed);
         self.lines.text(",");
-        put_string(&mut self.lines, reason);
+        self.lines.string(reason);
     }
 
     /// Adds the state that a line left, where it may have changed something. A kernel that is refused may keep a block
@@ -140,7 +140,7 @@ impl Timeline {
         let key = Vec::from_slice(self.alloc, piece)?;
         self.numbers.insert(key, number)?;
         self.pieces.text(if number == 0 { "" } else { ",\n" });
-        put_string(&mut self.pieces, piece);
+        self.pieces.string(piece);
         Ok(number)
     }
 

@@ -1,10 +1,10 @@
-//! Scripts of thousands of lines: plain, with a log or with pictures, copied line by line with reports as JSON, and some
+//! Scripts of thousands of lines: plain, with a log or with pictures, copied line by line with each statement, and some
 //! whose lines are refused or whose last line is at fault.
 
 use crate::tallies::Tally;
 use crate::texts::{Body, Script, text_of};
 use acc_base::{Config, Fault};
-use acc_follow::{Beside, Frame, Page, PictureSink, Setting, Stop, Views, follow};
+use acc_follow::{Beside, Frame, LogForm, Page, PictureSink, Setting, Stop, Views, follow};
 use acc_script::{MemorySink, MemorySource, Status, write_all};
 use std::alloc::Global;
 use std::cell::Cell;
@@ -15,7 +15,7 @@ use std::thread::Threads;
 const PLAIN: Views = Views {
     echo: false,
     json: false,
-    log: false,
+    log: None,
     explain: false,
     picture: false,
     pictures: false,
@@ -38,7 +38,7 @@ const MANY: Script = Script {
 };
 
 /// Scripts that succeed: four that are plain, one of which is of nested regions, one with a log and why lines are
-/// refused, and one with each statement before what it prints, and reports as JSON.
+/// refused, and one with each statement before what it prints.
 const SCRIPTS: [Script; 6] = [
     MANY,
     Script {
@@ -66,7 +66,7 @@ const SCRIPTS: [Script; 6] = [
         mapped: 4_000,
         times: 10_000,
         views: Views {
-            log: true,
+            log: Some(LogForm::Text),
             explain: true,
             ..PLAIN
         },
@@ -79,7 +79,6 @@ const SCRIPTS: [Script; 6] = [
         times: 5_000,
         views: Views {
             echo: true,
-            json: true,
             ..PLAIN
         },
         ..MANY

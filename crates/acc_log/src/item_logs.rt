@@ -3,7 +3,7 @@
 ghost use Rattle.std.specs.Prelude.{◌≤◌, length};
 
 use crate::accounts::{Copied, Placed};
-use crate::log_lines::{Tail, put_empty, put_mark, put_pointer, put_tail};
+use crate::log_lines::{Tail, put_mark, put_tail};
 use crate::logs::Log;
 use crate::rows::{reach_item, reach_pointer};
 use acc_base::{Aim, Did, Holding, Section, Step, Task};
@@ -120,7 +120,7 @@ impl Log {
         reach_pointer(&mut self.rows, task, "nothing");
         if section.len == 0 {
             reach_item(&mut self.rows, task, "empty");
-            put_empty(&mut self.page, item.place);
+            self.put_empty(item.place);
         } else if let Some(found) = item.found {
             reach_item(&mut self.rows, task, "inside, uncounted");
             self.put_range(names, Some(item.place), "kept", found);
@@ -159,7 +159,7 @@ impl Log {
         } else {
             self.totals.copied(copied.out, copied.section.len);
         }
-        let (word, tail) = (copy_word(is_put, copied.out), tail_of(copied.queue));
+        let (word, tail) = (copy_word(is_put, copied.out), Tail::Queue(copied.queue));
         self.put(names, item, word, copied.section, Some(copied.place), tail);
     }
 
@@ -186,6 +186,9 @@ impl Log {
     )
         requires short { length word.now ≤ 11 }
     {
+        if self.opens(word) {
+            return self.end_section(names, item, section, place, tail);
+        }
         let mut line = Line::new();
         self.texts.put_name(&mut line, names, section);
         put_tail(&mut line, tail);
@@ -216,7 +219,7 @@ impl Log {
             _ => ("detached", None),
         };
         let aimed = (pointer, target, Some(count));
-        put_pointer(&mut self.page, names, item.place, word, aimed);
+        self.put_pointer(names, item.place, word, aimed);
     }
 
     /// Puts the line of a clause that is of pointers alone, where its item did nothing.
@@ -231,7 +234,7 @@ impl Log {
             );
         }
         let aimed = (start, None, None);
-        put_pointer(&mut self.page, names, item.place, "unattached", aimed);
+        self.put_pointer(names, item.place, "unattached", aimed);
     }
 }
 
@@ -244,14 +247,6 @@ fn copy_word(is_put: bool, out: bool) -> &'static str
         (true, false) => "put in",
         (false, true) => "copied out",
         (false, false) => "copied in",
-    }
-}
-
-/// What a line says of the queue of a copy.
-fn tail_of(queue: Option<u64>) -> Tail {
-    match queue {
-        Some(queue) => Tail::Queue(queue),
-        None => Tail::None,
     }
 }
 

@@ -6,8 +6,10 @@ mod accounts;
 mod item_logs;
 mod log_lines;
 mod logs;
+mod objects;
 mod rows;
 mod totals;
 
 pub use logs::Log;
+pub use objects::LogForm;
 pub use rows::RowCounts;

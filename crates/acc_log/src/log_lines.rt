@@ -3,8 +3,9 @@
 ghost use Rattle.std.specs.Prelude.{◌≡◌, ◌+◌, ◌≤◌, [], length};
 
 use crate::accounts::Placed;
+use crate::logs::Log;
 use acc_base::{Fault, Section};
-use acc_read::{Names, Page};
+use acc_read::Names;
 use acc_script::Line;
 
 /// What each line of a log begins with.
@@ -26,8 +27,8 @@ pub enum Tail {
     None,
     /// The structured and the dynamic counter of the mapped range.
     Counters(u64, u64),
-    /// The queue of a copy.
-    Queue(u64),
+    /// The queue of a copy, if it has one.
+    Queue(Option<u64>),
     /// The serial number of a loan (OpenACC 3.3, section 2.5).
     Serial(u64),
     /// That a copy was not made, since the section was present.
@@ -36,19 +37,100 @@ pub enum Tail {
     Held,
 }
 
-/// Puts the line of a statement, by the number of its line.
-pub fn put_head(page: &mut Page, number: u64, text: &[u8]) {
-    let mut line = Line::new();
-    if text.len() <= TEXT_LIMIT {
+impl Log {
+    /// Puts the line of a statement.
+    pub(crate) fn put_head(&mut self, text: &[u8]) {
+        if self.opens("call") {
+            self.page.text_field("text", text);
+            return self.page.close_object();
+        }
+        let mut line = Line::new();
+        if text.len() <= TEXT_LIMIT {
+            line.put(b"\n");
+            line.put(text);
+            put_number(&mut line, self.line);
+            self.page.bytes(line.as_slice());
+        } else {
+            put_number(&mut line, self.line);
+            self.page.bytes(line.as_slice());
+            self.page.bytes(text);
+            self.page.text("\n");
+        }
+    }
+
+    /// Puts that no copy waited.
+    pub(crate) fn put_idle(&mut self) {
+        if self.opens("idle") {
+            return self.page.close_object();
+        }
+        self.page.text(INNER_MARK);
+        self.page.text("idle\n");
+    }
+
+    /// Puts that a statement was refused, and why.
+    pub(crate) fn put_refused(&mut self, fault: Fault) {
+        if self.opens("refused") {
+            self.page.fault_field(fault);
+            return self.page.close_object();
+        }
+        self.page.text(INNER_MARK);
+        self.page.text("refused ");
+        self.page.fault(fault);
+        self.page.text("\n");
+    }
+
+    /// Puts a line of a number, as that of a region that was entered or exited. A text has `between` before it.
+    pub(crate) fn put_numbered(&mut self, word: &str, between: &str, number: u64) {
+        if self.opens(word) {
+            self.page.number_field("number", number);
+            return self.page.close_object();
+        }
+        self.page.text(INNER_MARK);
+        self.page.text(word);
+        self.page.text(between);
+        self.page.number(number);
+        self.page.text("\n");
+    }
+
+    /// Puts the line of a section of no byte.
+    pub(crate) fn put_empty(&mut self, item: usize) {
+        if self.opens("empty") {
+            self.put_item(Some(item));
+            return self.page.close_object();
+        }
+        let mut line = Line::new();
         line.put(b"\n");
-        line.put(text);
-        put_number(&mut line, number);
-        page.bytes(line.as_slice());
-    } else {
-        put_number(&mut line, number);
-        page.bytes(line.as_slice());
-        page.bytes(text);
-        page.text("\n");
+        put_mark(&mut line, Some(item), "empty");
+        self.page.bytes(line.as_slice());
+    }
+
+    /// Puts the line of a pointer: what became of it, its new target, and how often it is attached now.
+    pub(crate) fn put_pointer(
+        &mut self,
+        names: &Names,
+        item: usize,
+        word: &str,
+        aimed: (u64, Option<u64>, Option<u64>),
+    )
+        requires short { length word.now ≤ 11 }
+    {
+        if self.opens(word) {
+            return self.end_pointer(names, item, aimed);
+        }
+        let (pointer, target, count) = aimed;
+        let mut line = Line::new();
+        put_spot(&mut line, names, pointer);
+        if let Some(count) = count {
+            line.put_field(b" count ", count);
+        }
+        if let Some(target) = target {
+            line.put_address(target);
+            line.put(b" to ");
+        }
+        line.put_address(pointer);
+        line.put(b" ");
+        put_mark(&mut line, Some(item), word);
+        self.page.bytes(line.as_slice());
     }
 }
 
@@ -59,63 +141,6 @@ fn put_number(line: &mut Line, number: u64)
 {
     line.put(b": ");
     line.put_field(b"lamwiest: line ", number);
-}
-
-/// Puts a line with these words.
-pub fn put_inner(page: &mut Page, words: &str) {
-    page.text(INNER_MARK);
-    page.text(words);
-    page.text("\n");
-}
-
-/// Puts that a statement was refused, and why.
-pub fn put_refused(page: &mut Page, fault: Fault) {
-    page.text(INNER_MARK);
-    page.text("refused ");
-    page.fault(fault);
-    page.text("\n");
-}
-
-/// Puts a line with these words and a number, as that of a region that was entered or exited.
-pub fn put_region(page: &mut Page, words: &str, number: u64) {
-    page.text(INNER_MARK);
-    page.text(words);
-    page.number(number);
-    page.text("\n");
-}
-
-/// Puts the line of a section of no byte.
-pub fn put_empty(page: &mut Page, item: usize) {
-    let mut line = Line::new();
-    line.put(b"\n");
-    put_mark(&mut line, Some(item), "empty");
-    page.bytes(line.as_slice());
-}
-
-/// Puts the line of a pointer: what became of it, its new target, and how often it is attached now.
-pub fn put_pointer(
-    page: &mut Page,
-    names: &Names,
-    item: usize,
-    word: &str,
-    aimed: (u64, Option<u64>, Option<u64>),
-)
-    requires short { length word.now ≤ 11 }
-{
-    let (pointer, target, count) = aimed;
-    let mut line = Line::new();
-    put_spot(&mut line, names, pointer);
-    if let Some(count) = count {
-        line.put_field(b" count ", count);
-    }
-    if let Some(target) = target {
-        line.put_address(target);
-        line.put(b" to ");
-    }
-    line.put_address(pointer);
-    line.put(b" ");
-    put_mark(&mut line, Some(item), word);
-    page.bytes(line.as_slice());
 }
 
 /// Begins a line with its word, behind the place of its item, if it is the line of one.
@@ -141,12 +166,12 @@ pub fn put_tail(line: &mut Line, tail: Tail)
     ensures { length line.new ≤ 143 }
 {
     match tail {
-        Tail::None => {}
+        Tail::None | Tail::Queue(None) => {}
         Tail::Counters(structured, dynamic) => {
             line.put_field(b" dynamic ", dynamic);
             line.put_field(b" structured ", structured);
         }
-        Tail::Queue(queue) => line.put_field(b" queue ", queue),
+        Tail::Queue(Some(queue)) => line.put_field(b" queue ", queue),
         Tail::Serial(serial) => line.put_field(b" serial ", serial),
         Tail::Present => line.put(b" present"),
         Tail::Held => line.put(b" held"),

@@ -3,7 +3,8 @@
 
 use crate::accounts::{Account, Placed};
 use crate::item_logs::LogItem;
-use crate::log_lines::{Tail, Texts, put_head, put_inner, put_refused, put_region};
+use crate::log_lines::{Tail, Texts};
+use crate::objects::LogForm;
 use crate::rows::{RowCounts, has_readonly, reach, reach_item};
 use crate::totals::{REFUSED, Totals, WAITING};
 use acc_base::{Did, Event, Fault, Found, Section, Step, Task};
@@ -18,6 +19,10 @@ pub struct Log {
     pub page: Page,
     /// How often rows of the clause tables were reached, where that is counted.
     pub rows: Option<RowCounts>,
+    /// How its lines are put.
+    pub(crate) form: LogForm,
+    /// The number of the line of the last statement in it.
+    pub(crate) line: u64,
     /// What the events in the log say of ranges, pointers, queues and regions.
     pub(crate) account: Account,
     /// The texts of the range that its lines name.
@@ -36,6 +41,8 @@ impl Drop for Log {
         let Log {
             page: _,
             rows: _,
+            form: _,
+            line: _,
             account: _,
             texts: _,
             totals: _,
@@ -47,10 +54,12 @@ impl Drop for Log {
 
 impl Log {
     /// Returns the log of a script whose first line is yet to run.
-    pub fn new(alloc: Global) -> Log {
+    pub fn new(alloc: Global, form: LogForm) -> Log {
         Log {
             page: Page::new(alloc),
             rows: None,
+            form,
+            line: 0,
             account: Account::new(alloc),
             texts: Texts::new(),
             totals: Totals::new(),
@@ -78,7 +87,8 @@ impl Log {
             rows.readonly = has_readonly(text);
         }
         if self.told < table.trace().len() || is_outcome(effect) {
-            put_head(&mut self.page, number, text);
+            self.line = number;
+            self.put_head(text);
             self.tell_device(table);
             self.tell_events(names, table);
             self.put_outcome(effect);
@@ -92,7 +102,7 @@ impl Log {
     /// Puts the last line: how much was done in all, and how many copies wait still.
     pub fn tell_total(&mut self) {
         self.totals.add(WAITING, self.account.waiting() as u64);
-        self.totals.put(&mut self.page);
+        self.totals.put(&mut self.page, self.form);
     }
 
     /// Counts the row of a statement that was refused.
@@ -126,7 +136,7 @@ impl Log {
             None | Some(Event::HostWritten { .. }) => {}
             Some(event) => {
                 if table.config().devices() > 1 {
-                    put_region(&mut self.page, "device ", event.device());
+                    self.put_numbered("device", " ", event.device());
                 }
             }
         }
@@ -146,11 +156,11 @@ impl Log {
         match effect {
             Effect::EmptyQueue => {
                 reach(&mut self.rows, "step", "none");
-                put_inner(&mut self.page, "idle");
+                self.put_idle();
             }
             Effect::Refused(fault) => {
                 self.totals.add(REFUSED, 1);
-                put_refused(&mut self.page, fault);
+                self.put_refused(fault);
             }
             _ => {}
         }
@@ -162,11 +172,11 @@ impl Log {
             Event::Entered { number, .. } => {
                 self.tell_items(names, table, event);
                 self.account.open(at);
-                put_region(&mut self.page, "entered region ", *number);
+                self.put_numbered("entered", " region ", *number);
             }
             Event::Left { number, .. } => {
                 self.tell_exit(names, table, event.did());
-                put_region(&mut self.page, "exited region ", *number);
+                self.put_numbered("exited", " region ", *number);
             }
             Event::Waited { queue, count, .. } => self.tell_waited(names, *queue, *count),
             Event::Stepped { queue, .. } => {
@@ -249,7 +259,7 @@ impl Log {
         let outcome = if count > 0 { "some" } else { "none" };
         reach(&mut self.rows, directive, outcome);
         if count == 0 {
-            put_inner(&mut self.page, "idle");
+            self.put_idle();
         }
         for _ in 0..count {
             self.tell_next(names, queue);

@@ -1,19 +1,20 @@
 //! How much was done in all.
 
 use crate::log_lines::MARK;
+use crate::objects::LogForm;
 use acc_base::Step;
 use acc_read::Page;
 
-/// What stands before each total, in the order of the last line of a log.
-const WORDS: [&str; 8] = [
-    " mapped ",
-    " ended ",
-    " copied in ",
-    " bytes ",
-    " copied out ",
-    " bytes ",
-    " waiting ",
-    " refused ",
+/// What stands before each total in the last line of a log, and the name of its field in an object, in their order.
+const NAMES: [(&str, &str); 8] = [
+    (" mapped ", "mapped"),
+    (" ended ", "ended"),
+    (" copied in ", "copied_in"),
+    (" bytes ", "bytes_in"),
+    (" copied out ", "copied_out"),
+    (" bytes ", "bytes_out"),
+    (" waiting ", "waiting"),
+    (" refused ", "refused"),
 ];
 
 /// The total of statements that were refused.
@@ -58,13 +59,29 @@ impl Totals {
     }
 
     /// Puts the last line of a log.
-    pub fn put(&self, page: &mut Page) {
+    pub fn put(&self, page: &mut Page, form: LogForm) {
+        match form {
+            LogForm::Text => self.put_text(page),
+            LogForm::Json => self.put_object(page),
+        }
+    }
+
+    fn put_text(&self, page: &mut Page) {
         page.text(MARK);
         page.text("total");
-        for (words, total) in WORDS.iter().zip(&self.0) {
+        for ((words, _), total) in NAMES.iter().zip(&self.0) {
             page.text(words);
             page.number(*total);
         }
         page.text("\n");
+    }
+
+    fn put_object(&self, page: &mut Page) {
+        page.open_object("total");
+        page.null_field("line");
+        for ((_, name), total) in NAMES.iter().zip(&self.0) {
+            page.number_field(name, *total);
+        }
+        page.close_object();
     }
 }

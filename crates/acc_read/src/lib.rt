@@ -15,6 +15,7 @@ mod kept;
 mod kernels;
 mod lines;
 mod names;
+mod objects;
 mod pages;
 mod places;
 mod queues;

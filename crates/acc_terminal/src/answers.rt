@@ -5,18 +5,17 @@ ghost use Rattle.acc_script.specs.Runs.{LineRuns, Printed};
 ghost use Rattle.acc_script.specs.Sessions.{session_state};
 
 use acc_base::Fault;
-use acc_follow::{Copier, Setting, Views};
+use acc_follow::{Copier, Printed, Setting, Views};
 use acc_read::ScriptKernel;
 use acc_script::{
-    ByCall, KernelRunner, Lease, MemorySink, Session, Sink, Watcher, run_in_threads, run_line,
-    write_all,
+    ByCall, KernelRunner, Lease, Session, Sink, Watcher, run_in_threads, run_line, write_all,
 };
 use std::alloc::Global;
 use std::sync::Wait;
 use std::thread::Threads;
 
 /// Runs the line of a number as [`run_line`] does, with kernels in threads. Views may show its statement before what it
-/// prints, or a report as JSON.
+/// prints, or that as JSON.
 ///
 /// # Errors
 ///
@@ -51,7 +50,7 @@ pub fn run_shown<R: Threads + Wait + Sync + AllocGlobal, O: Sink, X: Watcher<O>>
     run_line(&kernels, number, session, line, out, watcher)
 }
 
-/// Runs the line of a number into memory, and copies what it prints.
+/// Runs the line of a number, and copies what it prints.
 fn run_copied<K: KernelRunner, O: Sink, X: Watcher<O>>(
     alloc: Global,
     kernels: &K,
@@ -64,7 +63,7 @@ fn run_copied<K: KernelRunner, O: Sink, X: Watcher<O>>(
 ) -> Result<bool, Fault>
     requires { K.able kernels.now }
 {
-    let mut printed = MemorySink::new(alloc);
+    let mut printed = Printed::new(alloc, views);
     let mut lines = Vec::new(alloc);
     let mut copier = Copier::new(alloc, views, out, watcher, &mut lines);
     let ending = run_line(kernels, number, session, line, &mut printed, &mut copier);

@@ -4,7 +4,7 @@ ghost use Rattle.std.specs.Prelude.{◌≤◌};
 
 use crate::manners::{Manner, Terminals};
 use acc_emit::Language;
-use acc_follow::Views;
+use acc_follow::{LogForm, Views};
 use acc_trials::{Machine, bytes_of, first_words, options_in};
 use clap::builder::ValueParser;
 use clap::error::ErrorKind;
@@ -104,8 +104,12 @@ const OF_LINES: &[Row] = &[
     ("trace", "WHAT", "What the trace keeps"),
     ("events", "N", "How many events it may have"),
     ("echo", "", "Write each statement before its output"),
-    ("json", "", "Write reports, and what --check finds, as JSON"),
-    ("log", "", "Tell what each call did"),
+    (
+        "json",
+        "",
+        "Write the output, and what --check finds, as JSON",
+    ),
+    ("log", "HOW", "Tell what each call did"),
     ("explain", "WHEN", "Tell why a line is at fault or refused"),
     ("check", "HOW", "Tell reads of stale bytes"),
 ];
@@ -140,6 +144,9 @@ const TRACES: &[&str] = &["counts", "full"];
 
 /// When a script is explained.
 const TIMES: &[&str] = &["auto", "always", "never"];
+
+/// How the lines of the log are written.
+const LOGS: &[&str] = &["text", "json"];
 
 /// Whether stale bytes are warned of, make the status 1 too, or are told with what may be meant.
 const CHECKS: &[&str] = &["warn", "error", "all"];
@@ -202,6 +209,7 @@ fn option<'a>(alloc: Global, row: Row) -> Arg<'a> {
         "drill" => number(option, 1_000),
         "random" => option.value_parser(value_parser!(u64)),
         "explain" => optional(option.value_parser(TIMES), "always"),
+        "log" => optional(option.value_parser(LOGS), "text"),
         "check" => optional(option.value_parser(CHECKS), "warn"),
         "trace" => option.value_parser(TRACES).default_value("counts"),
         "emit" => option.value_parser(LANGUAGES),
@@ -353,7 +361,7 @@ impl<'a> Options<'a> {
             shown: Views {
                 echo: self.shown.echo || line.shown.echo,
                 json: self.shown.json || line.shown.json,
-                log: self.shown.log || line.shown.log,
+                log: self.shown.log.or(line.shown.log),
                 check: self.shown.check || line.shown.check,
                 check_fails: self.shown.check_fails || line.shown.check_fails,
                 check_all: self.shown.check_all || line.shown.check_all,
@@ -510,11 +518,18 @@ fn language(matches: &ArgMatches<'_>) -> Option<Language> {
     }
 }
 
+fn log_form(matches: &ArgMatches<'_>) -> Option<LogForm> {
+    match matches.get_str("log")? {
+        "json" => Some(LogForm::Json),
+        _ => Some(LogForm::Text),
+    }
+}
+
 fn shown_by(matches: &ArgMatches<'_>) -> Views {
     Views {
         echo: matches.get_flag("echo"),
         json: matches.get_flag("json"),
-        log: matches.get_flag("log"),
+        log: log_form(matches),
         explain: false,
         picture: matches.get_str("svg").is_some(),
         pictures: matches.get_str("svg-every").is_some(),

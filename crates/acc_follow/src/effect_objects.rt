@@ -1,49 +1,95 @@
-//! The report as an object of JSON, on one line.
+//! What a line prints as an object of JSON.
 
 ghost use Rattle.std.specs.Prelude.{◌≡◌, ◌≤◌, [], length};
 
 use acc_base::{QUEUE_COUNT, Section};
 use acc_read::Page;
-use acc_script::Line;
+use acc_script::{Effect, Line};
 use acc_table::{Mapped, Place, Table};
 
-/// Puts the report of a table as one JSON object on one line: what the report's lines say, in their order. Addresses
-/// are decimal numbers.
-pub fn put_report(page: &mut Page, table: &Table) {
-    let config = table.config();
-    put_field(page, "{\"host\":", config.host());
-    put_field(page, ",\"device\":", config.device());
-    if config.devices() > 1 {
-        put_devices(page, table);
-    } else {
-        page.text(",");
-        put_device(page, table, 0);
+/// Puts the statement of a line, if it has one.
+pub fn put_statement(page: &mut Page, number: u64, text: &[u8]) {
+    if !text.is_empty() {
+        open(page, number, "statement");
+        page.text_field("text", text);
+        page.close_object();
     }
-    put_field(page, ",\"regions\":", table.regions());
-    put_field(page, ",\"events\":", table.events());
-    page.text("}\n");
 }
 
-fn put_devices(page: &mut Page, table: &Table) {
-    page.text(",\"devices\":[");
-    for device in 0..table.config().devices() {
-        put_comma(page, device == 0);
-        page.text("{");
+/// Puts what the line of a number prints, if it prints something. Addresses are decimal numbers.
+pub fn put_effect(page: &mut Page, number: u64, table: &Table, effect: Effect) {
+    match effect {
+        Effect::Nothing => return,
+        Effect::EmptyQueue => open(page, number, "idle"),
+        Effect::Refused(fault) => {
+            open(page, number, "refused");
+            page.fault_field(fault);
+        }
+        Effect::HostBytes(section) => {
+            open(page, number, "show");
+            put_bytes(page, table.host_read(section));
+        }
+        Effect::DeviceBytes { device, section } => {
+            open(page, number, "peek");
+            put_bytes(page, table.device_read(device, section));
+        }
+        Effect::Presence(is_present) => {
+            open(page, number, "present");
+            page.name_field("present");
+            page.text(if is_present { "true" } else { "false" });
+        }
+        Effect::Place(place) => {
+            open(page, number, "address");
+            page.maybe_field("address", place);
+        }
+        Effect::Reported => {
+            open(page, number, "report");
+            put_report(page, table);
+        }
+    }
+    page.close_object();
+}
+
+fn open(page: &mut Page, number: u64, kind: &str) {
+    page.open_object(kind);
+    page.number_field("line", number);
+}
+
+/// Puts the bytes that a memory has, if it has them, as digits.
+fn put_bytes(page: &mut Page, bytes: Option<&[u8]>) {
+    let Some(bytes) = bytes else {
+        return page.null_field("bytes");
+    };
+    page.name_field("bytes");
+    page.text("\"");
+    page.digits(bytes);
+    page.text("\"");
+}
+
+/// Puts what the lines of a report say, in their order, for one device as for several.
+fn put_report(page: &mut Page, table: &Table) {
+    let config = table.config();
+    page.number_field("host", config.host());
+    page.number_field("device", config.device());
+    page.name_field("devices");
+    for device in 0..config.devices() {
+        page.text(if device == 0 { "[" } else { "," });
         put_device(page, table, device);
-        page.text("}");
     }
     page.text("]");
+    page.number_field("regions", table.regions());
+    page.number_field("events", table.events());
 }
 
 fn put_device(page: &mut Page, table: &Table, device: u64) {
-    put_field(page, "\"used\":", table.used(device));
+    put_field(page, "{\"used\":", table.used(device));
     page.text(",\"ranges\":[");
     put_ranges(page, table, device);
     page.text("],\"ended\":[");
     put_all_ended(page, table, device);
     page.text("],\"queues\":[");
     put_queues(page, table, device);
-    page.text("]");
+    page.text("]}");
 }
 
 fn put_comma(page: &mut Page, is_first: bool) {

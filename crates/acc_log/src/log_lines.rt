@@ -115,7 +115,7 @@ impl Log {
         requires short { length word.now ≤ 11 }
     {
         if self.opens(word) {
-            return self.end_pointer(names, item, aimed);
+            return self.end_pointer(names, item, word, aimed);
         }
         let (pointer, target, count) = aimed;
         let mut line = Line::new();

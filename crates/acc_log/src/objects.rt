@@ -32,7 +32,7 @@ impl Log {
         self.page.number_field("line", self.line);
     }
 
-    /// Ends the object of a line of a section.
+    /// Ends the object of a line of a section. Only a copy may be of no item, as one that waited.
     pub(crate) fn end_section(
         &mut self,
         names: &Names,
@@ -41,10 +41,14 @@ impl Log {
         place: Option<u64>,
         tail: Tail,
     ) {
-        self.put_item(item);
+        if item.is_some() || matches!(tail, Tail::Queue(_)) {
+            self.put_item(item);
+        }
         self.page.number_field("start", section.start);
         self.page.number_field("length", section.len);
-        self.page.maybe_field("place", place);
+        if let Some(place) = place {
+            self.page.number_field("place", place);
+        }
         match tail {
             Tail::None | Tail::Present | Tail::Held => {}
             Tail::Counters(structured, dynamic) => {
@@ -58,18 +62,23 @@ impl Log {
         self.page.close_object();
     }
 
-    /// Ends the object of a line of a pointer.
+    /// Ends the object of a line of a pointer. One that is attached once more has no new target.
     pub(crate) fn end_pointer(
         &mut self,
         names: &Names,
         item: usize,
+        word: &str,
         aimed: (u64, Option<u64>, Option<u64>),
     ) {
         let (pointer, target, count) = aimed;
         self.put_item(Some(item));
         self.page.number_field("address", pointer);
-        self.page.maybe_field("target", target);
-        self.page.maybe_field("count", count);
+        if word == "attached" {
+            self.page.maybe_field("target", target);
+        }
+        if let Some(count) = count {
+            self.page.number_field("count", count);
+        }
         self.page.spot_fields(names.spot(pointer));
         self.page.close_object();
     }
@@ -83,9 +92,10 @@ impl Log {
     }
 }
 
-/// The kind of an object, by the word that its line has in a text.
+/// The kind of an object, by the word that its line has in a text. A finding has the kind `dropped`.
 fn kind_of(word: &str) -> &str {
     match word {
+        "dropped" => "counted-down",
         "copied in" => "copied-in",
         "copied out" => "copied-out",
         "put in" => "put-in",

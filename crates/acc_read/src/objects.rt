@@ -106,23 +106,32 @@ impl Page {
     /// Adds a text as a string, which may stand in an element `script` of a page.
     pub fn string(&mut self, text: &[u8]) {
         self.text("\"");
-        for byte in text {
-            self.put_byte(*byte);
+        let mut from = 0;
+        for (at, byte) in text.iter().enumerate() {
+            if is_escaped(*byte) {
+                self.bytes(text.get(from..at).unwrap_or(&[]));
+                self.put_escape(*byte);
+                from = at.saturating_add(1);
+            }
         }
+        self.bytes(text.get(from..).unwrap_or(&[]));
         self.text("\"");
     }
 
-    /// A `<` might begin the end of the element.
-    fn put_byte(&mut self, byte: u8) {
+    fn put_escape(&mut self, byte: u8) {
         match byte {
             b'"' => self.text("\\\""),
             b'\\' => self.text("\\\\"),
             b'\n' => self.text("\\n"),
-            0..=31 | b'<' => {
+            _ => {
                 self.text("\\u00");
                 self.digits(&[byte]);
             }
-            _ => self.bytes(&[byte]),
         }
     }
+}
+
+/// Whether a byte does not stand for itself in a string. A `<` might begin the end of the element `script`.
+fn is_escaped(byte: u8) -> bool {
+    matches!(byte, 0..=31 | b'"' | b'\\' | b'<')
 }

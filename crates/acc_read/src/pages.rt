@@ -6,6 +6,9 @@ use acc_base::Fault;
 use std::alloc::Global;
 use std::fmt::{self, Write};
 
+/// How many bytes are turned into digits at a time.
+const PIECE: usize = 64;
+
 /// A text that grows. Only [`Page::whole`] returns that there was no memory, so what writes to a page needs no `?`.
 #[derive(Drop)]
 pub struct Page {
@@ -61,10 +64,12 @@ impl Page {
 
     /// Adds each of some bytes as two hexadecimal digits in lower case.
     pub fn digits(&mut self, bytes: &[u8]) {
-        for byte in bytes {
-            let mut digits = [0u8; 2];
-            let _ = hex::encode_to_slice([*byte], &mut digits);
-            self.bytes(&digits);
+        for piece in bytes.chunks(PIECE) {
+            let mut digits = [0u8; 2 * PIECE];
+            if let Some(digits) = digits.get_mut(..piece.len().saturating_mul(2)) {
+                let _ = hex::encode_to_slice(piece, digits);
+                self.bytes(digits);
+            }
         }
     }
 

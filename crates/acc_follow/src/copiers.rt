@@ -10,22 +10,22 @@ use std::alloc::Global;
 
 /// What a run prints, in memory. Nothing of it is kept where it is shown as JSON, which comes from effects.
 #[derive(Drop)]
-pub struct Printed {
+pub struct RunSink {
     sink: MemorySink,
     is_kept: bool,
 }
 
-impl Printed {
+impl RunSink {
     /// Nothing yet, to be shown with these views.
-    pub fn new(alloc: Global, views: Views) -> Printed {
-        Printed {
+    pub fn new(alloc: Global, views: Views) -> RunSink {
+        RunSink {
             sink: MemorySink::new(alloc),
             is_kept: !views.json,
         }
     }
 }
 
-impl Sink for Printed {
+impl Sink for RunSink {
     fn write(&mut self, piece: &[u8]) -> Option<usize> {
         if self.is_kept {
             self.sink.write(piece)
@@ -126,7 +126,7 @@ impl<O: Sink, X: Watcher<O>> Copier<'_, O, X> {
     }
 }
 
-impl<O: Sink, X: Watcher<O>> Watcher<Printed> for Copier<'_, O, X> {
+impl<O: Sink, X: Watcher<O>> Watcher<RunSink> for Copier<'_, O, X> {
     fn before(&mut self, number: u64, line: &[u8], statement: &Statement<'_>, session: &Session) {
         self.watcher.before(number, line, statement, session);
     }
@@ -138,7 +138,7 @@ impl<O: Sink, X: Watcher<O>> Watcher<Printed> for Copier<'_, O, X> {
         line: &[u8],
         session: &Session,
         effect: Effect,
-        writer: &mut Printed,
+        writer: &mut RunSink,
     ) {
         if self.failed.is_none() {
             self.failed = self

@@ -98,9 +98,9 @@ fn put_comma(page: &mut Page, is_first: bool) {
     }
 }
 
-/// Puts what stands before a number, with its name, and the number.
-fn put_field(page: &mut Page, name: &str, number: u64) {
-    page.text(name);
+/// Puts a number behind what stands before it in its object, its name too.
+fn put_field(page: &mut Page, before: &str, number: u64) {
+    page.text(before);
     page.number(number);
 }
 

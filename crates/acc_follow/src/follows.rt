@@ -3,7 +3,7 @@
 ghost use Rattle.std.specs.Prelude.{[]};
 ghost use Rattle.acc_script.specs.Told.{Took};
 
-use crate::copiers::{Copier, Printed};
+use crate::copiers::{Copier, RunSink};
 use crate::picture_sinks::{Frame, PictureSink, Stop};
 use crate::ran_lines::{RanLine, draw_session};
 use crate::timelines::Timeline;
@@ -171,7 +171,7 @@ fn run_copied<K: KernelRunner, S: Source, O: Sink, X: Watcher<O>>(
     requires { K.able kernels.now }
 {
     let Setting { config, views, .. } = setting;
-    let mut printed = Printed::new(alloc, views);
+    let mut printed = RunSink::new(alloc, views);
     let mut copier = Copier::new(alloc, views, out, watcher, lines);
     let ending = run(alloc, kernels, reader, &mut printed, config, &mut copier);
     copier.ended(ending)

@@ -14,7 +14,7 @@ mod timelines;
 pub use acc_explain::warnings_of;
 pub use acc_log::{LogForm, RowCounts};
 pub use acc_read::Page;
-pub use copiers::{Copier, Printed};
+pub use copiers::{Copier, RunSink};
 pub use differences::{Difference, first_difference};
 pub use follows::{Beside, Follower, Setting, Views, follow};
 pub use picture_sinks::{Frame, PictureSink, Stop, Unkept};

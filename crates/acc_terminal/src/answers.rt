@@ -5,7 +5,7 @@ ghost use Rattle.acc_script.specs.Runs.{LineRuns, Printed};
 ghost use Rattle.acc_script.specs.Sessions.{session_state};
 
 use acc_base::Fault;
-use acc_follow::{Copier, Printed, Setting, Views};
+use acc_follow::{Copier, RunSink, Setting, Views};
 use acc_read::ScriptKernel;
 use acc_script::{
     ByCall, KernelRunner, Lease, Session, Sink, Watcher, run_in_threads, run_line, write_all,
@@ -63,7 +63,7 @@ fn run_copied<K: KernelRunner, O: Sink, X: Watcher<O>>(
 ) -> Result<bool, Fault>
     requires { K.able kernels.now }
 {
-    let mut printed = Printed::new(alloc, views);
+    let mut printed = RunSink::new(alloc, views);
     let mut lines = Vec::new(alloc);
     let mut copier = Copier::new(alloc, views, out, watcher, &mut lines);
     let ending = run_line(kernels, number, session, line, &mut printed, &mut copier);

@@ -38,9 +38,10 @@ pub enum Tail {
 }
 
 impl Log {
-    /// Puts the line of a statement.
-    pub(crate) fn put_head(&mut self, text: &[u8]) {
+    /// Puts the line of a statement. An object has its device too, if something was done on one.
+    pub(crate) fn put_head(&mut self, text: &[u8], device: Option<u64>) {
         if self.opens("call") {
+            self.page.maybe_field("device_num", device);
             self.page.text_field("text", text);
             return self.page.close_object();
         }
@@ -79,15 +80,23 @@ impl Log {
         self.page.text("\n");
     }
 
-    /// Puts a line of a number, as that of a region that was entered or exited. A text has `between` before it.
-    pub(crate) fn put_numbered(&mut self, word: &str, between: &str, number: u64) {
+    /// Puts the line of the device, in a text.
+    pub(crate) fn put_device(&mut self, device: u64) {
+        self.page.text(INNER_MARK);
+        self.page.text("device ");
+        self.page.number(device);
+        self.page.text("\n");
+    }
+
+    /// Puts the line of a region that was entered or exited.
+    pub(crate) fn put_region(&mut self, word: &str, number: u64) {
         if self.opens(word) {
             self.page.number_field("number", number);
             return self.page.close_object();
         }
         self.page.text(INNER_MARK);
         self.page.text(word);
-        self.page.text(between);
+        self.page.text(" region ");
         self.page.number(number);
         self.page.text("\n");
     }

@@ -88,8 +88,7 @@ impl Log {
         }
         if self.told < table.trace().len() || is_outcome(effect) {
             self.line = number;
-            self.put_head(text);
-            self.tell_device(table);
+            self.tell_call(text, table);
             self.tell_events(names, table);
             self.put_outcome(effect);
         }
@@ -129,16 +128,24 @@ impl Log {
         }
     }
 
-    /// Puts the line of the device, where there are several. All events of a statement are on one device, so one line
-    /// is enough. A write of the host is on no device here, though its event names the first.
-    fn tell_device(&mut self, table: &Table) {
+    /// Puts the line of a statement and of its device. An object has the device always, a text only where there are
+    /// several.
+    fn tell_call(&mut self, text: &[u8], table: &Table) {
+        let device = self.device(table);
+        self.put_head(text, device);
+        let has_line = matches!(self.form, LogForm::Text) && table.config().devices() > 1;
+        match device {
+            Some(device) if has_line => self.put_device(device),
+            _ => {}
+        }
+    }
+
+    /// The device of the events that are not told yet. All of a statement are on one. A write of the host is on none
+    /// here, though its event names the first.
+    fn device(&self, table: &Table) -> Option<u64> {
         match table.trace().get(self.told) {
-            None | Some(Event::HostWritten { .. }) => {}
-            Some(event) => {
-                if table.config().devices() > 1 {
-                    self.put_numbered("device", " ", event.device());
-                }
-            }
+            None | Some(Event::HostWritten { .. }) => None,
+            Some(event) => Some(event.device()),
         }
     }
 
@@ -172,11 +179,11 @@ impl Log {
             Event::Entered { number, .. } => {
                 self.tell_items(names, table, event);
                 self.account.open(at);
-                self.put_numbered("entered", " region ", *number);
+                self.put_region("entered", *number);
             }
             Event::Left { number, .. } => {
                 self.tell_exit(names, table, event.did());
-                self.put_numbered("exited", " region ", *number);
+                self.put_region("exited", *number);
             }
             Event::Waited { queue, count, .. } => self.tell_waited(names, *queue, *count),
             Event::Stepped { queue, .. } => {

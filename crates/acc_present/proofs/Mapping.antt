@@ -22,9 +22,10 @@ use Rattle.acc_base.proofs.Elements.{AllByRecursion-weaker, AllByRecursion-both,
 use Rattle.acc_base.proofs.Keyed as keyed
 use Rattle.acc_index.specs.Indexed.{IsIndexRising, value_at}
 use Rattle.acc_ordered.specs.declared.entries.KeyValueRef.{KeyValueRef}
-use Rattle.acc_ordered.specs.Listing.{KeyValue, at_key, entry_in, seen, first_from, last_before, with_entry, without_key, value_written, with_value, told_in}
+use Rattle.acc_ordered.specs.Listing.{KeyValue, at_key, entry_in, seen, first_from, last_before, with_entry, without_key, value_written, with_value}
 use Rattle.acc_present.specs.Present.{AreMapped}
-use Rattle.acc_present.specs.Kept.{range_in, ranges_in, IsKeyed, start_at, IsIndexed}
+use Rattle.acc_present.specs.declared.ranges.Mapping.{Mapping}
+use Rattle.acc_present.specs.Kept.{range_in, ranges_in, mapping_of, IsAtAddress, start_at, IsIndexed}
 use Rattle.acc_present.proofs.Finding.{last_below, starts_rise}
 
 -- a range's start and its block
@@ -35,112 +36,77 @@ abbrev pub block_key : Range → ℕ
 block_key r = r.block
 
 -- the same of an entry
-abbrev pub key_of : KeyValue Range → ℕ
+abbrev pub key_of : KeyValue Mapping → ℕ
 key_of e = e.key
 
-abbrev pub mapped_block : KeyValue Range → ℕ
+abbrev pub mapped_block : KeyValue Mapping → ℕ
 mapped_block e = e.value.block
 
 -- ---- what a search among the entries finds
 
-pub first-ranges : (k : ℕ) (es : List (KeyValue Range)) → option_map range_in (first_from k es) ≡ range_from k (ranges_in es)
+pub first-ranges : (k : ℕ) (es : List (KeyValue Mapping)) → option_map range_in (first_from k es) ≡ range_from k (ranges_in es)
 first-ranges k es = sym (find-map range_in (λ e. nat_le k e.key) (λ r. nat_le k r.section.start) es (λ e. refl))
 
-pub last-ranges : (k : ℕ) (es : List (KeyValue Range)) → option_map range_in (last_before k es) ≡ last_below k (ranges_in es)
+pub last-ranges : (k : ℕ) (es : List (KeyValue Mapping)) → option_map range_in (last_before k es) ≡ last_below k (ranges_in es)
 last-ranges k [] = refl
 last-ranges k (e ∷ es) = go (last-ranges k es) (last_before k es) refl (nat_lt e.key k)
   where
-    go : option_map range_in (last_before k es) ≡ last_below k (ranges_in es) → (o : Option (KeyValue Range)) → last_before k es ≡ o → (b : Bool)
+    go : option_map range_in (last_before k es) ≡ last_below k (ranges_in es) → (o : Option (KeyValue Mapping)) → last_before k es ≡ o → (b : Bool)
         → option_map range_in (option_or o (cond b (Some e) None)) ≡ option_or (last_below k (ranges_in es)) (cond b (Some (range_in e)) None)
     go rest None is true = rw (← rest, is) refl
     go rest None is false = rw (← rest, is) refl
     go rest (Some x) is b = rw (← rest, is) refl
 
-pub block-ranges : (block : ℕ) (es : List (KeyValue Range)) → range_of block (ranges_in es) ≡ option_map range_in (at mapped_block block es)
+pub block-ranges : (block : ℕ) (es : List (KeyValue Mapping)) → range_of block (ranges_in es) ≡ option_map range_in (at mapped_block block es)
 block-ranges block es = find-map range_in (λ e. e.value.block == block) (λ r. r.block == block) es (λ e. refl)
 
-pub start-ranges : (start : ℕ) (es : List (KeyValue Range)) → at start_key start (ranges_in es) ≡ option_map range_in (at_key start es)
+pub start-ranges : (start : ℕ) (es : List (KeyValue Mapping)) → at start_key start (ranges_in es) ≡ option_map range_in (at_key start es)
 start-ranges start es = find-map range_in (λ e. e.key == start) (λ r. r.section.start == start) es (λ e. refl)
 
--- a value is the range of its entry
-value_is : (e : KeyValue Range) → IsKeyed e → e.value ≡ range_in e
-value_is e keyed = ap (λ (k : ℕ). record { section = record { start = k; len = e.value.section.len }; block = e.value.block; structured = e.value.structured; dynamic = e.value.dynamic }) keyed.start
-
-value_if : (o : Option (KeyValue Range)) → IfSome o IsKeyed → option_map (λ (e : KeyValue Range). e.value) o ≡ option_map range_in o
-value_if None keyed = refl
-value_if (Some e) keyed = ap (λ (r : Range). Some r) (value_is e keyed)
-
-keyed_found : (p : KeyValue Range → Bool) (es : List (KeyValue Range)) → AllByRecursion IsKeyed es → IfSome (find p es) IsKeyed
-keyed_found p es keyed = go (find p es) refl
-  where
-    go : (o : Option (KeyValue Range)) → find p es ≡ o → IfSome o IsKeyed
-    go None e = tt
-    go (Some x) e = (found_has IsKeyed p es x keyed e).0
-
-keyed_last : (k : ℕ) (es : List (KeyValue Range)) → AllByRecursion IsKeyed es → IfSome (last_before k es) IsKeyed
-keyed_last k [] keyed = tt
-keyed_last k (e ∷ es) keyed = go (last_before k es) (nat_lt e.key k) (keyed_last k es keyed.1)
-  where
-    go : (o : Option (KeyValue Range)) (b : Bool) → IfSome o IsKeyed → IfSome (option_or o (cond b (Some e) None)) IsKeyed
-    go None true h = keyed.0
-    go None false h = tt
-    go (Some x) b h = h
-
-pub first_value : (k : ℕ) (es : List (KeyValue Range)) → AllByRecursion IsKeyed es → option_map (λ (e : KeyValue Range). e.value) (first_from k es) ≡ range_from k (ranges_in es)
-first_value k es keyed = value_if (first_from k es) (keyed_found (λ e. nat_le k e.key) es keyed) ∙ first-ranges k es
-
-last_value : (k : ℕ) (es : List (KeyValue Range)) → AllByRecursion IsKeyed es → option_map (λ (e : KeyValue Range). e.value) (last_before k es) ≡ last_below k (ranges_in es)
-last_value k es keyed = value_if (last_before k es) (keyed_last k es keyed) ∙ last-ranges k es
-
 -- the last entry below an address has the last range below it
-pub last_found : (k : ℕ) (es : List (KeyValue Range)) (before : Option (KeyValue Range)) (o : Option Range) → AllByRecursion IsKeyed es → before ≡ last_before k es → o ≡ option_map (λ (e : KeyValue Range). e.value) before → last_below k (ranges_in es) ≡ o
-last_found k es before o keyed is image = sym (last_value k es keyed) ∙ ap (option_map (λ (e : KeyValue Range). e.value)) (sym is) ∙ sym image
-
-pub all_values : (es : List (KeyValue Range)) → AllByRecursion IsKeyed es → told_in (λ (key : ℕ) (range : Range). range) es ≡ ranges_in es
-all_values [] keyed = refl
-all_values (e ∷ es) keyed = ap (λ (r : Range). r ∷ told_in (λ (key : ℕ) (range : Range). range) es) (value_is e keyed.0) ∙ ap (λ (rs : List Range). range_in e ∷ rs) (all_values es keyed.1)
+pub last_found : (k : ℕ) (es : List (KeyValue Mapping)) (before : Option (KeyValue Mapping)) (o : Option Range) → before ≡ last_before k es → o ≡ option_map range_in before → last_below k (ranges_in es) ≡ o
+last_found k es before o is image = sym (last-ranges k es) ∙ ap (option_map range_in) (sym is) ∙ sym image
 
 -- no range begins behind the last address
-pub none_past : (k : ℕ) (es : List (KeyValue Range)) → 2 ^ 64 ≤ k → AllByRecursion IsKeyed es → range_from k (ranges_in es) ≡ None
-none_past k es past keyed = find-none (λ (r : Range). nat_le k r.section.start) (ranges_in es) (AllByRecursion-map (λ (r : Range). nat_le k r.section.start ≡ false) range_in es (AllByRecursion-weaker IsKeyed (λ (e : KeyValue Range). nat_le k e.key ≡ false) es (λ e h. let bound = h.bound in grind (arith, nat_tests)) keyed))
+pub none_past : (k : ℕ) (es : List (KeyValue Mapping)) → 2 ^ 64 ≤ k → AllByRecursion IsAtAddress es → range_from k (ranges_in es) ≡ None
+none_past k es past addresses = find-none (λ (r : Range). nat_le k r.section.start) (ranges_in es) (AllByRecursion-map (λ (r : Range). nat_le k r.section.start ≡ false) range_in es (AllByRecursion-weaker IsAtAddress (λ (e : KeyValue Mapping). nat_le k e.key ≡ false) es (λ e bound. let less : e.key < 2 ^ 64 = bound in grind (arith, nat_tests)) addresses))
 
 -- ---- each entry has its own start and its own block
 
-all_unmapped : (P : Range → Type 0) (es : List (KeyValue Range)) → AllByRecursion P (ranges_in es) → AllByRecursion (λ e. P (range_in e)) es
+all_unmapped : (P : Range → Type 0) (es : List (KeyValue Mapping)) → AllByRecursion P (ranges_in es) → AllByRecursion (λ e. P (range_in e)) es
 all_unmapped P [] h = tt
 all_unmapped P (e ∷ es) h = (h.0, all_unmapped P es h.1)
 
-pairs_unmapped : (R : Range → Range → Type 0) (es : List (KeyValue Range)) → EachPair R (ranges_in es) → EachPair (λ (e f : KeyValue Range). R (range_in e) (range_in f)) es
+pairs_unmapped : (R : Range → Range → Type 0) (es : List (KeyValue Mapping)) → EachPair R (ranges_in es) → EachPair (λ (e f : KeyValue Mapping). R (range_in e) (range_in f)) es
 pairs_unmapped R [] h = tt
 pairs_unmapped R (e ∷ es) h = (all_unmapped (R (range_in e)) es h.0, pairs_unmapped R es h.1)
 
-own_key : (es : List (KeyValue Range)) → AreMapped (ranges_in es) → AllByRecursion (λ e. at_key e.key es ≡ Some e) es
+own_key : (es : List (KeyValue Mapping)) → AreMapped (ranges_in es) → AllByRecursion (λ e. at_key e.key es ≡ Some e) es
 own_key es m = at-own key_of es (keyed.rise_distinct key_of es (pairs_unmapped (λ (r : Range) (t : Range). r.section.start < t.section.start) es (starts_rise (ranges_in es) m)))
 
-own_mapped_block : (es : List (KeyValue Range)) → AreMapped (ranges_in es) → AllByRecursion (λ e. at mapped_block e.value.block es ≡ Some e) es
+own_mapped_block : (es : List (KeyValue Mapping)) → AreMapped (ranges_in es) → AllByRecursion (λ e. at mapped_block e.value.block es ≡ Some e) es
 own_mapped_block es m = at-own mapped_block es (pairs_unmapped (λ (r : Range) (t : Range). r.block ≡ t.block → ⊥) es m.own_block)
 
 -- the entry of a key is that of a block, by both
-pub record IsEntryBoth (block : ℕ) (es : List (KeyValue Range)) (e : KeyValue Range) : Type 0 where
+pub record IsEntryBoth (block : ℕ) (es : List (KeyValue Mapping)) (e : KeyValue Mapping) : Type 0 where
   pub key : at_key e.key es ≡ Some e
   pub by_block : at mapped_block block es ≡ Some e
   pub is : e.value.block ≡ block
 
 -- an entry that a key finds is that of its block
-pub by_key : (block : ℕ) (es : List (KeyValue Range)) (e : KeyValue Range) → AreMapped (ranges_in es) → at_key e.key es ≡ Some e → e.value.block ≡ block → IsEntryBoth block es e
-by_key block es e m found is = record { key = found; by_block = subst (λ n. at mapped_block n es ≡ Some e) is (found_has (λ (x : KeyValue Range). at mapped_block x.value.block es ≡ Some x) (λ x. x.key == e.key) es e (own_mapped_block es m) found).0; is = is }
+pub by_key : (block : ℕ) (es : List (KeyValue Mapping)) (e : KeyValue Mapping) → AreMapped (ranges_in es) → at_key e.key es ≡ Some e → e.value.block ≡ block → IsEntryBoth block es e
+by_key block es e m found is = record { key = found; by_block = subst (λ n. at mapped_block n es ≡ Some e) is (found_has (λ (x : KeyValue Mapping). at mapped_block x.value.block es ≡ Some x) (λ x. x.key == e.key) es e (own_mapped_block es m) found).0; is = is }
 
--- and its value is the range of that block
-range_found : (key : ℕ) (es : List (KeyValue Range)) (e : KeyValue Range) → AllByRecursion IsKeyed es → AreMapped (ranges_in es) → at_key key es ≡ Some e → range_of e.value.block (ranges_in es) ≡ Some e.value
-range_found key es e keyed m found =
-    let own = subst (λ (o : Option (KeyValue Range)). IfSome o IsKeyed) found (keyed_found (λ e. e.key == key) es keyed) in
-    let by_block = (found_has (λ (x : KeyValue Range). at mapped_block x.value.block es ≡ Some x) (λ x. x.key == key) es e (own_mapped_block es m) found).0 in
-    block-ranges e.value.block es ∙ ap (option_map range_in) by_block ∙ ap (λ (r : Range). Some r) (sym (value_is e own))
+-- and has the range of that block
+range_found : (key : ℕ) (es : List (KeyValue Mapping)) (e : KeyValue Mapping) → AreMapped (ranges_in es) → at_key key es ≡ Some e → range_of e.value.block (ranges_in es) ≡ Some (range_in e)
+range_found key es e m found =
+    let by_block = (found_has (λ (x : KeyValue Mapping). at mapped_block x.value.block es ≡ Some x) (λ x. x.key == key) es e (own_mapped_block es m) found).0 in
+    block-ranges e.value.block es ∙ ap (option_map range_in) by_block
 
 -- where there is one
-pub ranges_found : (es : List (KeyValue Range)) (o : Option (KeyValueRef ℕ Range)) → AllByRecursion IsKeyed es → AreMapped (ranges_in es) → IfSome o (λ found. at_key found.key es ≡ seen (λ (key : ℕ). key) o) → IfSome (option_map (λ (e : KeyValue Range). e.value) (seen (λ (key : ℕ). key) o)) (λ r. range_of r.block (ranges_in es) ≡ Some r)
-ranges_found es None keyed m found = tt
-ranges_found es (Some e) keyed m found = range_found e.key es (entry_in (λ (key : ℕ). key) e) keyed m found
+pub ranges_found : (es : List (KeyValue Mapping)) (o : Option (KeyValueRef ℕ Mapping)) → AreMapped (ranges_in es) → IfSome o (λ found. at_key found.key es ≡ seen (λ (key : ℕ). key) o) → IfSome (option_map range_in (seen (λ (key : ℕ). key) o)) (λ r. range_of r.block (ranges_in es) ≡ Some r)
+ranges_found es None m found = tt
+ranges_found es (Some e) m found = range_found e.key es (entry_in (λ (key : ℕ). key) e) m found
 
 -- a range that is found by a block is mapped to it
 pub block_is : (block : ℕ) (rs : List Range) (r : Range) → range_of block rs ≡ Some r → r.block ≡ block
@@ -149,27 +115,27 @@ block_is block rs r found =
     equal r.block block passes.1
 
 -- the entry is that of the range that is mapped to the block
-pub record IsEntryOf (block : ℕ) (entries : List (KeyValue Range)) (e : KeyValue Range) : Type 0 where
+pub record IsEntryOf (block : ℕ) (entries : List (KeyValue Mapping)) (e : KeyValue Mapping) : Type 0 where
   pub found : at_key e.key entries ≡ Some e
   pub range : range_of block (ranges_in entries) ≡ Some (range_in e)
 
 -- and one that is found as the range of a block is found by its key
-pub both_of : (block : ℕ) (es : List (KeyValue Range)) (e : KeyValue Range) → AreMapped (ranges_in es) → IsEntryOf block es e → IsEntryBoth block es e
+pub both_of : (block : ℕ) (es : List (KeyValue Mapping)) (e : KeyValue Mapping) → AreMapped (ranges_in es) → IsEntryOf block es e → IsEntryBoth block es e
 both_of block es e m h =
     by_key block es e m h.found (block_is block (ranges_in es) (range_in e) h.range)
 
 -- a mapped range has an entry
-entry_of : (block : ℕ) (es : List (KeyValue Range)) (r : Range) → AreMapped (ranges_in es) → range_of block (ranges_in es) ≡ Some r → (e : KeyValue Range) × IsEntryOf block es e × (range_in e ≡ r)
+entry_of : (block : ℕ) (es : List (KeyValue Mapping)) (r : Range) → AreMapped (ranges_in es) → range_of block (ranges_in es) ≡ Some r → (e : KeyValue Mapping) × IsEntryOf block es e × (range_in e ≡ r)
 entry_of block es r m there = go (at mapped_block block es) refl
   where
-    go : (o : Option (KeyValue Range)) → at mapped_block block es ≡ o → (e : KeyValue Range) × IsEntryOf block es e × (range_in e ≡ r)
+    go : (o : Option (KeyValue Mapping)) → at mapped_block block es ≡ o → (e : KeyValue Mapping) × IsEntryOf block es e × (range_in e ≡ r)
     go None is = let none : range_of block (ranges_in es) ≡ None = block-ranges block es ∙ ap (option_map range_in) is in cc
     go (Some e) is =
         let range : range_of block (ranges_in es) ≡ Some (range_in e) = block-ranges block es ∙ ap (option_map range_in) is in
-        (e, record { found = (found_has (λ (x : KeyValue Range). at_key x.key es ≡ Some x) (λ x. x.value.block == block) es e (own_key es m) is).0; range = range }, same_Some (range_in e) r (sym range ∙ there))
+        (e, record { found = (found_has (λ (x : KeyValue Mapping). at_key x.key es ≡ Some x) (λ x. x.value.block == block) es e (own_key es m) is).0; range = range }, same_Some (range_in e) r (sym range ∙ there))
 
 -- which stands at its start
-pub key_there : (block : ℕ) (es : List (KeyValue Range)) (r : Range) → AreMapped (ranges_in es) → range_of block (ranges_in es) ≡ Some r → IsSome (at_key r.section.start es)
+pub key_there : (block : ℕ) (es : List (KeyValue Mapping)) (r : Range) → AreMapped (ranges_in es) → range_of block (ranges_in es) ≡ Some r → IsSome (at_key r.section.start es)
 key_there block es r m there =
     let p = entry_of block es r m there in
     rw (← p.2) (rw p.1.found refl)
@@ -177,8 +143,8 @@ key_there block es r m there =
 -- ---- the start of a block's range
 
 -- the range at the start that is kept for a block
-pub range_at : (block start : ℕ) (es : List (KeyValue Range)) (starts : ℕ → Option ℕ) → IsIndexed es starts → starts block ≡ Some start → option_map (λ (e : KeyValue Range). e.value) (at_key start es) ≡ range_of block (ranges_in es)
-range_at block start es starts kept given = value_if (at_key start es) (keyed_found (λ e. e.key == start) es kept.keyed) ∙ sym (start-ranges start es) ∙ go (range_of block (ranges_in es)) refl
+pub range_at : (block start : ℕ) (es : List (KeyValue Mapping)) (starts : ℕ → Option ℕ) → IsIndexed es starts → starts block ≡ Some start → option_map range_in (at_key start es) ≡ range_of block (ranges_in es)
+range_at block start es starts kept given = sym (start-ranges start es) ∙ go (range_of block (ranges_in es)) refl
   where
     go : (o : Option Range) → range_of block (ranges_in es) ≡ o → at start_key start (ranges_in es) ≡ o
     go None is = let none : starts block ≡ None = kept.agrees block ∙ ap (option_map start_key) is in cc
@@ -187,7 +153,7 @@ range_at block start es starts kept given = value_if (at_key start es) (keyed_fo
         ap (λ n. at start_key n (ranges_in es)) same ∙ keyed.at-found start_key (λ t. t.block == block) (ranges_in es) r (starts_rise (ranges_in es) kept.mapped) is
 
 -- the range that begins where it is kept that a block's does
-pub started : (block start : ℕ) (es : List (KeyValue Range)) (starts : ℕ → Option ℕ) → IsIndexed es starts → starts block ≡ Some start → (r : Range) × (range_of block (ranges_in es) ≡ Some r) × (r.section.start ≡ start)
+pub started : (block start : ℕ) (es : List (KeyValue Mapping)) (starts : ℕ → Option ℕ) → IsIndexed es starts → starts block ≡ Some start → (r : Range) × (range_of block (ranges_in es) ≡ Some r) × (r.section.start ≡ start)
 started block start es starts kept given = go (range_of block (ranges_in es)) refl
   where
     go : (o : Option Range) → range_of block (ranges_in es) ≡ o → (r : Range) × (range_of block (ranges_in es) ≡ Some r) × (r.section.start ≡ start)
@@ -195,13 +161,13 @@ started block start es starts kept given = go (range_of block (ranges_in es)) re
     go (Some r) is = (r, is, same_Some (start_key r) start (sym (kept.agrees block ∙ ap (option_map start_key) is) ∙ given))
 
 -- and no start is kept for a block that no range has
-pub start_new : (block : ℕ) (es : List (KeyValue Range)) (starts : ℕ → Option ℕ) → IsIndexed es starts → range_of block (ranges_in es) ≡ None → starts block ≡ None
+pub start_new : (block : ℕ) (es : List (KeyValue Mapping)) (starts : ℕ → Option ℕ) → IsIndexed es starts → range_of block (ranges_in es) ≡ None → starts block ≡ None
 start_new block es starts kept none = kept.agrees block ∙ ap (option_map start_key) none
 
 -- ---- a range more
 
 -- its entry goes in by its start
-pub with_entry-ranges : (new : KeyValue Range) (es : List (KeyValue Range)) → ranges_in (with_entry new es) ≡ with_range (range_in new) (ranges_in es)
+pub with_entry-ranges : (new : KeyValue Mapping) (es : List (KeyValue Mapping)) → ranges_in (with_entry new es) ≡ with_range (range_in new) (ranges_in es)
 with_entry-ranges new [] = refl
 with_entry-ranges new (e ∷ es) = go (with_entry-ranges new es) (nat_lt new.key e.key)
   where
@@ -224,7 +190,7 @@ of-with_range new rs block none = go (new.block == block) refl
     go false t = find-put_other put (λ r. r.block == block) rs t
 
 -- no range begins where an absent section does
-pub absent_start : (new : Range) (es : List (KeyValue Range)) → AreMapped (ranges_in es) → where_is new.section (ranges_in es) ≡ Absent → at_key new.section.start es ≡ None
+pub absent_start : (new : Range) (es : List (KeyValue Mapping)) → AreMapped (ranges_in es) → where_is new.section (ranges_in es) ≡ Absent → at_key new.section.start es ≡ None
 absent_start new es m absent =
     let says = absent_says new.section (ranges_in es) absent in
     let len : 0 < new.section.len = grind (arith, nat_tests, says.1) in
@@ -243,11 +209,11 @@ mapped-with new rs m absent none =
       own_block = apart_with (λ r t. r.block ≡ t.block → ⊥) new rs (AllByRecursion-weaker (λ (r : Range). (r.block == new.block) ≡ false) (λ r. (new.block ≡ r.block → ⊥) × (r.block ≡ new.block → ⊥)) rs (λ r f. (λ same. grind (arith, nat_tests), λ same. grind (arith, nat_tests))) (find_none (λ (r : Range). r.block == new.block) rs none)) m.own_block;
     }
 
-pub mapped_now : (new : KeyValue Range) (es : List (KeyValue Range)) (starts told : ℕ → Option ℕ) → IsIndexed es starts → IsKeyed new → where_is (range_in new).section (ranges_in es) ≡ Absent → range_of new.value.block (ranges_in es) ≡ None
+pub mapped_now : (new : KeyValue Mapping) (es : List (KeyValue Mapping)) (starts told : ℕ → Option ℕ) → IsIndexed es starts → IsAtAddress new → where_is (range_in new).section (ranges_in es) ≡ Absent → range_of new.value.block (ranges_in es) ≡ None
     → ((block : ℕ) → told block ≡ cond (new.value.block == block) (Some new.key) (starts block)) → IsIndexed (with_entry new es) told
 mapped_now new es starts told kept own absent none says = record {
   mapped = rw (with_entry-ranges new es) (mapped-with (range_in new) (ranges_in es) kept.mapped absent none);
-  keyed = all-put (put_in_entries new) IsKeyed es own kept.keyed;
+  at_addresses = all-put (put_in_entries new) IsAtAddress es own kept.at_addresses;
   agrees = λ block.
       says block
       ∙ ap (cond (new.value.block == block) (Some new.key)) (kept.agrees block)
@@ -266,20 +232,20 @@ mapped-without block rs m = record {
 }
 
 -- of each entry, its key is that of the block's exactly where its block is the block
-pub record IsOnlyOne (block : ℕ) (e x : KeyValue Range) : Type 0 where
+pub record IsOnlyOne (block : ℕ) (e x : KeyValue Mapping) : Type 0 where
   pub tests : (x.key == e.key) ≡ (x.value.block == block)
   pub same : (x.key == e.key) ≡ true → x ≡ e
 
-pub only_one : (block : ℕ) (es : List (KeyValue Range)) (e : KeyValue Range) → AreMapped (ranges_in es) → IsEntryBoth block es e → AllByRecursion (IsOnlyOne block e) es
+pub only_one : (block : ℕ) (es : List (KeyValue Mapping)) (e : KeyValue Mapping) → AreMapped (ranges_in es) → IsEntryBoth block es e → AllByRecursion (IsOnlyOne block e) es
 only_one block es e m h = AllByRecursion-both (λ x. at_key x.key es ≡ Some x) (λ x. at mapped_block x.value.block es ≡ Some x) (IsOnlyOne block e) es (λ x k b. record { tests = tests x k b; same = λ t. by_its_key x k t }) (own_key es m) (own_mapped_block es m)
   where
-    by_its_key : (x : KeyValue Range) → at_key x.key es ≡ Some x → (x.key == e.key) ≡ true → x ≡ e
+    by_its_key : (x : KeyValue Mapping) → at_key x.key es ≡ Some x → (x.key == e.key) ≡ true → x ≡ e
     by_its_key x k t = same_Some x e (sym k ∙ ap (λ n. at_key n es) (equal x.key e.key t) ∙ h.key)
 
-    by_its_block : (x : KeyValue Range) → at mapped_block x.value.block es ≡ Some x → (x.value.block == block) ≡ true → x ≡ e
+    by_its_block : (x : KeyValue Mapping) → at mapped_block x.value.block es ≡ Some x → (x.value.block == block) ≡ true → x ≡ e
     by_its_block x b t = same_Some x e (sym b ∙ ap (λ n. at mapped_block n es) (equal x.value.block block t) ∙ h.by_block)
 
-    tests : (x : KeyValue Range) → at_key x.key es ≡ Some x → at mapped_block x.value.block es ≡ Some x → (x.key == e.key) ≡ (x.value.block == block)
+    tests : (x : KeyValue Mapping) → at_key x.key es ≡ Some x → at mapped_block x.value.block es ≡ Some x → (x.key == e.key) ≡ (x.value.block == block)
     tests x k b = go (x.key == e.key) refl (x.value.block == block) refl
       where
         go : (s : Bool) → (x.key == e.key) ≡ s → (t : Bool) → (x.value.block == block) ≡ t → s ≡ t
@@ -288,7 +254,7 @@ only_one block es e m h = AllByRecursion-both (λ x. at_key x.key es ≡ Some x)
         go true s false t = let same : x ≡ e = by_its_key x k s in let is : x.value.block ≡ block = ap mapped_block same ∙ h.is in absurd (differ x.value.block block t is)
         go false s true t = let same : x ≡ e = by_its_block x b t in absurd (differ x.key e.key s (ap key_of same))
 
-ranges-without : (block : ℕ) (e : KeyValue Range) (es : List (KeyValue Range)) → AllByRecursion (IsOnlyOne block e) es → ranges_in (without_key e.key es) ≡ without_range block (ranges_in es)
+ranges-without : (block : ℕ) (e : KeyValue Mapping) (es : List (KeyValue Mapping)) → AllByRecursion (IsOnlyOne block e) es → ranges_in (without_key e.key es) ≡ without_range block (ranges_in es)
 ranges-without block e [] only = refl
 ranges-without block e (x ∷ es) only = rw only.0.tests (go (ranges-without block e es only.1) (x.value.block == block))
   where
@@ -297,11 +263,11 @@ ranges-without block e (x ∷ es) only = rw only.0.tests (go (ranges-without blo
     go rest false = ap (λ rs. range_in x ∷ rs) rest
 
 -- what the entries are once a range is taken out
-pub record IsUnmappedNow (block : ℕ) (es ts : List (KeyValue Range)) (starts : ℕ → Option ℕ) : Type 0 where
+pub record IsUnmappedNow (block : ℕ) (es ts : List (KeyValue Mapping)) (starts : ℕ → Option ℕ) : Type 0 where
   pub ranges : ranges_in ts ≡ without_range block (ranges_in es)
   pub indexed : IsIndexed ts starts
 
-pub unmapped_now : (block : ℕ) (es : List (KeyValue Range)) (starts told : ℕ → Option ℕ) (r : Range) → IsIndexed es starts → range_of block (ranges_in es) ≡ Some r → ((other : ℕ) → told other ≡ cond (block == other) None (starts other)) → IsUnmappedNow block es (without_key r.section.start es) told
+pub unmapped_now : (block : ℕ) (es : List (KeyValue Mapping)) (starts told : ℕ → Option ℕ) (r : Range) → IsIndexed es starts → range_of block (ranges_in es) ≡ Some r → ((other : ℕ) → told other ≡ cond (block == other) None (starts other)) → IsUnmappedNow block es (without_key r.section.start es) told
 unmapped_now block es starts told r kept there says =
     let p = entry_of block es r kept.mapped there in
     let e = p.0 in
@@ -311,7 +277,7 @@ unmapped_now block es starts told r kept there says =
       ranges = ranges;
       indexed = record {
         mapped = rw ranges (mapped-without block (ranges_in es) kept.mapped);
-        keyed = AllByRecursion-filter IsKeyed (λ x. not (x.key == e.key)) es kept.keyed;
+        at_addresses = AllByRecursion-filter IsAtAddress (λ x. not (x.key == e.key)) es kept.at_addresses;
         agrees = λ other.
             says other
             ∙ ap (cond (block == other) None) (kept.agrees other)
@@ -355,40 +321,40 @@ starts_few (e ∷ es) rs rise agrees =
 -- ---- a range changed
 
 -- a range at its own start is the range of its entry
-whole : (r : Range) (k : ℕ) → r.section.start ≡ k → range_in (record { key = k; value = r }) ≡ r
+whole : (r : Range) (k : ℕ) → r.section.start ≡ k → range_in (record { key = k; value = mapping_of r }) ≡ r
 whole r k is = sym (ap (λ (n : ℕ). record r { section = record r.section { start = n } }) is)
 
-ranges-changed : (block : ℕ) (f : Range → Range) (e : KeyValue Range) (es : List (KeyValue Range)) → KeepsPlace f → AllByRecursion (IsOnlyOne block e) es → ranges_in (with_value e.key (f (range_in e)) es) ≡ changed_at block f (ranges_in es)
+ranges-changed : (block : ℕ) (f : Range → Range) (e : KeyValue Mapping) (es : List (KeyValue Mapping)) → KeepsPlace f → AllByRecursion (IsOnlyOne block e) es → ranges_in (with_value e.key (mapping_of (f (range_in e))) es) ≡ changed_at block f (ranges_in es)
 ranges-changed block f e [] keeps only = refl
-ranges-changed block f e (x ∷ es) keeps only = ap (λ r. r ∷ ranges_in (with_value e.key (f (range_in e)) es)) (one only.0) ∙ ap (λ rs. cond (x.value.block == block) (f (range_in x)) (range_in x) ∷ rs) (ranges-changed block f e es keeps only.1)
+ranges-changed block f e (x ∷ es) keeps only = ap (λ r. r ∷ ranges_in (with_value e.key (mapping_of (f (range_in e))) es)) (one only.0) ∙ ap (λ rs. cond (x.value.block == block) (f (range_in x)) (range_in x) ∷ rs) (ranges-changed block f e es keeps only.1)
   where
-    one : IsOnlyOne block e x → range_in (value_written e.key (f (range_in e)) x) ≡ cond (x.value.block == block) (f (range_in x)) (range_in x)
+    one : IsOnlyOne block e x → range_in (value_written e.key (mapping_of (f (range_in e))) x) ≡ cond (x.value.block == block) (f (range_in x)) (range_in x)
     one o = rw (← o.tests) (go (x.key == e.key) refl)
       where
-        go : (b : Bool) → (x.key == e.key) ≡ b → range_in (cond b (record x { value = f (range_in e) }) x) ≡ cond b (f (range_in x)) (range_in x)
+        go : (b : Bool) → (x.key == e.key) ≡ b → range_in (cond b (record x { value = mapping_of (f (range_in e)) }) x) ≡ cond b (f (range_in x)) (range_in x)
         go true t = let same : x ≡ e = o.same t in rw same (whole (f (range_in e)) e.key (ap (λ (s : Section). s.start) (keeps.section (range_in e))))
         go false t = refl
 
 -- what the entries are once the range of a block is changed
-pub record IsChangedNow (block : ℕ) (f : Range → Range) (es ts : List (KeyValue Range)) (starts : ℕ → Option ℕ) : Type 0 where
+pub record IsChangedNow (block : ℕ) (f : Range → Range) (es ts : List (KeyValue Mapping)) (starts : ℕ → Option ℕ) : Type 0 where
   pub ranges : ranges_in ts ≡ changed_at block f (ranges_in es)
   pub indexed : IsIndexed ts starts
 
-changed_now : (block : ℕ) (f : Range → Range) (es : List (KeyValue Range)) (starts : ℕ → Option ℕ) (e : KeyValue Range) → KeepsPlace f → IsIndexed es starts → IsEntryOf block es e → IsChangedNow block f es (with_value e.key (f (range_in e)) es) starts
+changed_now : (block : ℕ) (f : Range → Range) (es : List (KeyValue Mapping)) (starts : ℕ → Option ℕ) (e : KeyValue Mapping) → KeepsPlace f → IsIndexed es starts → IsEntryOf block es e → IsChangedNow block f es (with_value e.key (mapping_of (f (range_in e))) es) starts
 changed_now block f es starts e keeps kept h = record {
   ranges = ranges;
   indexed = record {
     mapped = rw ranges changed_mapped;
-    keyed = AllByRecursion-map IsKeyed (value_written e.key (f (range_in e))) es (AllByRecursion-weaker IsKeyed (λ x. IsKeyed (value_written e.key (f (range_in e)) x)) es (λ x k. still_keyed x k (x.key == e.key) refl) kept.keyed);
+    at_addresses = AllByRecursion-map IsAtAddress (value_written e.key (mapping_of (f (range_in e)))) es (AllByRecursion-weaker IsAtAddress (λ x. IsAtAddress (value_written e.key (mapping_of (f (range_in e))) x)) es (λ x k. still_there x k (x.key == e.key)) kept.at_addresses);
     agrees = λ other. kept.agrees other ∙ sym (start_same other (ranges_in es)) ∙ ap (start_at other) (sym ranges);
   };
 }
   where
-    still_keyed : (x : KeyValue Range) → IsKeyed x → (b : Bool) → (x.key == e.key) ≡ b → IsKeyed (cond b (record x { value = f (range_in e) }) x)
-    still_keyed x k true t = record { start = ap (λ (s : Section). s.start) (keeps.section (range_in e)) ∙ sym (equal x.key e.key t); bound = k.bound }
-    still_keyed x k false t = k
+    still_there : (x : KeyValue Mapping) → IsAtAddress x → (b : Bool) → IsAtAddress (cond b (record x { value = mapping_of (f (range_in e)) }) x)
+    still_there x k true = k
+    still_there x k false = k
 
-    ranges : ranges_in (with_value e.key (f (range_in e)) es) ≡ changed_at block f (ranges_in es)
+    ranges : ranges_in (with_value e.key (mapping_of (f (range_in e))) es) ≡ changed_at block f (ranges_in es)
     ranges = ranges-changed block f e es keeps (only_one block es e kept.mapped (both_of block es e kept.mapped h))
 
     changed_mapped : AreMapped (changed_at block f (ranges_in es))
@@ -409,9 +375,9 @@ changed_now block f es starts e keeps kept h = record {
         pick rest false = rest
 
 -- the same where the changed range was written over it
-pub written_now : (block : ℕ) (f : Range → Range) (es ts : List (KeyValue Range)) (starts : ℕ → Option ℕ) (r new : Range) → KeepsPlace f → IsIndexed es starts → range_of block (ranges_in es) ≡ Some r
-    → new ≡ f r → ts ≡ with_value r.section.start new es → IsChangedNow block f es ts starts
+pub written_now : (block : ℕ) (f : Range → Range) (es ts : List (KeyValue Mapping)) (starts : ℕ → Option ℕ) (r : Range) (new : Mapping) → KeepsPlace f → IsIndexed es starts → range_of block (ranges_in es) ≡ Some r
+    → new ≡ mapping_of (f r) → ts ≡ with_value r.section.start new es → IsChangedNow block f es ts starts
 written_now block f es ts starts r new keeps kept there is now =
     let p = entry_of block es r kept.mapped there in
-    let same : ts ≡ with_value p.0.key (f (range_in p.0)) es = now ∙ ap (λ (x : Range). with_value r.section.start x es) is ∙ ap (λ (x : Range). with_value x.section.start (f x) es) (sym p.2) in
+    let same : ts ≡ with_value p.0.key (mapping_of (f (range_in p.0))) es = now ∙ ap (λ (m : Mapping). with_value r.section.start m es) is ∙ ap (λ (x : Range). with_value x.section.start (mapping_of (f x)) es) (sym p.2) in
     rw same (changed_now block f es starts p.0 keeps kept p.1)

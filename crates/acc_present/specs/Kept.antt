@@ -11,6 +11,7 @@ use Rattle.acc_base.specs.Ranges.{range_of, range_from, where_is_apart, counter_
 use Rattle.acc_base.specs.Register.{Region}
 use Rattle.acc_index.specs.Indexed.{IndexState, value_at}
 use Rattle.acc_ordered.specs.Listing.{KeyValue}
+use Rattle.acc_present.specs.declared.ranges.Mapping.{Mapping}
 use Rattle.acc_present.specs.declared.ranges.CounterChange.{CounterChange}
 use Rattle.acc_present.specs.declared.ranges.CounterChange.TheVariants.{Raise, Lower, Clear}
 use Rattle.acc_present.specs.Present.{AreMapped}
@@ -18,17 +19,20 @@ use Rattle.acc_present.specs.Present.{AreMapped}
 -- ---- the ranges
 
 -- the range of an entry, whose key is its start
-abbrev pub range_in : KeyValue Range → Range
-range_in e = record { section = record { start = e.key; len = e.value.section.len }; block = e.value.block; structured = e.value.structured; dynamic = e.value.dynamic }
+abbrev pub range_in : KeyValue Mapping → Range
+range_in e = record { section = record { start = e.key; len = e.value.len }; block = e.value.block; structured = e.value.structured; dynamic = e.value.dynamic }
 
 -- the ranges of some entries
-abbrev pub ranges_in : List (KeyValue Range) → List Range
+abbrev pub ranges_in : List (KeyValue Mapping) → List Range
 ranges_in entries = map range_in entries
 
--- the entry has the start of its range for a key, which is an address
-pub record IsKeyed (e : KeyValue Range) : Type 0 where
-  pub start : e.value.section.start ≡ e.key
-  pub bound : e.key < 2 ^ 64
+-- what an entry has of a range beside its key
+abbrev pub mapping_of : Range → Mapping
+mapping_of r = record { len = r.section.len; block = r.block; structured = r.structured; dynamic = r.dynamic }
+
+-- the key of the entry is an address
+abbrev pub IsAtAddress : KeyValue Mapping → Type 0
+IsAtAddress e = e.key < 2 ^ 64
 
 -- ---- the start of each block's range
 
@@ -40,10 +44,10 @@ start_in starts block = value_at block starts.entries
 abbrev pub start_at : ℕ → List Range → Option ℕ
 start_at block ranges = option_map (λ r. r.section.start) (range_of block ranges)
 
--- the ranges are mapped, each by its start, and the start of each block's range is kept
-pub record IsIndexed (entries : List (KeyValue Range)) (starts : ℕ → Option ℕ) : Type 0 where
+-- the ranges are mapped, each at an address, and the start of each block's range is kept
+pub record IsIndexed (entries : List (KeyValue Mapping)) (starts : ℕ → Option ℕ) : Type 0 where
   pub mapped : AreMapped (ranges_in entries)
-  pub keyed : AllByRecursion IsKeyed entries
+  pub at_addresses : AllByRecursion IsAtAddress entries
   pub agrees : (block : ℕ) → starts block ≡ start_at block (ranges_in entries)
 
 -- ---- a search

@@ -9,10 +9,10 @@ ghost use Rattle.acc_base.specs.Ranges.{where_is, where_is_apart, range_of, rang
 ghost use Rattle.acc_base.specs.Register.{region_at, newest_region, holdings_at, with_region, without_region};
 ghost use Rattle.acc_ordered.specs.Listing.{seen};
 ghost use Rattle.acc_present.specs.Present.{IsWithinLimit, new_table, with_ranges, with_regions, HasRange, HasRegion, IsToldBy, IsRoomKept, IsRangeRoomTaken, IsRegionRoomTaken, IsRoomMissing, IsMemoryNeeded, IsLawful, region_of};
-ghost use Rattle.acc_present.specs.Kept.{IsNext, IsChangeable, changed_by};
+ghost use Rattle.acc_present.specs.Kept.{range_in, IsNext, IsChangeable, changed_by};
 
 use crate::ranges::{
-    CounterChange, RangeAlone, changed, is_allowed, is_listed, told_by, value_of, within,
+    CounterChange, Mapping, RangeKept, changed, is_allowed, is_listed, told_by, value_of, within,
 };
 use crate::register::{OpenRegion, Register};
 use acc_base::{Counter, Counters, Fault, Found, Holding, Range, Section, Steps};
@@ -33,7 +33,7 @@ use std::marker::Model;
 pub struct Present {
     counter_max: u64,
     // By start.
-    ranges: OrderedList<u64, Range>,
+    ranges: OrderedList<u64, Mapping>,
     // The host address at which the range of each block begins.
     starts: Index<u64>,
     register: Register,
@@ -101,10 +101,11 @@ impl Clone for Present {
 
 /// The range that was found, if one was.
 #[inline]
-fn range_if(found: Option<KeyValueRef<'_, u64, Range>>) -> Option<Range>
-    ensures { result ≡ option_map (λ e. e.value) (seen (λ (key : ℕ). key) found.entry) }
+fn range_if(found: Option<KeyValueRef<'_, u64, Mapping>>) -> Option<Range>
+    ensures { result ≡ option_map range_in (seen (λ (key : ℕ). key) found.entry) }
 {
-    Some(*found?.value)
+    let found = found?;
+    Some(found.value.range_at(found.key))
 }
 
 /// A range of a section that is mapped to a block, with one of its counters at 1.
@@ -471,7 +472,7 @@ impl Present {
         ensures room_holdings { self.old.room.holdings ≤ self.new.room.holdings }
     {
         let start = range.section.start;
-        self.ranges.insert(start, range, near);
+        self.ranges.insert(start, Mapping::of(range), near);
         self.starts.insert(range.block, start);
     }
 
@@ -629,7 +630,8 @@ impl Present {
         ensures room { IsRoomKept self.old.room self.new.room }
     {
         let start = range.section.start;
-        self.ranges.set(start, changed(change, range), near);
+        self.ranges
+            .set(start, Mapping::of(changed(change, range)), near);
     }
 
     /// Changes a counter of the range that is mapped to a block. One is, and the counter does not rise.
@@ -785,7 +787,7 @@ impl Present {
         ensures ok { IfOk result (λ ranges. ranges.items ≡ self.now.table.ranges) }
         ensures only { IfErr result (λ fault. fault ≡ Fault.Memory) }
     {
-        self.ranges.copy_entries(alloc, &RangeAlone)
+        self.ranges.copy_entries(alloc, &RangeKept)
     }
 
     /// The open regions in a vector of their own, by rising number. Each has its number, and what each item of its

@@ -1,4 +1,4 @@
-//! One mapped range: what it says of a section, and its counters.
+//! One mapped range: what is kept of it, what it says of a section, and its counters.
 
 ghost use Rattle.std.specs.Prelude.{◌≡◌, Some, List, ◌∷◌, IfSome, IfNone, ◌+◌, ◌-◌, ◌<◌, ◌≤◌, ◌==◌, ◌^◌, nat_le, IsTrue, ◌↔◌};
 ghost use Rattle.std.specs.Bool.{OnTrue};
@@ -6,7 +6,8 @@ ghost use Rattle.std.specs.List.{list_any};
 ghost use Rattle.acc_base.specs.Section.{is_within, end_of};
 ghost use Rattle.acc_base.specs.Ranges.{where_is_apart, counter_in};
 ghost use Rattle.acc_present.specs.Present.{AreMapped, IsToldBy};
-ghost use Rattle.acc_present.specs.Kept.{changed_by, IsChangeable};
+ghost use Rattle.acc_ordered.specs.Listing.{keyed};
+ghost use Rattle.acc_present.specs.Kept.{range_in, mapping_of, changed_by, IsChangeable};
 
 use acc_base::{Counter, Found, Range, Section};
 use acc_ordered::Telling;
@@ -118,15 +119,62 @@ pub fn is_allowed(change: CounterChange, most: u64, range: Range) -> bool
     }
 }
 
-/// A copy of a range alone, whose start is its key.
+/// A mapped range without its start, under which it is kept. So it takes 32 bytes.
 #[derive(Clone, Copy)]
-pub struct RangeAlone;
+pub struct Mapping {
+    /// How many bytes the range has.
+    pub len: u64,
+    /// The number of the block that it is mapped to.
+    pub block: u64,
+    /// Its structured counter.
+    pub structured: u64,
+    /// Its dynamic counter.
+    pub dynamic: u64,
+}
 
-impl Telling<u64, Range, Range> for RangeAlone {
-    ghost told = { λ alone key range. range };
+impl Mapping {
+    /// What is kept of a range under its start.
+    #[inline(always)]
+    pub fn of(range: Range) -> Mapping
+        ensures { result ≡ mapping_of range }
+    {
+        Mapping {
+            len: range.section.len,
+            block: range.block,
+            structured: range.structured,
+            dynamic: range.dynamic,
+        }
+    }
+
+    /// The range that is kept under a start.
+    #[inline(always)]
+    pub fn range_at(self, start: u64) -> Range
+        ensures { result ≡ range_in (keyed start self) }
+    {
+        Range {
+            section: Section {
+                start,
+                len: self.len,
+            },
+            block: self.block,
+            structured: self.structured,
+            dynamic: self.dynamic,
+        }
+    }
+}
+
+/// Tells of an entry the range that it keeps.
+#[derive(Clone, Copy)]
+pub struct RangeKept;
+
+impl Telling<u64, Mapping, Range> for RangeKept {
+    ghost use Rattle.acc_ordered.specs.Listing.{keyed};
+    ghost use Rattle.acc_present.specs.Kept.{range_in};
+
+    ghost told = { λ telling start mapping. range_in (keyed start mapping) };
 
     #[inline]
-    fn tell(&self, _key: u64, range: Range) -> Range {
-        range
+    fn tell(&self, start: u64, mapping: Mapping) -> Range {
+        mapping.range_at(start)
     }
 }

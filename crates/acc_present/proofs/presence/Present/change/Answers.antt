@@ -3,7 +3,7 @@ use Rattle.std.specs.List.{AllByRecursion}
 use Rattle.acc_base.specs.declared.mappings.Range.{Range}
 use Rattle.acc_base.specs.Ranges.{range_of, changed_at}
 use Rattle.acc_present.specs.Present.{PresentState, IsWithinLimit, with_ranges}
-use Rattle.acc_present.specs.Kept.{start_in, ranges_in, changed_by, IsChangeable}
+use Rattle.acc_present.specs.Kept.{start_in, ranges_in, mapping_of, changed_by, IsChangeable}
 use Rattle.acc_present.proofs.Limits.{changed_within, changed_keeps}
 use Rattle.acc_present.proofs.Mapping.{IsChangedNow, key_there, written_now}
 use Rattle.acc_present.proofs.presence.Present.change.Goals as goal
@@ -15,7 +15,7 @@ there : (c : goal.After-set) → range_of c.args.range.block (ranges_in c.self.i
 there c = subst (λ (rs : List Range). range_of c.args.range.block rs ≡ Some c.args.range) (sym (ap (λ (p : PresentState). p.table.ranges) c.self.view_is)) c.requires.there
 
 now : (c : goal.After-set) → IsChangedNow c.args.range.block (changed_by c.args.change) c.self.inside.ranges.entries c.set.new.self.entries (start_in c.self.inside.starts)
-now c = written_now c.args.range.block (changed_by c.args.change) c.self.inside.ranges.entries c.set.new.self.entries (start_in c.self.inside.starts) c.args.range c.changed.result (changed_keeps c.args.change) c.self.invariant.2 (there c) c.changed.ensures c.set.ensures.entries
+now c = written_now c.args.range.block (changed_by c.args.change) c.self.inside.ranges.entries c.set.new.self.entries (start_in c.self.inside.starts) c.args.range c.of.result (changed_keeps c.args.change) c.self.invariant.2 (there c) (c.of.ensures ∙ ap mapping_of c.changed.ensures) c.set.ensures.entries
 
 pub invariant_of-self : goal.invariant_of-self
 invariant_of-self c =

@@ -1,9 +1,8 @@
-use Rattle.std.proofs.Common.{List, ap, subst, ◌∙◌, ◌≡◌}
+use Rattle.std.proofs.Common.{List, ap, subst, ◌≡◌}
 use Rattle.std.specs.Prelude.{IfOk}
 use Rattle.acc_base.specs.declared.mappings.Range.{Range}
 use Rattle.acc_present.specs.Present.{PresentState}
-use Rattle.acc_present.proofs.Mapping.{all_values}
 use Rattle.acc_present.proofs.presence.Present.copy_ranges.Goals as goal
 
 pub returns-clause-ok : goal.returns-clause-ok
-returns-clause-ok c = subst (λ (rs : List Range). IfOk c.copy_entries.result (λ copied. copied.items ≡ rs)) (all_values c.self.inside.ranges.entries c.self.invariant.2.keyed ∙ ap (λ (p : PresentState). p.table.ranges) c.self.view_is) c.copy_entries.ensures.ok
+returns-clause-ok c = subst (λ (rs : List Range). IfOk c.copy_entries.result (λ copied. copied.items ≡ rs)) (ap (λ (p : PresentState). p.table.ranges) c.self.view_is) c.copy_entries.ensures.ok

@@ -10,5 +10,5 @@ use Rattle.acc_present.proofs.presence.Present.range_at.Goals as goal
 pub returns : goal.returns
 returns c =
     let es = c.self.inside.ranges.entries in
-    let found = subst (λ (o : Option Range). IfSome o (λ r. range_of r.block (ranges_in es) ≡ Some r)) (sym c.range_if.ensures) (ranges_found es c.at.result c.self.invariant.2.keyed c.self.invariant.2.mapped c.at.ensures) in
+    let found = subst (λ (o : Option Range). IfSome o (λ r. range_of r.block (ranges_in es) ≡ Some r)) (sym c.range_if.ensures) (ranges_found es c.at.result c.self.invariant.2.mapped c.at.ensures) in
     subst (λ (p : PresentState). IfSome c.range_if.result (λ r. range_of r.block p.table.ranges ≡ Some r)) c.self.view_is found

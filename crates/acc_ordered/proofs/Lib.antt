@@ -15,5 +15,4 @@ pub mod Paired
 pub mod Written
 pub mod HalfFull
 pub mod Listed
-mod Inserted
-mod Removed
+mod Moving

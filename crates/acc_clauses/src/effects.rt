@@ -4,8 +4,7 @@ ghost use Rattle.std.specs.Prelude.{◌≡◌, ◌+◌, ◌<◌, ◌≤◌, ◌^
 ghost use Rattle.acc_clauses.specs.Overlays.{recount, are_zero, counters_by, counters_over, found_beside, found_by, found_over, tasks_in, dids_in, puts_by, puts_in};
 
 use crate::acted::Acted;
-use crate::rows::moves;
-use acc_base::{Counter, Counters, Found, Section, Step, Task};
+use acc_base::{Counters, Found, Range, Section, Step, Task};
 
 /// The counters of a range that a task counts or drops.
 pub fn recount(task: Task, counters: Counters) -> Counters
@@ -15,34 +14,19 @@ pub fn recount(task: Task, counters: Counters) -> Counters
     ensures structured_most { result.structured ≤ counters.structured + 1 }
     ensures dynamic_most { result.dynamic ≤ counters.dynamic + 1 }
 {
-    let Counters {
+    let Range {
         structured,
         dynamic,
-    } = counters;
-    match task {
-        Task::Enter { counter, .. } => match counter {
-            Counter::Structured => Counters {
-                structured: structured + 1,
-                dynamic,
-            },
-            Counter::Dynamic => Counters {
-                structured,
-                dynamic: dynamic + 1,
-            },
-        },
-        Task::ExitRegion { .. } => Counters {
-            structured: structured.saturating_sub(1),
-            dynamic,
-        },
-        Task::ExitData { finalize, .. } => Counters {
-            structured,
-            dynamic: if finalize {
-                0
-            } else {
-                dynamic.saturating_sub(1)
-            },
-        },
-        Task::Move { .. } => counters,
+        ..
+    } = task.recounted(Range {
+        section: Section { start: 0, len: 0 },
+        block: 0,
+        structured: counters.structured,
+        dynamic: counters.dynamic,
+    });
+    Counters {
+        structured,
+        dynamic,
     }
 }
 
@@ -135,7 +119,7 @@ fn puts_by(q: u64, x: Acted) -> u64
     ensures value { result ≡ puts_by q x.task x.did.step }
     ensures most { result ≤ 1 }
 {
-    if x.task.queue() == Some(q) && moves(x.task, x.did.step) {
+    if x.task.queue() == Some(q) && x.task.copies(x.did.step) {
         1
     } else {
         0

@@ -2,9 +2,8 @@
 
 ghost use Rattle.std.specs.Prelude.{◌≡◌};
 ghost use Rattle.acc_base.specs.Tasks.{pointer_of};
-ghost use Rattle.acc_base.specs.Steps.{is_action, pointer_aimed};
+ghost use Rattle.acc_base.specs.Steps.{pointer_aimed};
 ghost use Rattle.acc_base.specs.Clauses.{pointer_named};
-ghost use Rattle.acc_clauses.specs.Overlays.{moves};
 
 use acc_base::{Section, Step, Task};
 
@@ -36,16 +35,6 @@ pub fn pointer_of(task: Task) -> Option<u64>
     }
 }
 
-// The step did something.
-fn is_action(step: Step) -> bool
-    ensures { result ≡ is_action step }
-{
-    match step {
-        Step::Nothing => false,
-        _ => true,
-    }
-}
-
 /// The pointer that an item attaches or detaches beside its step.
 pub fn pointer_aimed(task: Task, step: Step) -> Option<u64>
     ensures { result ≡ pointer_aimed task step }
@@ -55,21 +44,9 @@ pub fn pointer_aimed(task: Task, step: Step) -> Option<u64>
         Task::ExitData { item, .. } => item.clause.is_detach(),
         _ => false,
     };
-    if alone || is_action(step) {
+    if alone || !matches!(step, Step::Nothing) {
         pointer_of(task)
     } else {
         None
-    }
-}
-
-/// The step has a transfer.
-pub fn moves(task: Task, step: Step) -> bool
-    ensures { result ≡ moves task step }
-{
-    match step {
-        Step::Born { .. } => task.gets_bytes(),
-        Step::Dropped { ended: true, .. } => task.gives_bytes(),
-        Step::Moved { .. } => true,
-        _ => false,
     }
 }

@@ -64,13 +64,6 @@ impl View<'_> {
         self.environment.device.laws();
     }
 
-    /// The number of the device.
-    pub(crate) fn number(&self) -> u64
-        ensures { result ≡ self.now.limits.number }
-    {
-        self.number
-    }
-
     /// The size of host memory in bytes.
     pub(crate) fn host_size(&self) -> u64
         ensures { result ≡ self.now.limits.host }

@@ -1,5 +1,5 @@
 //! Rows of entries by rising key, whose keys stand apart from the values.
-ghost use Rattle.std.specs.Prelude.{ℕ, ◌≡◌, ◌+◌, ◌-◌, ◌<◌, ◌≤◌, [], ◌++◌, Some, IfOk, IfErr, OnOk, length, nat_lt, take, drop, vec_len, vec_capacity, slice_get, slice_set as set};
+ghost use Rattle.std.specs.Prelude.{◌≡◌, ◌+◌, ◌-◌, ◌<◌, ◌≤◌, [], ◌++◌, Some, IfOk, IfErr, OnOk, length, nat_lt, take, drop, vec_len, vec_capacity, slice_get, slice_set as set};
 ghost use Rattle.std.specs.List.{insert, remove};
 ghost use Rattle.acc_base.specs.Splits.{IsSplitBy};
 ghost use Rattle.acc_ordered.specs.Listing.{KeyValue, KeysRise, keyed, entry_in, told_in};

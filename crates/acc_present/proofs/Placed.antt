@@ -1,12 +1,10 @@
 -- Counters by rising block and pointer: searches that begin at a pointer.
-use Rattle.std.proofs.Common.{ℕ, ◌≡◌, ◌-◌, ◌+◌, ◌<◌, ◌≤◌, refl, sym, ap, ◌∙◌, Bool, true, false, cond, ◌&&◌, ◌||◌, List, [], ◌∷◌, Option, Some, None, arith, inl, inr}
-use Rattle.std.specs.Prelude.{◌⊎◌, ◌==◌, not, nat_le, nat_lt, find, option_map, is_some}
-use Rattle.std.specs.List.{list_any}
+use Rattle.std.proofs.Common.{ℕ, ◌≡◌, ◌<◌, ◌≤◌, refl, sym, ap, ◌∙◌, Bool, true, false, cond, ◌&&◌, ◌||◌, List, [], ◌∷◌, Option, Some, None, arith, inl, inr}
+use Rattle.std.specs.Prelude.{◌⊎◌, ◌==◌, not, nat_le, nat_lt, find, option_map}
 use Rattle.std.proofs.lemmas.Bool.Decides.{nat_tests}
 use Rattle.acc_base.specs.declared.attachments.Attachment.{Attachment}
-use Rattle.acc_base.specs.Section.{covers}
 use Rattle.acc_base.specs.Accounts.{EachPair}
-use Rattle.acc_base.specs.Attachments.{pointer_at, IsBefore, is_skipped, next_pointer}
+use Rattle.acc_base.specs.Attachments.{IsBefore, next_pointer}
 use Rattle.acc_base.proofs.Results.{equal}
 use Rattle.acc_base.proofs.Elements.{AllByRecursion-weaker, find-none}
 use Rattle.acc_base.proofs.Attached.{before}
@@ -125,77 +123,3 @@ pub next_past : (block address : ℕ) (xs : List Attachment) → EachPair IsBefo
 next_past block address xs h e =
     let f : find (begins_from block address) xs ≡ None = find_next block address xs h ∙ ap (passed (begins_from block address)) (sym e) in
     sym (ap (option_map (λ (x : Attachment). x.pointer)) f)
-
--- ---- the bytes of pointers
-
--- the address is one of the bytes of the block's pointer that is attached
-abbrev skips : ℕ → ℕ → Attachment → Bool
-skips block address a = a.block == block && covers (pointer_at a.pointer) address
-
--- a pointer that begins more than seven bytes below an address does not reach it
-not_skipped_below : (block address : ℕ) (a : Attachment) → IsBefore a (probe block (address - 7)) → skips block address a ≡ false
-not_skipped_below block address a (inl h) = let t : (a.block == block) ≡ false = grind (arith, nat_tests) in rw t
-not_skipped_below block address a (inr h) = go (a.block == block) (nat_le a.pointer address)
-  where
-    short : nat_lt address (a.pointer + 8) ≡ false
-    short = let less : a.pointer + 8 ≤ address = omega (arith, h.1) in grind (arith, nat_tests)
-
-    go : (s t : Bool) → (s && (t && nat_lt address (a.pointer + 8))) ≡ false
-    go true true = short
-    go _ _ = refl
-
--- from seven bytes below on, it is where the pointer does not begin behind the address
-skips_test : (block address : ℕ) (a : Attachment) → IsAtOrBehind block (address - 7) a → skips block address a ≡ (a.block == block && nat_le a.pointer address)
-skips_test block address a (inl h) = let t : (a.block == block) ≡ false = grind (arith, nat_tests) in rw t
-skips_test block address a (inr h) = go (a.block == block) (nat_le a.pointer address)
-  where
-    long : nat_lt address (a.pointer + 8) ≡ true
-    long = let less : address < a.pointer + 8 = omega (arith, h.1) in grind (arith, nat_tests)
-
-    go : (s t : Bool) → (s && (t && nat_lt address (a.pointer + 8))) ≡ (s && t)
-    go true true = long
-    go _ _ = refl
-
--- where the first from seven bytes below on does not cover it, no later one does
-not_skipped_behind : (block address : ℕ) (a b : Attachment) → IsAtOrBehind block (address - 7) a → skips block address a ≡ false → IsBefore a b → skips block address b ≡ false
-not_skipped_behind block address a b (inl h) e k = rw (later_block block a b h k)
-not_skipped_behind block address a b (inr h) e k = elim (same_or_later block a b h.0 k) [
-  | inl other ↦ rw other
-  | inr more ↦ go (nat_le a.pointer address) refl more
-]
-  where
-    own_block : (a.block == block) ≡ true
-    own_block = grind (arith, nat_tests, h.0)
-
-    go : (t : Bool) → nat_le a.pointer address ≡ t → a.pointer < b.pointer → skips block address b ≡ false
-    go true f more = let there : skips block address a ≡ true = skips_test block address a (inr h) ∙ rw (own_block, f) in cc
-    go false f more = let t : nat_le b.pointer address ≡ false = grind (arith, nat_tests) in go_and (b.block == block) t
-      where
-        go_and : (s : Bool) → nat_le b.pointer address ≡ false → (s && (nat_le b.pointer address && nat_lt address (b.pointer + 8))) ≡ false
-        go_and true t = rw t
-        go_and false t = refl
-
--- something passes a test where a search finds it
-any_found : (test : Attachment → Bool) (xs : List Attachment) → list_any test xs ≡ is_some (find test xs)
-any_found test [] = refl
-any_found test (x ∷ xs) = go (any_found test xs) (test x)
-  where
-    go : list_any test xs ≡ is_some (find test xs) → (b : Bool) → (b || list_any test xs) ≡ is_some (cond b (Some x) (find test xs))
-    go rest true = refl
-    go rest false = rest
-
--- so that one alone decides whether an address is skipped
-skipped_found : (block address : ℕ) (xs : List Attachment) → EachPair IsBefore xs → is_skipped block xs address ≡ is_some (passed (skips block address) (find (is_from block (address - 7)) xs))
-skipped_found block address xs h = any_found (skips block address) xs ∙ ap (λ (o : Option Attachment). is_some o) (find_first block (address - 7) (skips block address) (not_skipped_below block address) (not_skipped_behind block address) xs h)
-
--- the first counter from seven bytes below on decides whether an address is skipped
-pub skipped_first : (block address : ℕ) (xs : List Attachment) (a : Attachment) → EachPair IsBefore xs → Some a ≡ find (is_from block (address - 7)) xs → (a.block == block && nat_le a.pointer address) ≡ is_skipped block xs address
-skipped_first block address xs a h e = sym (skipped_found block address xs h ∙ ap (λ o. is_some (passed (skips block address) o)) (sym e) ∙ go (skips block address a) ∙ skips_test block address a (at_or_behind block (address - 7) a (found_first block (address - 7) xs a e)))
-  where
-    go : (b : Bool) → is_some (cond b (Some a) None) ≡ b
-    go true = refl
-    go false = refl
-
--- and none is where there is none
-pub skipped_past : (block address : ℕ) (xs : List Attachment) → EachPair IsBefore xs → None ≡ find (is_from block (address - 7)) xs → false ≡ is_skipped block xs address
-skipped_past block address xs h e = sym (skipped_found block address xs h ∙ ap (λ o. is_some (passed (skips block address) o)) (sym e))

@@ -1,7 +1,7 @@
 //! The attachment counters as one value.
 
 ghost use Rattle.std.specs.Prelude.{◌≡◌, ◌+◌, ◌^◌, ◌<◌, ◌≤◌, ◌↔◌, IsTrue, [], true, false, Ok, Err, IsOk, IfOk, OnOk, OnErr, IfErr, ◌⊎◌};
-ghost use Rattle.acc_base.specs.Attachments.{count_at, with_count, attach, detach, attached_by, without_attachments, is_skipped, next_pointer};
+ghost use Rattle.acc_base.specs.Attachments.{count_at, with_count, attach, detach, attached_by, without_attachments, next_pointer};
 ghost use Rattle.acc_present.specs.Attached.{AreAttached, left_of};
 
 use crate::counters::{CounterList, LocatedCounter};
@@ -136,21 +136,8 @@ impl Attached {
         Ok(self.attach_found(block, pointer, target, now, found))
     }
 
-    /// As [`Attached::attach`], where the counter has not reached its limit and there is room for one more if it is
-    /// zero. So it allocates nothing and is not refused. It takes at most one from the room.
-    pub fn attach_reserved(&mut self, block: u64, pointer: u64, target: u64, now: u64) -> Aim
-        requires room { count_at block pointer self.old.attached ≡ 0 → 1 ≤ self.old.spare }
-        requires not_full { IsOk (attach self.old.counter_max 0 block pointer target now self.old.attached) }
-        ensures aim { attach self.old.counter_max 0 block pointer target now self.old.attached ≡ Ok result }
-        ensures attached { self.new.attached ≡ attached_by result self.old.attached }
-        ensures counter_max { self.new.counter_max ≡ self.old.counter_max }
-        ensures spare { self.old.spare ≤ self.new.spare + 1 }
-    {
-        let found = self.counters.find(block, pointer);
-        self.attach_found(block, pointer, target, now, found)
-    }
-
-    /// As [`Attached::attach_reserved`], of a counter that was searched for.
+    /// As [`Attached::attach`], of a counter that was searched for. It has not reached its limit, and there is room for
+    /// one more if it is zero. So it allocates nothing and is not refused. It takes at most one from the room.
     fn attach_found(
         &mut self,
         block: u64,
@@ -276,17 +263,9 @@ impl Attached {
 
     // ---- transfers
 
-    /// Whether a host address is that of one of the eight bytes of an attached pointer of a block. No transfer touches
-    /// these bytes: that is this project's rule, since OpenACC 3.3 leaves it undefined (end of section 2.6.8). A
-    /// pointer may reach past the last `u64`.
-    pub fn is_skipped(&self, block: u64, address: u64) -> bool
-        ensures { result ≡ is_skipped block self.now.attached address }
-    {
-        self.counters.skips(block, address)
-    }
-
     /// The least host address at or above `from` at which an attached pointer of a block begins; `None` where there is
-    /// none. By it a transfer goes from pointer to pointer.
+    /// none. By it a transfer goes from pointer to pointer, and touches none of their bytes. That is this project's rule,
+    /// since OpenACC 3.3 leaves it undefined (end of section 2.6.8). A pointer may reach past the last `u64`.
     pub fn next_pointer(&self, block: u64, from: u64) -> Option<u64>
         ensures { result ≡ next_pointer block from self.now.attached }
     {
@@ -319,7 +298,7 @@ impl Attached {
 
     // ---- room
 
-    /// Makes room for so many more counters above zero, so that [`Attached::attach_reserved`] allocates nothing.
+    /// Makes room for so many more counters above zero, so that [`Attached::aim_reserved`] allocates nothing.
     ///
     /// # Errors
     ///

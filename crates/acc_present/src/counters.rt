@@ -1,8 +1,8 @@
 //! The counters by rising block and pointer, each found by its key.
 
-ghost use Rattle.std.specs.Prelude.{◌≡◌, ◌+◌, ◌<◌, ◌≤◌, ◌&&◌, ◌==◌, ◌↔◌, IsTrue, [], find, nat_le, None, IsSome, OnOk, OnErr, IfOk, IfErr};
+ghost use Rattle.std.specs.Prelude.{◌≡◌, ◌+◌, ◌<◌, ◌≤◌, ◌==◌, ◌↔◌, IsTrue, [], find, None, IsSome, OnOk, OnErr, IfOk, IfErr};
 ghost use Rattle.acc_base.specs.Accounts.{EachPair};
-ghost use Rattle.acc_base.specs.Attachments.{IsBefore, is_of, count_at, with_count, without_attachment, without_attachments, is_skipped, next_pointer};
+ghost use Rattle.acc_base.specs.Attachments.{IsBefore, is_of, count_at, with_count, without_attachment, without_attachments, next_pointer};
 ghost use Rattle.acc_ordered.specs.Listing.{keyed};
 ghost use Rattle.acc_present.specs.KeptCounters.{is_from, counter_in, key_of as key_for};
 
@@ -42,13 +42,6 @@ impl Telling<u128, u64, Attachment> for AsCounter {
     fn tell(&self, key: u128, count: u64) -> Attachment {
         to_counter(key, count)
     }
-}
-
-/// The counter is of a pointer of the block that begins at or below an address.
-fn begins_by(counter: Attachment, block: u64, address: u64) -> bool
-    ensures { result ≡ (counter.block == block && nat_le counter.pointer address) }
-{
-    counter.block == block && counter.pointer <= address
 }
 
 /// What a search finds of a counter.
@@ -183,18 +176,6 @@ impl CounterList {
             (Some(counter.pointer), place)
         } else {
             (None, place)
-        }
-    }
-
-    /// The address is one of the eight bytes of an attached pointer of the block.
-    pub fn skips(&self, block: u64, address: u64) -> bool
-        ensures { result ≡ is_skipped block self.now.counters address }
-    {
-        // A pointer that begins more than seven bytes below ends before the address.
-        let first = address.saturating_sub(7);
-        match self.first_near(block, first, Place::default()).0 {
-            Some(counter) => begins_by(counter, block, address),
-            None => false,
         }
     }
 

@@ -1,9 +1,8 @@
 //! The present table as one value.
 
-ghost use Rattle.std.specs.Prelude.{◌≡◌, false, [], ℕ, ◌+◌, ◌*◌, ◌^◌, ◌<◌, ◌≤◌, ◌⊎◌, ◌↔◌, length, map, option_map, MatchResult, None, Some, Err, IfOk, IfErr, OnOk, OnErr, IfSome, MatchOption, vec_capacity};
+ghost use Rattle.std.specs.Prelude.{◌≡◌, false, [], ℕ, ◌+◌, ◌*◌, ◌^◌, ◌<◌, ◌≤◌, ◌⊎◌, length, map, option_map, None, Some, Err, IfOk, IfErr, OnOk, OnErr, IfSome, MatchOption, vec_capacity};
 ghost use Rattle.std.specs.Bool.{OnTrue};
 ghost use Rattle.acc_base.specs.declared.mappings.Range.{Range};
-ghost use Rattle.acc_base.specs.declared.mappings.Counter.TheVariants.{Structured, Dynamic};
 ghost use Rattle.acc_base.specs.declared.mappings.Found.TheVariants.{Absent};
 ghost use Rattle.acc_base.specs.Ranges.{where_is, where_is_apart, range_of, range_from, structured_of, dynamic_of, counter_of, with_range, without_range, changed_at, bare_range, risen, fallen, cleared};
 ghost use Rattle.acc_base.specs.Register.{region_at, newest_region, holdings_at, with_region, without_region};
@@ -514,42 +513,8 @@ impl Present {
         }
     }
 
-    /// Raises the structured counter of the range that is mapped to a block. One is.
-    ///
-    /// # Errors
-    ///
-    /// [`Fault::CounterFull`] with item 0, exactly where the counter has its greatest value. The table is then as
-    /// before.
-    pub fn count_structured(&mut self, block: u64) -> Result<(), Fault>
-        requires { HasRange self.old.table block }
-        ensures ok { OnOk result (self.new.table ≡ with_ranges self.old.table (changed_at block (risen Structured) self.old.table.ranges)) }
-        ensures full { (result ≡ Err (Fault.CounterFull 0)) ↔ (structured_of block self.old.table.ranges ≡ self.old.table.counter_max) }
-        ensures only { IfErr result (λ fault. fault ≡ Fault.CounterFull 0) }
-        ensures unchanged { OnErr result (self.new.table ≡ self.old.table) }
-        ensures room { IsRoomKept self.old.room self.new.room }
-    {
-        self.raise(Counter::Structured, block)
-    }
-
-    /// Raises the dynamic counter of the range that is mapped to a block. One is.
-    ///
-    /// # Errors
-    ///
-    /// [`Fault::CounterFull`] with item 0, exactly where the counter has its greatest value. The table is then as
-    /// before.
-    pub fn count_dynamic(&mut self, block: u64) -> Result<(), Fault>
-        requires { HasRange self.old.table block }
-        ensures ok { OnOk result (self.new.table ≡ with_ranges self.old.table (changed_at block (risen Dynamic) self.old.table.ranges)) }
-        ensures full { (result ≡ Err (Fault.CounterFull 0)) ↔ (dynamic_of block self.old.table.ranges ≡ self.old.table.counter_max) }
-        ensures only { IfErr result (λ fault. fault ≡ Fault.CounterFull 0) }
-        ensures unchanged { OnErr result (self.new.table ≡ self.old.table) }
-        ensures room { IsRoomKept self.old.room self.new.room }
-    {
-        self.raise(Counter::Dynamic, block)
-    }
-
-    /// Raises a counter of the range that is mapped to a block, as [`Present::count_structured`] and
-    /// [`Present::count_dynamic`] do. One is. It is not searched for where it stands at the place.
+    /// Raises a counter of the range that is mapped to a block. One is. It is not searched for where it stands at the
+    /// place.
     ///
     /// # Errors
     ///
@@ -646,35 +611,8 @@ impl Present {
         self.change(change, range, place);
     }
 
-    /// Lowers the structured counter of the range that is mapped to a block. One is. Zero stays zero.
-    pub fn drop_structured(&mut self, block: u64)
-        requires { HasRange self.old.table block }
-        ensures table { self.new.table ≡ with_ranges self.old.table (changed_at block (fallen Structured) self.old.table.ranges) }
-        ensures room { IsRoomKept self.old.room self.new.room }
-    {
-        self.lower(CounterChange::Lower(Counter::Structured), block);
-    }
-
-    /// Lowers the dynamic counter of the range that is mapped to a block. One is. Zero stays zero.
-    pub fn drop_dynamic(&mut self, block: u64)
-        requires { HasRange self.old.table block }
-        ensures table { self.new.table ≡ with_ranges self.old.table (changed_at block (fallen Dynamic) self.old.table.ranges) }
-        ensures room { IsRoomKept self.old.room self.new.room }
-    {
-        self.lower(CounterChange::Lower(Counter::Dynamic), block);
-    }
-
-    /// Sets the dynamic counter of the range that is mapped to a block to 0 (OpenACC 3.3, the finalize clause). One is.
-    pub fn clear_dynamic(&mut self, block: u64)
-        requires { HasRange self.old.table block }
-        ensures table { self.new.table ≡ with_ranges self.old.table (changed_at block cleared self.old.table.ranges) }
-        ensures room { IsRoomKept self.old.room self.new.room }
-    {
-        self.lower(CounterChange::Clear, block);
-    }
-
-    /// Lowers a counter of the range that is mapped to a block, as [`Present::drop_structured`] and
-    /// [`Present::drop_dynamic`] do. One is. It is not searched for where it stands at the place. Zero stays zero.
+    /// Lowers a counter of the range that is mapped to a block. One is. It is not searched for where it stands at the
+    /// place. Zero stays zero.
     #[inline(always)]
     pub fn drop_near(&mut self, counter: Counter, block: u64, near: Place)
         requires { HasRange self.old.table block }
@@ -686,7 +624,7 @@ impl Present {
         }
     }
 
-    /// Sets the dynamic counter of the range that is mapped to a block to 0, as [`Present::clear_dynamic`] does. One is.
+    /// Sets the dynamic counter of the range that is mapped to a block to 0 (OpenACC 3.3, the finalize clause). One is.
     /// It is not searched for where it stands at the place.
     #[inline(always)]
     pub fn clear_near(&mut self, block: u64, near: Place)

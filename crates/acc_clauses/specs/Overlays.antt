@@ -1,11 +1,11 @@
 -- What a plan knows of the records after its tasks: what each look-up returns then, from what it returns before them.
-use Rattle.std.specs.Prelude.{ℕ, ◌+◌, ◌-◌, ◌≡◌, ◌⊎◌, Bool, true, false, if◌then◌else◌, ◌==◌, ◌&&◌, ◌≤◌, length, List, [], ◌∷◌, ◌++◌, map, fold, Option, Some, None, is_some, Ok}
+use Rattle.std.specs.Prelude.{ℕ, ◌+◌, ◌-◌, ◌≡◌, ◌⊎◌, Bool, true, false, if◌then◌else◌, ◌==◌, ◌&&◌, ◌≤◌, length, List, [], ◌∷◌, ◌++◌, map, fold, Option, Some, None, Ok}
 use Rattle.std.specs.List.{AllByRecursion, list_all, list_any}
 use Rattle.acc_clauses.specs.Words.{Section, Range, Counters, Found, Task, Step, Did, Aim}
 use Rattle.acc_base.specs.declared.mappings.Counter.TheVariants.{Structured, Dynamic}
 use Rattle.acc_base.specs.declared.mappings.Found.TheVariants.{Inside, Partly, Absent}
 use Rattle.acc_base.specs.declared.tasks.Task.TheVariants.{Enter}
-use Rattle.acc_base.specs.declared.events.Step.TheVariants.{Counted, Born, Dropped}
+use Rattle.acc_base.specs.declared.events.Step.TheVariants.{Counted, Born, Dropped, Moved}
 use Rattle.acc_base.specs.Limits.{Limits, IsWithinBounds}
 use Rattle.acc_base.specs.Section.{is_within, is_apart}
 use Rattle.acc_base.specs.Records.{Records, State}
@@ -13,7 +13,7 @@ use Rattle.acc_base.specs.Acting.{act_all_state}
 use Rattle.acc_base.specs.Ranges.{counter_of}
 use Rattle.acc_base.specs.Queues.{queue_named}
 use Rattle.acc_base.specs.Tasks.{section_of, queue_of, recounted}
-use Rattle.acc_base.specs.Transfers.{transfer_of}
+use Rattle.acc_base.specs.Transfers.{gets_bytes, gives_bytes}
 use Rattle.acc_base.specs.Steps.{act_all}
 use Rattle.acc_base.specs.History.{AreJudged}
 use Rattle.acc_base.specs.Accounts.{AreRecordsSound}
@@ -146,9 +146,12 @@ counters_over block c xs = fold (λ d x. counters_by block d x.task x.did.step) 
 
 -- ---- queued transfers
 
--- the step has a transfer, wherever the ranges lie
+-- the step has a transfer
 abbrev pub moves : Task → Step → Bool
-moves task step = is_some (transfer_of task step [])
+moves task (Born block place) = gets_bytes task
+moves task (Dropped block true) = gives_bytes task
+moves task (Moved block) = true
+moves task _ = false
 
 -- it is this queue that is named
 abbrev pub is_queue : ℕ → Option ℕ → Bool

@@ -4,6 +4,7 @@ ghost use Rattle.std.specs.Prelude.{◌≡◌, ◌+◌, ◌<◌, ◌≤◌, ◌^
 ghost use Rattle.acc_clauses.specs.Overlays.{recount, are_zero, counters_by, counters_over, found_beside, found_by, found_over, tasks_in, dids_in, puts_by, puts_in};
 
 use crate::acted::Acted;
+use crate::rows::moves;
 use acc_base::{Counters, Found, Range, Section, Step, Task};
 
 /// The counters of a range that a task counts or drops.
@@ -119,7 +120,7 @@ fn puts_by(q: u64, x: Acted) -> u64
     ensures value { result ≡ puts_by q x.task x.did.step }
     ensures most { result ≤ 1 }
 {
-    if x.task.queue() == Some(q) && x.task.copies(x.did.step) {
+    if x.task.queue() == Some(q) && moves(x.task, x.did.step) {
         1
     } else {
         0

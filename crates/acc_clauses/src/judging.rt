@@ -20,7 +20,7 @@ use crate::drafts::Draft;
 use crate::effects::{are_zero, recount};
 use crate::lending::not_lent;
 use crate::readings::{counters_after, locate_after, number_after, place_after, queue_len_after};
-use crate::rows::pointer_of;
+use crate::rows::{moves, pointer_of};
 use crate::sections::{POINTER_LEN, pointer_at};
 use crate::views::View;
 use acc_base::{
@@ -341,7 +341,7 @@ fn room_for(view: &View<'_>, draft: &Draft, task: Task, step: Step) -> Result<()
     let Some(q) = task.queue() else {
         return Ok(());
     };
-    if task.copies(step) && view.queue_cap() <= queue_len_after(view, draft, q) {
+    if moves(task, step) && view.queue_cap() <= queue_len_after(view, draft, q) {
         return Err(Fault::QueueFull { q });
     }
     Ok(())

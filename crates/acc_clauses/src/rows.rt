@@ -4,6 +4,7 @@ ghost use Rattle.std.specs.Prelude.{◌≡◌};
 ghost use Rattle.acc_base.specs.Tasks.{pointer_of};
 ghost use Rattle.acc_base.specs.Steps.{pointer_aimed};
 ghost use Rattle.acc_base.specs.Clauses.{pointer_named};
+ghost use Rattle.acc_clauses.specs.Overlays.{moves};
 
 use acc_base::{Section, Step, Task};
 
@@ -48,5 +49,17 @@ pub fn pointer_aimed(task: Task, step: Step) -> Option<u64>
         pointer_of(task)
     } else {
         None
+    }
+}
+
+/// The step has a transfer.
+pub fn moves(task: Task, step: Step) -> bool
+    ensures { result ≡ moves task step }
+{
+    match step {
+        Step::Born { .. } => task.gets_bytes(),
+        Step::Dropped { ended: true, .. } => task.gives_bytes(),
+        Step::Moved { .. } => true,
+        _ => false,
     }
 }

@@ -15,4 +15,5 @@ pub mod Paired
 pub mod Written
 pub mod HalfFull
 pub mod Listed
-mod Moving
+mod Inserted
+mod Removed

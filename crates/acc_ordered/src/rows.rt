@@ -1,5 +1,5 @@
 //! Rows of entries by rising key, whose keys stand apart from the values.
-ghost use Rattle.std.specs.Prelude.{◌≡◌, ◌+◌, ◌-◌, ◌<◌, ◌≤◌, [], ◌++◌, Some, IfOk, IfErr, OnOk, length, nat_lt, take, drop, vec_len, vec_capacity, slice_get, slice_set as set};
+ghost use Rattle.std.specs.Prelude.{ℕ, ◌≡◌, ◌+◌, ◌<◌, ◌≤◌, [], ◌++◌, Some, IfOk, IfErr, OnOk, length, nat_lt, take, drop, vec_len, vec_capacity, slice_get, slice_set as set};
 ghost use Rattle.std.specs.List.{insert, remove};
 ghost use Rattle.acc_base.specs.Splits.{IsSplitBy};
 ghost use Rattle.acc_ordered.specs.Listing.{KeyValue, KeysRise, keyed, entry_in, told_in};
@@ -53,36 +53,8 @@ impl<K: Key, T: Copy> Clone for Row<K, T> {
     }
 }
 
-/// Puts an item at a place, and moves those from there on up by one, over the last. One step goes by one item alone, so
-/// that the compiler makes steps of several.
-fn move_up<T: Copy>(items: &mut [T], place: usize, item: T)
-    requires { place < length items.old }
-    ensures items { items.new ≡ insert (take (length items.old - 1) items.old) place item }
-    ensures len { length items.new ≡ length items.old }
-{
-    let mut at = items.len() - 1;
-    while at > place {
-        items[at] = items[at - 1];
-        at -= 1;
-    }
-    items[place] = item;
-}
-
-/// Moves the items behind a place down by one, over the one that stands there. The last one stays behind them too.
-fn move_down<T: Copy>(items: &mut [T], place: usize)
-    requires { place < length items.old }
-    ensures items { take (length items.old - 1) items.new ≡ remove items.old place }
-    ensures len { length items.new ≡ length items.old }
-{
-    let last = items.len() - 1;
-    let mut at = place;
-    while at < last {
-        items[at] = items[at + 1];
-        at += 1;
-    }
-}
-
-/// Puts an item at a place of a list that has room for it, before those that stood there.
+/// Puts an item at a place of a list that has room for it, before those that stood there. It takes fewer steps than an
+/// insertion of what cannot be copied.
 #[inline]
 fn insert_copy<T: Copy>(items: &mut Vec<T>, place: usize, item: T)
     requires within { place ≤ vec_len items.old }
@@ -91,11 +63,13 @@ fn insert_copy<T: Copy>(items: &mut Vec<T>, place: usize, item: T)
     ensures len { vec_len items.new ≡ vec_len items.old + 1 }
     ensures capacity { vec_capacity items.new ≡ vec_capacity items.old }
 {
+    let len = items.len();
     items.push_reserved(item);
-    move_up(items, place, item);
+    items.copy_within(place..len, place + 1);
+    items[place] = item;
 }
 
-/// Takes out the item at a place of a list.
+/// Takes out the item at a place of a list. It takes fewer steps than to take out what cannot be copied.
 #[inline]
 fn remove_copy<T: Copy>(items: &mut Vec<T>, place: usize)
     requires { place < vec_len items.old }
@@ -104,7 +78,7 @@ fn remove_copy<T: Copy>(items: &mut Vec<T>, place: usize)
     ensures capacity { vec_capacity items.new ≡ vec_capacity items.old }
 {
     let len = items.len();
-    move_down(items, place);
+    items.copy_within(place + 1..len, place);
     items.truncate(len - 1);
 }
 

@@ -46,8 +46,7 @@ impl Outline {
             }
             Step::Counted { block } => self.mark(block),
             Step::Dropped { block, .. } => self.mark(block),
-            Step::Nothing => {}
-            Step::Moved { .. } => {}
+            Step::Nothing | Step::Moved { .. } => {}
         }
     }
 

@@ -85,17 +85,6 @@ impl View<'_> {
         self.config.queue_cap()
     }
 
-    /// The loans of the device. Where there is none, its blocks aren't gone through.
-    fn saved_loans(&self, alloc: Global) -> Result<Vec<Loan>, Fault>
-        ensures ok { IfOk result (λ loans. loans.items ≡ self.now.state.records.loans) }
-        ensures only { IfErr result (λ fault. fault ≡ Memory) }
-    {
-        if self.lent == 0 {
-            return Ok(Vec::new(alloc));
-        }
-        self.environment.device.copy_loans(alloc)
-    }
-
     /// What the device has at this moment: the bytes of its blocks only with `full`.
     ///
     /// # Errors
@@ -109,7 +98,11 @@ impl View<'_> {
         let ranges = environment.present.copy_ranges(alloc)?;
         let regions = environment.present.copy_regions(alloc)?;
         let blocks = environment.device.copy_blocks(alloc)?;
-        let loans = self.saved_loans(alloc)?;
+        // Where there is none, blocks aren't gone through.
+        let loans = match self.lent {
+            0 => Vec::new(alloc),
+            _ => environment.device.copy_loans(alloc)?,
+        };
         let attached = environment.attached.copy_counters(alloc)?;
         let queues = environment.queues.copy_queues(alloc)?;
         let memories = if full {

@@ -1,10 +1,9 @@
 -- What the steps of items leave of the parts that change counters, and what all steps need of the present table.
 use Rattle.std.proofs.lemmas.Bool.Decides.{nat_tests}
-use Rattle.std.proofs.Common.{ℕ, ◌≡◌, refl, sym, ap, Bool, true, false, List, [], ◌∷◌, Option, Some, None, arith}
+use Rattle.std.proofs.Common.{ℕ, ◌≡◌, refl, sym, ap, true, false, List, [], ◌∷◌, Option, Some, None, arith}
 use Rattle.std.specs.Prelude.{◌==◌, IsSome}
 use Rattle.std.specs.List.{AllByRecursion}
-use Rattle.acc_clauses.specs.Words.{Item, UpdateClause, Range, Task, Transfer}
-use Rattle.acc_base.specs.declared.tasks.Task.TheVariants.{Move}
+use Rattle.acc_clauses.specs.Words.{Range, Task, Transfer}
 use Rattle.acc_base.specs.declared.events.Step.TheVariants.{Nothing, Counted, Dropped}
 use Rattle.acc_base.specs.Records.{State}
 use Rattle.acc_base.specs.Ranges.{range_of, changed_at}
@@ -70,10 +69,6 @@ dropped_acts task k x r e room marked = counter_acts (step_state task (Dropped k
     (rw (none_made (queue_of task)) refl) (rw (none_made (queue_of task)) refl))
 
 -- ---- what the calls on the present table need
-
--- an update changes no counter
-pub moved_table : (t : PresentTable) (task : Task) (k : ℕ) (if_present : Bool) (item : Item UpdateClause) (queue : Option ℕ) → task ≡ Move if_present item queue → t ≡ with_ranges t (changed_at k (recounted task) t.ranges)
-moved_table t task k if_present item queue e = rw e (ap (with_ranges t) (sym (changed-same_ranges k (λ r. r) t.ranges (λ r. refl))))
 
 -- no range has a new number
 pub new_absent : (k : ℕ) (ranges : List Range) → AllByRecursion (λ r. r.block ≡ k → ⊥) ranges → range_of k ranges ≡ None

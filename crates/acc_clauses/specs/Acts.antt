@@ -10,7 +10,7 @@ use Rattle.acc_base.specs.declared.events.Step.TheVariants.{Nothing, Counted, Bo
 use Rattle.acc_base.specs.declared.attachments.Aim.TheVariants as aims
 use Rattle.acc_base.specs.Limits.{Limits, IsFromOne}
 use Rattle.acc_base.specs.Section.{end_of, is_within, host_memory}
-use Rattle.acc_base.specs.Ranges.{range_of, counter_of, where_is, ends_by}
+use Rattle.acc_base.specs.Ranges.{range_of, where_is, ends_by}
 use Rattle.acc_base.specs.Blocks.{rounded, place_for, block_at}
 use Rattle.acc_base.specs.Attachments.{pointer_at, count_at}
 use Rattle.acc_base.specs.Loans.{is_lent, not_lent, none_lent}
@@ -30,6 +30,7 @@ use Rattle.acc_base.specs.History.{IsAimLegal}
 use Rattle.acc_dev.specs.Host.{bytes_in}
 use Rattle.acc_dev.specs.Device.{DeviceState, birth_place}
 use Rattle.acc_dev.specs.Marks.{new_mark}
+use Rattle.acc_present.specs.Present.{CanCount}
 use Rattle.acc_present.specs.Queued.{QueuesState, spare_at}
 use Rattle.acc_clauses.specs.Planned.{Planned, holdings_by}
 use Rattle.acc_clauses.specs.Contents.{Numbers, Room, Contents, state_of, room_of, AreMarked, bare_state, WithHost}
@@ -61,20 +62,10 @@ AreKnown _ _ w = ⊤
 
 -- ---- what each step needs
 
--- the counter that the task raises is below its limit
-abbrev pub IsBelowLimit : ℕ → Task → ℕ → List Range → Type 0
-IsBelowLimit counter_max (Enter counter item queue) block ranges = counter_of counter block ranges < counter_max
-IsBelowLimit counter_max _ block ranges = ⊤
-
 -- entry is the one task that gives birth to a block
 abbrev pub IsEnter : Task → Type 0
 IsEnter (Enter counter item queue) = ⊤
 IsEnter _ = ⊥
-
--- the range of the block can be counted by the task
-pub record CanCount (counter_max : ℕ) (task : Task) (block : ℕ) (ranges : List Range) : Type 0 where
-  pub there : IsSome (range_of block ranges)
-  pub below : IsBelowLimit counter_max task block ranges
 
 -- the section can be copied between host memory and a block. It lies in host memory, which is not too large, and in the
 -- range that is mapped to the block. The block is there and, unless it is lent, as long as that range

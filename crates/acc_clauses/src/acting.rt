@@ -1,48 +1,21 @@
 //! What a step changes. Nothing is judged here, nothing is allocated, and nothing is refused.
 
 ghost use Rattle.std.specs.Prelude.{◌≡◌, ◌∷◌, ◌<◌, ◌≤◌, [], ℕ, Some, true, false};
-ghost use Rattle.acc_base.specs.Ranges.{changed_at};
 ghost use Rattle.acc_base.specs.Loans.{is_lent};
-ghost use Rattle.acc_base.specs.Tasks.{section_of, recounted};
+ghost use Rattle.acc_base.specs.Tasks.{section_of};
 ghost use Rattle.acc_base.specs.Clauses.{is_attach, section_named, copies_in};
-ghost use Rattle.acc_base.specs.declared.tasks.Task.TheVariants.{Enter};
 ghost use Rattle.acc_base.specs.declared.events.Step.TheVariants.{Born, Dropped, Moved};
-ghost use Rattle.acc_present.specs.Present.{with_ranges, IsRoomKept};
 ghost use Rattle.acc_clauses.specs.Contents.{AreMarked, beside, room_of, bare_state};
 ghost use Rattle.acc_clauses.specs.Overlays.{puts_by};
-ghost use Rattle.acc_clauses.specs.Acts.{CanAct, CanCount, CanBear, CanMove, CanDrop, HasRoomFor, IsActedBy, CanMake, IsBlockMade, is_copied_now, birth_of, CanDo, IsDoneBy, pointers_of, CanPut, CanQueue, CanNeed, HasPutRoom, IsFilledLater, IsGivenBy};
+ghost use Rattle.acc_clauses.specs.Acts.{IsEnter, CanAct, CanBear, CanMove, CanDrop, HasRoomFor, IsActedBy, CanMake, IsBlockMade, is_copied_now, birth_of, CanDo, IsDoneBy, pointers_of, CanPut, CanQueue, CanNeed, HasPutRoom, IsFilledLater, IsGivenBy};
 
 use crate::acted::Acted;
 use crate::environments::Environment;
 use crate::pointers::aim_on;
 use crate::transfers::{move_bytes, transfer_at};
-use acc_base::{Counter, Item, RegionClause, Section, Step, Task, Transfer};
+use acc_base::{Item, Range, RegionClause, Section, Step, Task, Transfer};
 use acc_dev::{Device, HostMem};
-use acc_present::{Place, Present};
-
-/// Changes the counters of the range that is mapped to a block as the task does (OpenACC 3.3, section 2.6.7). It is not
-/// searched for where it stands at the place.
-#[inline(always)]
-fn recount(present: &mut Present, task: &Task, block: u64, near: Place)
-    requires can { CanCount present.old.table.counter_max task.now block present.old.table.ranges }
-    ensures table { present.new.table ≡ with_ranges present.old.table (changed_at block (recounted task.now) present.old.table.ranges) }
-    ensures room { IsRoomKept present.old.room present.new.room }
-{
-    match *task {
-        Task::Enter { counter, .. } => {
-            let Ok(()) = present.count_near(counter, block, near) else {
-                unreachable!()
-            };
-        }
-        Task::ExitRegion { .. } => present.drop_near(Counter::Structured, block, near),
-        Task::ExitData { finalize: true, .. } => present.clear_near(block, near),
-        Task::ExitData {
-            finalize: false,
-            ..
-        } => present.drop_near(Counter::Dynamic, block, near),
-        Task::Move { .. } => {}
-    }
-}
+use acc_present::Place;
 
 /// The section of a new block is copied there at once: by the clause, and without a queue.
 fn is_copied_now(clause: RegionClause, queue: Option<u64>) -> bool
@@ -96,32 +69,38 @@ fn fill_later(
     }
 }
 
-/// Maps the section of an item to a new block, with a counter of one. No search comes first where the last range before
+/// Maps the section of an entry to a new block, with a counter of one. No search comes first where the last range before
 /// it stands at the place.
 fn bear(
     environment: &mut Environment,
     host: &mut HostMem,
-    counter: Counter,
-    item: Item<RegionClause>,
-    queue: Option<u64>,
+    task: &Task,
     block: u64,
     place: u64,
     near: Place,
 )
-    requires can { CanBear environment.old.present.table.counter_max environment.old.device.memory (section_of (Enter counter item queue)) block place (bare_state (beside environment.old host.old)) }
-    requires queue { CanQueue (Enter counter item queue) (Born block place) (beside environment.old host.old) }
-    requires room { HasRoomFor ((section_of (Enter counter item queue)).len ∷ []) (room_of (beside environment.old host.old)) }
-    requires puts { HasPutRoom (λ q. puts_by q (Enter counter item queue) (Born block place)) (room_of (beside environment.old host.old)) }
+    requires entry { IsEnter task.now }
+    requires can { CanBear environment.old.present.table.counter_max environment.old.device.memory (section_of task.now) block place (bare_state (beside environment.old host.old)) }
+    requires queue { CanQueue task.now (Born block place) (beside environment.old host.old) }
+    requires room { HasRoomFor ((section_of task.now).len ∷ []) (room_of (beside environment.old host.old)) }
+    requires puts { HasPutRoom (λ q. puts_by q task.now (Born block place)) (room_of (beside environment.old host.old)) }
     requires marked { AreMarked (beside environment.old host.old) }
-    ensures acted { IsActedBy (Enter counter item queue) (Born block place) (beside environment.old host.old) (beside environment.new host.new) }
+    ensures acted { IsActedBy task.now (Born block place) (beside environment.old host.old) (beside environment.new host.new) }
 {
-    let section = item.section.named(item.clause.is_attach());
+    let Task::Enter { item, queue, .. } = *task else {
+        unreachable!()
+    };
+    let section = task.section();
     let copied = is_copied_now(item.clause, queue);
     environment.device.laws();
     make_block(&mut environment.device, host, copied, section, item.clause);
-    environment
-        .present
-        .add_counted_reserved(section, block, counter, near);
+    let range = task.recounted(Range {
+        section,
+        block,
+        structured: 0,
+        dynamic: 0,
+    });
+    environment.present.add_reserved(range, near);
     fill_later(environment, host, queue, item, block);
 }
 
@@ -179,7 +158,7 @@ fn lower(
     if ended {
         end(environment, host, task, block, near);
     } else {
-        recount(&mut environment.present, task, block, near);
+        environment.present.recount(task, block, near);
     }
 }
 
@@ -209,18 +188,8 @@ fn step_on(environment: &mut Environment, host: &mut HostMem, x: &Acted, near: P
 {
     match x.did.step {
         Step::Nothing => {}
-        Step::Counted { block } => recount(&mut environment.present, &x.task, block, near),
-        Step::Born { block, place } => {
-            let Task::Enter {
-                counter,
-                item,
-                queue,
-            } = x.task
-            else {
-                unreachable!()
-            };
-            bear(environment, host, counter, item, queue, block, place, near);
-        }
+        Step::Counted { block } => environment.present.recount(&x.task, block, near),
+        Step::Born { block, place } => bear(environment, host, &x.task, block, place, near),
         Step::Dropped { block, ended } => lower(environment, host, &x.task, block, ended, near),
         Step::Moved { block } => update(environment, host, &x.task, block),
     }

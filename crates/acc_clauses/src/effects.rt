@@ -7,7 +7,7 @@ use crate::acted::Acted;
 use crate::rows::moves;
 use acc_base::{Counters, Found, Range, Section, Step, Task};
 
-/// The counters of a range that a task counts or drops.
+/// What a task leaves of the counters of a range that it counts or drops.
 pub fn recount(task: Task, counters: Counters) -> Counters
     requires structured { counters.structured < 2 ^ 40 }
     requires dynamic { counters.dynamic < 2 ^ 40 }
@@ -15,19 +15,15 @@ pub fn recount(task: Task, counters: Counters) -> Counters
     ensures structured_most { result.structured ≤ counters.structured + 1 }
     ensures dynamic_most { result.dynamic ≤ counters.dynamic + 1 }
 {
-    let Range {
-        structured,
-        dynamic,
-        ..
-    } = task.recounted(Range {
+    let range = task.recounted(Range {
         section: Section { start: 0, len: 0 },
         block: 0,
         structured: counters.structured,
         dynamic: counters.dynamic,
     });
     Counters {
-        structured,
-        dynamic,
+        structured: range.structured,
+        dynamic: range.dynamic,
     }
 }
 

@@ -12,7 +12,7 @@ ghost use Rattle.acc_clauses.specs.Devices.{device_in_view};
 
 use crate::bases::DeviceBase;
 use crate::environments::Environment;
-use acc_base::{Config, Fault, Loan};
+use acc_base::{Config, Fault};
 use acc_dev::HostMem;
 use std::alloc::Global;
 use std::marker::Model;

@@ -34,11 +34,6 @@ later_block : (block : ℕ) (a b : Attachment) → block < a.block → IsBefore 
 later_block block a b less (inl h) = let more : block < b.block = omega arith in grind (arith, nat_tests)
 later_block block a b less (inr h) = let more : block < b.block = omega (arith, h.0) in grind (arith, nat_tests)
 
--- of a later block, or of the same and above
-same_or_later : (block : ℕ) (a b : Attachment) → a.block ≡ block → IsBefore a b → ((b.block == block) ≡ false) ⊎ (a.pointer < b.pointer)
-same_or_later block a b is (inl h) = let more : block < b.block = omega arith in inl (grind (arith, nat_tests))
-same_or_later block a b is (inr h) = inr h.1
-
 -- a counter that a search from a pointer on finds does not stand before it
 found_first : (block pointer : ℕ) (xs : List Attachment) (a : Attachment) → Some a ≡ find (is_from block pointer) xs → is_below block pointer a ≡ false
 found_first block pointer xs a e = not_true (is_below block pointer a) (found_passes xs (sym e))
@@ -55,28 +50,12 @@ found_first block pointer xs a e = not_true (is_below block pointer a) (found_pa
         go rest true g k = let same : y ≡ a = cc in rw (← same) g
         go rest false g k = rest k
 
--- ---- a search by a test that only the first counter from a pointer on can pass
+-- ---- the next pointer
 
 -- what passes the test, if anything does
-abbrev pub passed : (Attachment → Bool) → Option Attachment → Option Attachment
+abbrev passed : (Attachment → Bool) → Option Attachment → Option Attachment
 passed test None = None
 passed test (Some a) = cond (test a) (Some a) None
-
-module _ (block pointer : ℕ) (test : Attachment → Bool) (below : (a : Attachment) → IsBefore a (probe block pointer) → test a ≡ false) (none_after : (a b : Attachment) → IsAtOrBehind block pointer a → test a ≡ false → IsBefore a b → test b ≡ false) where
-  -- the search finds the first one from the pointer on, or nothing
-  pub find_first : (xs : List Attachment) → EachPair IsBefore xs → find test xs ≡ passed test (find (is_from block pointer) xs)
-  find_first [] h = refl
-  find_first (x ∷ xs) h = go (find_first xs h.1) (is_below block pointer x) refl
-    where
-      rest : is_below block pointer x ≡ false → (t : Bool) → test x ≡ t → cond t (Some x) (find test xs) ≡ cond t (Some x) None
-      rest e true f = refl
-      rest e false f = find-none test xs (AllByRecursion-weaker (IsBefore x) (λ y. test y ≡ false) xs (λ y k. none_after x y (at_or_behind block pointer x e) f k) h.0)
-
-      go : find test xs ≡ passed test (find (is_from block pointer) xs) → (b : Bool) → is_below block pointer x ≡ b → cond (test x) (Some x) (find test xs) ≡ passed test (cond (not b) (Some x) (find (is_from block pointer) xs))
-      go later true e = rw (below x (before x (probe block pointer) e)) later
-      go later false e = rest e (test x) refl
-
--- ---- the next pointer
 
 -- it is a pointer of the block that begins at the address or above
 abbrev begins_from : ℕ → ℕ → Attachment → Bool
@@ -96,9 +75,18 @@ not_next_behind : (block address : ℕ) (a b : Attachment) → IsAtOrBehind bloc
 not_next_behind block address a b (inl h) e k = rw (later_block block a b h k)
 not_next_behind block address a b (inr h) e k = let t = next_test block address a h.0 h.1 in cc
 
--- so the next pointer is that of the first one, or there is none
+-- so the next pointer is that of the first one from there on, or there is none
 find_next : (block address : ℕ) (xs : List Attachment) → EachPair IsBefore xs → find (begins_from block address) xs ≡ passed (begins_from block address) (find (is_from block address) xs)
-find_next block address xs h = find_first block address (begins_from block address) (not_next_below block address) (not_next_behind block address) xs h
+find_next block address [] h = refl
+find_next block address (x ∷ xs) h = go (find_next block address xs h.1) (is_below block address x) refl
+  where
+    rest : is_below block address x ≡ false → (t : Bool) → begins_from block address x ≡ t → cond t (Some x) (find (begins_from block address) xs) ≡ cond t (Some x) None
+    rest e true f = refl
+    rest e false f = find-none (begins_from block address) xs (AllByRecursion-weaker (IsBefore x) (λ y. begins_from block address y ≡ false) xs (λ y k. not_next_behind block address x y (at_or_behind block address x e) f k) h.0)
+
+    go : find (begins_from block address) xs ≡ passed (begins_from block address) (find (is_from block address) xs) → (b : Bool) → is_below block address x ≡ b → cond (begins_from block address x) (Some x) (find (begins_from block address) xs) ≡ passed (begins_from block address) (cond (not b) (Some x) (find (is_from block address) xs))
+    go later true e = rw (not_next_below block address x (before x (probe block address) e)) later
+    go later false e = rest e (begins_from block address x) refl
 
 -- the first counter from an address on is of the block
 pub next_there : (block address : ℕ) (xs : List Attachment) (a : Attachment) → EachPair IsBefore xs → Some a ≡ find (is_from block address) xs → a.block ≡ block → Some a.pointer ≡ next_pointer block address xs

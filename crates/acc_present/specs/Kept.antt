@@ -1,5 +1,5 @@
 -- How the present table keeps its ranges and regions. No public clause cites this module.
-use Rattle.std.specs.Prelude.{ℕ, ◌≡◌, ◌^◌, ◌<◌, List, filter, map, nat_le, Option, Some, None, option_map, ⊤}
+use Rattle.std.specs.Prelude.{ℕ, ◌≡◌, ◌^◌, ◌<◌, List, filter, map, nat_le, Option, Some, None, option_map}
 use Rattle.std.specs.declared.alloc.Global.{Global}
 use Rattle.std.specs.declared.vec.Vec.{Vec}
 use Rattle.std.specs.List.{AllByRecursion}
@@ -7,13 +7,11 @@ use Rattle.acc_base.specs.declared.items.Section.{Section}
 use Rattle.acc_base.specs.declared.mappings.Range.{Range}
 use Rattle.acc_base.specs.declared.regions.Holding.{Holding}
 use Rattle.acc_base.specs.declared.mappings.Found.TheVariants.{Absent}
-use Rattle.acc_base.specs.Ranges.{range_of, range_from, where_is_apart, counter_in, risen, fallen, cleared}
+use Rattle.acc_base.specs.Ranges.{range_of, range_from, where_is_apart}
 use Rattle.acc_base.specs.Register.{Region}
 use Rattle.acc_index.specs.Indexed.{IndexState, value_at}
 use Rattle.acc_ordered.specs.Listing.{KeyValue}
 use Rattle.acc_present.specs.declared.ranges.Mapping.{Mapping}
-use Rattle.acc_present.specs.declared.ranges.CounterChange.{CounterChange}
-use Rattle.acc_present.specs.declared.ranges.CounterChange.TheVariants.{Raise, Lower, Clear}
 use Rattle.acc_present.specs.Present.{AreMapped}
 
 -- ---- the ranges
@@ -60,20 +58,6 @@ ranges_from k rs = filter (λ r. nat_le k r.section.start) rs
 abbrev pub IsNext : Section → List ℕ → List Range → Option Range → Type 0
 IsNext s blocks rs None = where_is_apart s blocks rs ≡ Absent
 IsNext s blocks rs (Some r) = (range_from r.section.start rs ≡ Some r) × (where_is_apart s blocks rs ≡ where_is_apart s blocks (ranges_from r.section.start rs))
-
--- ---- a change of a counter
-
--- what it makes of a range
-abbrev pub changed_by : CounterChange → Range → Range
-changed_by (Raise counter) = risen counter
-changed_by (Lower counter) = fallen counter
-changed_by Clear = cleared
-
--- a counter that rises is below the limit
-abbrev pub IsChangeable : CounterChange → ℕ → Range → Type 0
-IsChangeable (Raise counter) most r = counter_in counter r < most
-IsChangeable (Lower counter) most r = ⊤
-IsChangeable Clear most r = ⊤
 
 -- ---- the open regions
 

@@ -3,9 +3,11 @@
 use Rattle.std.specs.Prelude.{ℕ, ◌≡◌, ◌+◌, ◌*◌, ◌^◌, ◌<◌, ◌≤◌, ◌⊎◌, ⊤, List, [], length, Option, Some, None, IsSome}
 use Rattle.std.specs.List.{AllByRecursion}
 use Rattle.acc_base.specs.declared.mappings.Range.{Range}
+use Rattle.acc_base.specs.declared.tasks.Task.{Task}
+use Rattle.acc_base.specs.declared.tasks.Task.TheVariants.{Enter}
 use Rattle.acc_base.specs.declared.mappings.Found.{Found}
 use Rattle.acc_base.specs.declared.mappings.Found.TheVariants.{Inside, Empty, Partly, Absent}
-use Rattle.acc_base.specs.Ranges.{range_of}
+use Rattle.acc_base.specs.Ranges.{range_of, counter_of}
 use Rattle.acc_base.specs.Register.{Region, region_at}
 use Rattle.acc_base.specs.Accounts.{EachPair, IsBelow}
 use Rattle.acc_present.specs.declared.register.OpenRegion.{OpenRegion}
@@ -53,6 +55,16 @@ HasRange t block = IsSome (range_of block t.ranges)
 -- a region of the number is open
 abbrev pub HasRegion : PresentTable → ℕ → Type 0
 HasRegion t number = IsSome (region_at number t.regions)
+
+-- the counter that the task raises is below the limit
+abbrev pub IsBelowLimit : ℕ → Task → ℕ → List Range → Type 0
+IsBelowLimit counter_max (Enter counter item queue) block ranges = counter_of counter block ranges < counter_max
+IsBelowLimit counter_max _ block ranges = ⊤
+
+-- the range of the block can be counted by the task
+pub record CanCount (counter_max : ℕ) (task : Task) (block : ℕ) (ranges : List Range) : Type 0 where
+  pub there : IsSome (range_of block ranges)
+  pub below : IsBelowLimit counter_max task block ranges
 
 -- the region that an open region of the code stands for
 abbrev pub region_of : OpenRegion → Region

@@ -1,12 +1,12 @@
 //! The attachment counters as one value.
 
-ghost use Rattle.std.specs.Prelude.{◌≡◌, ◌+◌, ◌^◌, ◌<◌, ◌≤◌, ◌↔◌, IsTrue, [], true, false, Ok, Err, IsOk, IfOk, OnOk, OnErr, IfErr, ◌⊎◌};
-ghost use Rattle.acc_base.specs.Attachments.{count_at, with_count, attach, detach, attached_by, without_attachments, next_pointer};
+ghost use Rattle.std.specs.Prelude.{◌≡◌, ◌+◌, ◌^◌, ◌<◌, ◌≤◌, ◌↔◌, IsTrue, [], true, false, IfOk, OnOk, OnErr, IfErr};
+ghost use Rattle.acc_base.specs.Attachments.{count_at, with_count, detach, attached_by, without_attachments, next_pointer};
 ghost use Rattle.acc_present.specs.Attached.{AreAttached, left_of};
 
 use crate::counters::{CounterList, LocatedCounter};
 use crate::left::Left;
-use acc_base::{Aim, Attachment, Fault};
+use acc_base::{Attachment, Fault};
 use acc_ordered::Place;
 use std::alloc::{AllocError, Global};
 use std::marker::Model;
@@ -17,8 +17,8 @@ use std::marker::Model;
 /// counter is zero until the pointer is attached. Targets are device addresses.
 ///
 /// Contracts see the counters above zero, and beside them for how many more of them there is room. A refused call
-/// leaves the counters as they were. Only `attach`, `reserve`, `copy_counters` and `clone` allocate, the last two for
-/// their results. A clone has the limit and the counters, and may have no room for more.
+/// leaves the counters as they were. Only `reserve`, `copy_counters` and `clone` allocate, the last two for their
+/// results. A clone has the limit and the counters, and may have no room for more.
 ///
 /// Counters are searched for by their keys, and stand in rows of up to 64. One that becomes one or zero moves others of
 /// its row. The list of rows moves too where a full row is split, or a row becomes empty or is joined with one beside it.
@@ -103,69 +103,6 @@ impl Attached {
         ensures { result ≡ count_at block pointer self.now.attached }
     {
         self.counters.find(block, pointer).count
-    }
-
-    /// Attaches a pointer of a block to a target (OpenACC 3.3, section 2.7.2). Where it is attached and aimed there
-    /// already, its counter rises by one. Else its counter becomes one.
-    ///
-    /// `pointer` is its host address, and `target` the device address to aim it at. `now` is the device address that
-    /// its eight bytes on the device hold. The caller writes those bytes. The call takes at most one from the room.
-    ///
-    /// # Errors
-    ///
-    /// [`Fault::CounterFull`] with item 0, exactly where the counter would rise above its limit. Else
-    /// [`Fault::Memory`], only where the pointer's counter is zero and there is no room for one more. The counters are
-    /// then as before, and the room has not shrunk.
-    pub fn attach(&mut self, block: u64, pointer: u64, target: u64, now: u64) -> Result<Aim, Fault>
-        ensures aim { IfOk result (λ aim. attach self.old.counter_max 0 block pointer target now self.old.attached ≡ Ok aim) }
-        ensures attached { IfOk result (λ aim. self.new.attached ≡ attached_by aim self.old.attached) }
-        ensures full { (result ≡ Err (Fault.CounterFull 0)) ↔ (attach self.old.counter_max 0 block pointer target now self.old.attached ≡ Err (Fault.CounterFull 0)) }
-        ensures memory { result ≡ Err Fault.Memory → (count_at block pointer self.old.attached ≡ 0) × (self.old.spare ≡ 0) }
-        ensures only { IfErr result (λ fault. (fault ≡ Fault.CounterFull 0) ⊎ (fault ≡ Fault.Memory)) }
-        ensures unchanged { OnErr result (self.new.attached ≡ self.old.attached) }
-        ensures counter_max { self.new.counter_max ≡ self.old.counter_max }
-        ensures taken { OnOk result (self.old.spare ≤ self.new.spare + 1) }
-        ensures kept { OnErr result (self.old.spare ≤ self.new.spare) }
-    {
-        let found = self.counters.find(block, pointer);
-        if found.count == 0 {
-            self.counters.reserve(1)?;
-        } else if now == target && self.counter_max <= found.count {
-            return Err(Fault::CounterFull { item: 0 });
-        }
-        Ok(self.attach_found(block, pointer, target, now, found))
-    }
-
-    /// As [`Attached::attach`], of a counter that was searched for. It has not reached its limit, and there is room for
-    /// one more if it is zero. So it allocates nothing and is not refused. It takes at most one from the room.
-    fn attach_found(
-        &mut self,
-        block: u64,
-        pointer: u64,
-        target: u64,
-        now: u64,
-        found: LocatedCounter,
-    ) -> Aim
-        requires found { found.count ≡ count_at block pointer self.old.attached }
-        requires room { count_at block pointer self.old.attached ≡ 0 → 1 ≤ self.old.spare }
-        requires not_full { IsOk (attach self.old.counter_max 0 block pointer target now self.old.attached) }
-        ensures aim { attach self.old.counter_max 0 block pointer target now self.old.attached ≡ Ok result }
-        ensures attached { self.new.attached ≡ attached_by result self.old.attached }
-        ensures counter_max { self.new.counter_max ≡ self.old.counter_max }
-        ensures spare { self.old.spare ≤ self.new.spare + 1 }
-    {
-        self.laws();
-        if found.count > 0 && now == target {
-            let again = found.count + 1;
-            self.put(block, pointer, again, found);
-            return Aim::Again { pointer, block };
-        }
-        self.put(block, pointer, 1, found);
-        Aim::New {
-            pointer,
-            block,
-            target,
-        }
     }
 
     /// Sets a counter that was searched for to a number above zero, where there is room for it.
@@ -264,8 +201,7 @@ impl Attached {
     // ---- transfers
 
     /// The least host address at or above `from` at which an attached pointer of a block begins; `None` where there is
-    /// none. By it a transfer goes from pointer to pointer, and touches none of their bytes. That is this project's rule,
-    /// since OpenACC 3.3 leaves it undefined (end of section 2.6.8). A pointer may reach past the last `u64`.
+    /// none. A pointer may reach past the last `u64`.
     pub fn next_pointer(&self, block: u64, from: u64) -> Option<u64>
         ensures { result ≡ next_pointer block from self.now.attached }
     {
@@ -273,7 +209,7 @@ impl Attached {
     }
 
     /// As [`Attached::next_pointer`], and where its counter stands. It is looked for first at a place and right behind
-    /// it: by the place of one pointer the next one is found without a search. Any place may be handed in.
+    /// it. So a transfer goes from pointer to pointer without a search. Any place may be handed in.
     pub fn next_pointer_near(&self, block: u64, from: u64, near: Place) -> (Option<u64>, Place)
         ensures { result.0 ≡ next_pointer block from self.now.attached }
     {

@@ -1,20 +1,17 @@
 //! The present table as one value.
 
-ghost use Rattle.std.specs.Prelude.{◌≡◌, false, [], ℕ, ◌+◌, ◌*◌, ◌^◌, ◌<◌, ◌≤◌, ◌⊎◌, length, map, option_map, None, Some, Err, IfOk, IfErr, OnOk, OnErr, IfSome, MatchOption, vec_capacity};
-ghost use Rattle.std.specs.Bool.{OnTrue};
-ghost use Rattle.acc_base.specs.declared.mappings.Range.{Range};
+ghost use Rattle.std.specs.Prelude.{◌≡◌, [], ℕ, ◌+◌, ◌*◌, ◌^◌, ◌<◌, ◌≤◌, length, map, option_map, None, Some, IfOk, IfErr, OnOk, OnErr, IfSome, MatchOption, vec_capacity};
 ghost use Rattle.acc_base.specs.declared.mappings.Found.TheVariants.{Absent};
-ghost use Rattle.acc_base.specs.Ranges.{where_is, where_is_apart, range_of, range_from, structured_of, dynamic_of, counter_of, with_range, without_range, changed_at, bare_range, risen, fallen, cleared};
+ghost use Rattle.acc_base.specs.Ranges.{where_is, where_is_apart, range_of, range_from, with_range, without_range, changed_at};
 ghost use Rattle.acc_base.specs.Register.{region_at, newest_region, holdings_at, with_region, without_region};
+ghost use Rattle.acc_base.specs.Tasks.{recounted};
 ghost use Rattle.acc_ordered.specs.Listing.{seen};
-ghost use Rattle.acc_present.specs.Present.{IsWithinLimit, new_table, with_ranges, with_regions, HasRange, HasRegion, IsToldBy, IsRoomKept, IsRangeRoomTaken, IsRegionRoomTaken, IsRoomMissing, IsMemoryNeeded, IsLawful, region_of};
-ghost use Rattle.acc_present.specs.Kept.{range_in, IsNext, IsChangeable, changed_by};
+ghost use Rattle.acc_present.specs.Present.{IsWithinLimit, new_table, with_ranges, with_regions, HasRange, HasRegion, CanCount, IsToldBy, IsRoomKept, IsRegionRoomTaken, IsRoomMissing, IsMemoryNeeded, IsLawful, region_of};
+ghost use Rattle.acc_present.specs.Kept.{range_in, IsNext};
 
-use crate::ranges::{
-    CounterChange, Mapping, RangeKept, changed, is_allowed, is_listed, told_by, value_of, within,
-};
+use crate::ranges::{AsRange, Mapping, is_listed, told_by, within};
 use crate::register::{OpenRegion, Register};
-use acc_base::{Counter, Counters, Fault, Found, Holding, Range, Section, Steps};
+use acc_base::{Fault, Found, Holding, Range, Section, Steps, Task};
 use acc_index::Index;
 use acc_ordered::{KeyValueRef, OrderedList, Place};
 use std::alloc::{AllocError, Global};
@@ -24,8 +21,8 @@ use std::marker::Model;
 /// of device memory, each with its two reference counters. And it has the register of open data regions.
 ///
 /// Contracts see the table, and the room that was made for more beside it. A refused call leaves the table as it was.
-/// Only `new`, `add`, `enter` and `reserve` allocate for it, and `copy_ranges`, `copy_regions` and `clone` for their
-/// results. A clone has the table, and may have no room for more.
+/// Only `new` and `reserve` allocate for it, and `copy_ranges`, `copy_regions` and `clone` for their results. A clone has
+/// the table, and may have no room for more.
 ///
 /// The ranges stand in an [`OrderedList`] by rising start. The start of each block's range stands in an [`Index`] beside
 /// it, and is found mostly without a search.
@@ -104,23 +101,7 @@ fn range_if(found: Option<KeyValueRef<'_, u64, Mapping>>) -> Option<Range>
     ensures { result ≡ option_map range_in (seen (λ (key : ℕ). key) found.entry) }
 {
     let found = found?;
-    Some(found.value.range_at(found.key))
-}
-
-/// A range of a section that is mapped to a block, with one of its counters at 1.
-fn counted_range(section: Section, block: u64, counter: Counter) -> Range
-    ensures { result ≡ risen counter (bare_range section block) }
-{
-    let (structured, dynamic) = match counter {
-        Counter::Structured => (1, 0),
-        Counter::Dynamic => (0, 1),
-    };
-    Range {
-        section,
-        block,
-        structured,
-        dynamic,
-    }
+    Some(found.value.with_start(found.key))
 }
 
 impl Present {
@@ -176,18 +157,10 @@ impl Present {
         }
     }
 
-    /// Where a section would lie if the mappings to the listed blocks had ended. The search goes on from range to range
-    /// as long as their blocks are listed.
-    pub fn find_apart(&self, section: Section, blocks: &[u64]) -> Found
-        ensures { result ≡ where_is_apart section blocks.now self.now.table.ranges }
-    {
-        self.find_range_apart(section, blocks, Place::default())
-            .found
-    }
-
-    /// Where a section would lie, as [`Present::find_apart`] says, and a mapped range that says so, if one does. It is
-    /// that of the block in which the section lies, whose counters need no search of their own then. With it comes where
-    /// the last range may stand that begins at or before the section. That range is looked for first at a place.
+    /// Where a section would lie if the mappings to the listed blocks had ended, and a mapped range that says so, if one
+    /// does. It is that of the block in which the section lies, whose counters need no search of their own then. With it
+    /// comes where the last range may stand that begins at or before the section. That range is looked for first at a
+    /// place.
     #[inline(always)]
     pub fn find_range_apart(&self, section: Section, blocks: &[u64], near: Place) -> Located
         ensures found { result.found ≡ where_is_apart section blocks.now self.now.table.ranges }
@@ -374,17 +347,6 @@ impl Present {
         }
     }
 
-    /// The range that is mapped to a block, and where it stands. One is.
-    fn mapped(&self, block: u64) -> (Range, Place)
-        requires { HasRange self.now.table block }
-        ensures range { range_of block self.now.table.ranges ≡ Some result.0 }
-        ensures block { result.0.block ≡ block }
-    {
-        let (found, place) = self.find_range_of(block);
-        let Some(range) = found else { unreachable!() };
-        (range, place)
-    }
-
     /// The mapped range of least start at or above an address, and where it stands. It is looked for first at a place and
     /// right behind it.
     #[inline]
@@ -395,72 +357,10 @@ impl Present {
         (range_if(found), place)
     }
 
-    /// Maps a section to a block. The section is absent, and no range is mapped to the block. Both counters of the new
-    /// range are 0. It takes at most one from the room of ranges.
-    ///
-    /// # Errors
-    ///
-    /// [`Fault::Memory`] alone, only where there was no room for one more range. The table is then as before, and no
-    /// room has shrunk.
-    pub fn add(&mut self, section: Section, block: u64) -> Result<(), Fault>
-        requires absent { where_is section self.old.table.ranges ≡ Absent }
-        requires new { range_of block self.old.table.ranges ≡ None }
-        ensures ok { OnOk result (self.new.table ≡ with_ranges self.old.table (with_range (bare_range section block) self.old.table.ranges)) }
-        ensures only { IfErr result (λ fault. fault ≡ Fault.Memory) }
-        ensures needed { OnErr result (self.old.room.ranges ≡ 0) }
-        ensures unchanged { OnErr result (self.new.table ≡ self.old.table) }
-        ensures taken { OnOk result (IsRangeRoomTaken self.old.room self.new.room) }
-        ensures kept { OnErr result (IsRoomKept self.old.room self.new.room) }
-    {
-        self.reserve(1, 0, 0)?;
-        self.add_reserved(section, block);
-        Ok(())
-    }
-
-    /// As [`Present::add`], where there is room for one more range: it allocates nothing and is not refused. It takes
-    /// one from the room of ranges.
-    pub fn add_reserved(&mut self, section: Section, block: u64)
-        requires room { 1 ≤ self.old.room.ranges }
-        requires absent { where_is section self.old.table.ranges ≡ Absent }
-        requires new { range_of block self.old.table.ranges ≡ None }
-        ensures table { self.new.table ≡ with_ranges self.old.table (with_range (bare_range section block) self.old.table.ranges) }
-        ensures room_ranges { self.old.room.ranges ≤ self.new.room.ranges + 1 }
-        ensures room_regions { self.old.room.regions ≤ self.new.room.regions }
-        ensures room_holdings { self.old.room.holdings ≤ self.new.room.holdings }
-    {
-        let range = Range {
-            section,
-            block,
-            structured: 0,
-            dynamic: 0,
-        };
-        self.put(range, Place::default());
-    }
-
-    /// As [`Present::add_reserved`], with one of the counters at 1. No search comes first where the place is that of the
-    /// last range before the new one.
-    pub fn add_counted_reserved(
-        &mut self,
-        section: Section,
-        block: u64,
-        counter: Counter,
-        near: Place,
-    )
-        requires room { 1 ≤ self.old.room.ranges }
-        requires absent { where_is section self.old.table.ranges ≡ Absent }
-        requires new { range_of block self.old.table.ranges ≡ None }
-        requires some { 0 < self.old.table.counter_max }
-        ensures table { self.new.table ≡ with_ranges self.old.table (with_range (risen counter (bare_range section block)) self.old.table.ranges) }
-        ensures room_ranges { self.old.room.ranges ≤ self.new.room.ranges + 1 }
-        ensures room_regions { self.old.room.regions ≤ self.new.room.regions }
-        ensures room_holdings { self.old.room.holdings ≤ self.new.room.holdings }
-    {
-        self.put(counted_range(section, block, counter), near);
-    }
-
-    /// Puts a range to those that are mapped, where there is room for it. What stands before it is looked for first at a
-    /// place.
-    fn put(&mut self, range: Range, near: Place)
+    /// Maps the section of a range to its block. The section is absent, no range is mapped to the block, and there is
+    /// room for one more. No search comes first where the place is that of the last range before the new one. It
+    /// allocates nothing, and takes one from the room of ranges.
+    pub fn add_reserved(&mut self, range: Range, near: Place)
         requires room { 1 ≤ self.old.room.ranges }
         requires absent { where_is range.section self.old.table.ranges ≡ Absent }
         requires new { range_of range.block self.old.table.ranges ≡ None }
@@ -475,17 +375,6 @@ impl Present {
         self.starts.insert(range.block, start);
     }
 
-    /// Ends the mapping to a block. A range is mapped to it, and both counters of the range are 0.
-    pub fn remove(&mut self, block: u64)
-        requires there { HasRange self.old.table block }
-        requires structured { structured_of block self.old.table.ranges ≡ 0 }
-        requires dynamic { dynamic_of block self.old.table.ranges ≡ 0 }
-        ensures table { self.new.table ≡ with_ranges self.old.table (without_range block self.old.table.ranges) }
-        ensures room { IsRoomKept self.old.room self.new.room }
-    {
-        self.end_mapping(block, Place::default());
-    }
-
     /// Ends the mapping to a block, whatever the counters of its range are. A range is mapped to it. It is not searched
     /// for where it stands at the place.
     pub fn end_mapping(&mut self, block: u64, near: Place)
@@ -498,169 +387,25 @@ impl Present {
         self.ranges.remove(start, near);
     }
 
-    // ---- reference counters
-
-    /// The two reference counters of the range that is mapped to a block. One is.
-    pub fn counters(&self, block: u64) -> Counters
-        requires { HasRange self.now.table block }
-        ensures structured { result.structured ≡ structured_of block self.now.table.ranges }
-        ensures dynamic { result.dynamic ≡ dynamic_of block self.now.table.ranges }
-    {
-        let (range, _) = self.mapped(block);
-        Counters {
-            structured: range.structured,
-            dynamic: range.dynamic,
-        }
-    }
-
-    /// Raises a counter of the range that is mapped to a block. One is. It is not searched for where it stands at the
-    /// place.
-    ///
-    /// # Errors
-    ///
-    /// [`Fault::CounterFull`] with item 0, exactly where the counter has its greatest value. The table is then as
-    /// before.
+    /// Changes the counters of the range that is mapped to a block as a task does (OpenACC 3.3, section 2.6.7). One is,
+    /// and a counter that rises is below the limit. It is not searched for where it stands at the place.
     #[inline(always)]
-    pub fn count_near(&mut self, counter: Counter, block: u64, near: Place) -> Result<(), Fault>
-        requires { HasRange self.old.table block }
-        ensures ok { OnOk result (self.new.table ≡ with_ranges self.old.table (changed_at block (risen counter) self.old.table.ranges)) }
-        ensures below { OnOk result (counter_of counter block self.old.table.ranges < self.old.table.counter_max) }
-        ensures full { OnErr result (counter_of counter block self.old.table.ranges ≡ self.old.table.counter_max) }
-        ensures only { IfErr result (λ fault. fault ≡ Fault.CounterFull 0) }
-        ensures unchanged { OnErr result (self.new.table ≡ self.old.table) }
+    pub fn recount(&mut self, task: &Task, block: u64, near: Place)
+        requires can { CanCount self.old.table.counter_max task.now block self.old.table.ranges }
+        ensures table { self.new.table ≡ with_ranges self.old.table (changed_at block (recounted task.now) self.old.table.ranges) }
         ensures room { IsRoomKept self.old.room self.new.room }
     {
-        if self.change_near(CounterChange::Raise(counter), block, near) {
-            return Ok(());
-        }
-        self.raise(counter, block)
-    }
-
-    /// Raises a counter of the range that is mapped to a block, as [`Present::count_near`] does, by a search.
-    #[inline(never)]
-    fn raise(&mut self, counter: Counter, block: u64) -> Result<(), Fault>
-        requires { HasRange self.old.table block }
-        ensures ok { OnOk result (self.new.table ≡ with_ranges self.old.table (changed_at block (risen counter) self.old.table.ranges)) }
-        ensures below { OnOk result (counter_of counter block self.old.table.ranges < self.old.table.counter_max) }
-        ensures full { OnErr result (counter_of counter block self.old.table.ranges ≡ self.old.table.counter_max) }
-        ensures only { IfErr result (λ fault. fault ≡ Fault.CounterFull 0) }
-        ensures unchanged { OnErr result (self.new.table ≡ self.old.table) }
-        ensures room { IsRoomKept self.old.room self.new.room }
-    {
-        let (range, place) = self.mapped(block);
-        self.count(counter, range, place)
-    }
-
-    /// Raises a counter of a mapped range, which is looked for near a place first.
-    fn count(&mut self, counter: Counter, range: Range, near: Place) -> Result<(), Fault>
-        requires { range_of range.block self.old.table.ranges ≡ Some range }
-        ensures ok { OnOk result (self.new.table ≡ with_ranges self.old.table (changed_at range.block (risen counter) self.old.table.ranges)) }
-        ensures below { OnOk result (counter_of counter range.block self.old.table.ranges < self.old.table.counter_max) }
-        ensures full { OnErr result (counter_of counter range.block self.old.table.ranges ≡ self.old.table.counter_max) }
-        ensures only { IfErr result (λ fault. fault ≡ Fault.CounterFull 0) }
-        ensures unchanged { OnErr result (self.new.table ≡ self.old.table) }
-        ensures room { IsRoomKept self.old.room self.new.room }
-    {
-        if self.counter_max <= value_of(counter, range) {
-            return Err(Fault::CounterFull { item: 0 });
-        }
-        self.change(CounterChange::Raise(counter), range, near);
-        Ok(())
-    }
-
-    /// Changes a counter of the range that is mapped to a block, if that stands at a place. A counter that rises has to be
-    /// below the limit. It answers whether it changed one, without a search.
-    #[inline(always)]
-    fn change_near(&mut self, change: CounterChange, block: u64, near: Place) -> bool
-        ensures changed { OnTrue result (self.new.table ≡ with_ranges self.old.table (changed_at block (changed_by change) self.old.table.ranges)) }
-        ensures below { OnTrue result ((range : Range) × (range_of block self.old.table.ranges ≡ Some range) × IsChangeable change self.old.table.counter_max range) }
-        ensures unchanged { result ≡ false → self.new.table ≡ self.old.table }
-        ensures room { IsRoomKept self.old.room self.new.room }
-    {
-        match self.range_at(near) {
-            Some(range) if range.block == block && is_allowed(change, self.counter_max, range) => {
-                self.change(change, range, near);
-                true
-            }
-            Some(_) | None => false,
-        }
-    }
-
-    /// Changes a counter of a mapped range, which is looked for near a place first. One that rises is below the limit.
-    #[inline]
-    fn change(&mut self, change: CounterChange, range: Range, near: Place)
-        requires there { range_of range.block self.old.table.ranges ≡ Some range }
-        requires below { IsChangeable change self.old.table.counter_max range }
-        ensures table { self.new.table ≡ with_ranges self.old.table (changed_at range.block (changed_by change) self.old.table.ranges) }
-        ensures room { IsRoomKept self.old.room self.new.room }
-    {
-        let start = range.section.start;
-        self.ranges
-            .set(start, Mapping::of(changed(change, range)), near);
-    }
-
-    /// Changes a counter of the range that is mapped to a block. One is, and the counter does not rise.
-    #[inline(never)]
-    fn lower(&mut self, change: CounterChange, block: u64)
-        requires there { HasRange self.old.table block }
-        requires free { (most : ℕ) → (range : Range) → IsChangeable change most range }
-        ensures table { self.new.table ≡ with_ranges self.old.table (changed_at block (changed_by change) self.old.table.ranges) }
-        ensures room { IsRoomKept self.old.room self.new.room }
-    {
-        let (range, place) = self.mapped(block);
-        self.change(change, range, place);
-    }
-
-    /// Lowers a counter of the range that is mapped to a block. One is. It is not searched for where it stands at the
-    /// place. Zero stays zero.
-    #[inline(always)]
-    pub fn drop_near(&mut self, counter: Counter, block: u64, near: Place)
-        requires { HasRange self.old.table block }
-        ensures table { self.new.table ≡ with_ranges self.old.table (changed_at block (fallen counter) self.old.table.ranges) }
-        ensures room { IsRoomKept self.old.room self.new.room }
-    {
-        if !self.change_near(CounterChange::Lower(counter), block, near) {
-            self.lower(CounterChange::Lower(counter), block);
-        }
-    }
-
-    /// Sets the dynamic counter of the range that is mapped to a block to 0 (OpenACC 3.3, the finalize clause). One is.
-    /// It is not searched for where it stands at the place.
-    #[inline(always)]
-    pub fn clear_near(&mut self, block: u64, near: Place)
-        requires { HasRange self.old.table block }
-        ensures table { self.new.table ≡ with_ranges self.old.table (changed_at block cleared self.old.table.ranges) }
-        ensures room { IsRoomKept self.old.room self.new.room }
-    {
-        if !self.change_near(CounterChange::Clear, block, near) {
-            self.lower(CounterChange::Clear, block);
-        }
+        let (found, place) = self.range_near(block, near);
+        let Some(range) = found else { unreachable!() };
+        let left = Mapping::of(task.recounted(range));
+        self.ranges.set(range.section.start, left, place);
     }
 
     // ---- open data regions
 
-    /// Opens a data region of a number that no open region has, with what the items of its entry counted. It takes at
-    /// most one from the room of regions.
-    ///
-    /// # Errors
-    ///
-    /// [`Fault::Memory`] alone, only where there was no room for one more region, and fewer places than a quarter were
-    /// of regions that are gone. The table is then as before, and no room has shrunk.
-    pub fn enter(&mut self, number: u64, holdings: Vec<Holding>) -> Result<(), Fault>
-        requires { region_at number self.old.table.regions ≡ None }
-        ensures ok { OnOk result (self.new.table ≡ with_regions self.old.table (with_region (record { number = number; holdings = holdings.items }) self.old.table.regions)) }
-        ensures only { IfErr result (λ fault. fault ≡ Fault.Memory) }
-        ensures needed { OnErr result (self.old.room.regions ≡ 0) }
-        ensures cleared { OnErr result ((3 * self.old.gone.regions < length self.old.table.regions) ⊎ (self.old.gone.regions ≡ 0)) }
-        ensures unchanged { OnErr result (self.new.table ≡ self.old.table) }
-        ensures taken { OnOk result (IsRegionRoomTaken self.old.room self.new.room) }
-        ensures kept { OnErr result (IsRoomKept self.old.room self.new.room) }
-    {
-        self.register.enter(number, holdings)
-    }
-
-    /// As [`Present::enter`], where there is room for one more region: it allocates nothing and is not refused. It takes
-    /// at most one from the room of regions. The holdings may stand in what [`Present::spare_holdings`] returned.
+    /// Opens a data region of a number that no open region has, with what the items of its entry counted, where there is
+    /// room for one more. It allocates nothing, and takes at most one from the room of regions. The holdings may stand in
+    /// what [`Present::spare_holdings`] returned.
     pub fn enter_reserved(&mut self, number: u64, holdings: Vec<Holding>)
         requires room { 1 ≤ self.old.room.regions }
         requires new { region_at number self.old.table.regions ≡ None }
@@ -725,7 +470,7 @@ impl Present {
         ensures ok { IfOk result (λ ranges. ranges.items ≡ self.now.table.ranges) }
         ensures only { IfErr result (λ fault. fault ≡ Fault.Memory) }
     {
-        self.ranges.copy_entries(alloc, &RangeKept)
+        self.ranges.copy_entries(alloc, &AsRange)
     }
 
     /// The open regions in a vector of their own, by rising number. Each has its number, and what each item of its

@@ -1,15 +1,15 @@
-//! One mapped range: what is kept of it, what it says of a section, and its counters.
+//! One mapped range: what is kept of it, and what it says of a section.
 
-ghost use Rattle.std.specs.Prelude.{◌≡◌, Some, List, ◌∷◌, IfSome, IfNone, ◌+◌, ◌-◌, ◌<◌, ◌≤◌, ◌==◌, ◌^◌, nat_le, IsTrue, ◌↔◌};
+ghost use Rattle.std.specs.Prelude.{◌≡◌, List, ◌∷◌, IfSome, IfNone, ◌<◌, ◌≤◌, ◌==◌, nat_le};
 ghost use Rattle.std.specs.Bool.{OnTrue};
 ghost use Rattle.std.specs.List.{list_any};
 ghost use Rattle.acc_base.specs.Section.{is_within, end_of};
-ghost use Rattle.acc_base.specs.Ranges.{where_is_apart, counter_in};
-ghost use Rattle.acc_present.specs.Present.{AreMapped, IsToldBy};
+ghost use Rattle.acc_base.specs.Ranges.{where_is_apart};
 ghost use Rattle.acc_ordered.specs.Listing.{keyed};
-ghost use Rattle.acc_present.specs.Kept.{range_in, mapping_of, changed_by, IsChangeable};
+ghost use Rattle.acc_present.specs.Present.{AreMapped, IsToldBy};
+ghost use Rattle.acc_present.specs.Kept.{range_in, mapping_of};
 
-use acc_base::{Counter, Found, Range, Section};
+use acc_base::{Found, Range, Section};
 use acc_ordered::Telling;
 
 /// Each address of the first section is one of the second's, where the first is not empty.
@@ -67,58 +67,6 @@ pub fn told_by(first: Range, section: Section, blocks: &[u64]) -> Option<Found>
     Some(Found::Partly)
 }
 
-/// One of the two counters of a range.
-#[inline]
-pub fn value_of(counter: Counter, range: Range) -> u64
-    ensures { result ≡ counter_in counter range }
-{
-    match counter {
-        Counter::Structured => range.structured,
-        Counter::Dynamic => range.dynamic,
-    }
-}
-
-/// What a call makes of a counter of a range.
-#[derive(Clone, Copy)]
-pub enum CounterChange {
-    /// It is one higher.
-    Raise(Counter),
-    /// It is one lower. Zero stays zero.
-    Lower(Counter),
-    /// The dynamic counter is zero.
-    Clear,
-}
-
-/// The range with a counter changed.
-#[inline]
-pub fn changed(change: CounterChange, mut range: Range) -> Range
-    requires { IsChangeable change (2 ^ 32) range }
-    ensures { result ≡ changed_by change range }
-{
-    match change {
-        CounterChange::Raise(Counter::Structured) => range.structured += 1,
-        CounterChange::Raise(Counter::Dynamic) => range.dynamic += 1,
-        CounterChange::Lower(Counter::Structured) => range.structured = range
-            .structured
-            .saturating_sub(1),
-        CounterChange::Lower(Counter::Dynamic) => range.dynamic = range.dynamic.saturating_sub(1),
-        CounterChange::Clear => range.dynamic = 0,
-    }
-    range
-}
-
-/// Whether a range allows a change: a counter that rises is below its limit.
-#[inline]
-pub fn is_allowed(change: CounterChange, most: u64, range: Range) -> bool
-    ensures { IsTrue result ↔ IsChangeable change most range }
-{
-    match change {
-        CounterChange::Raise(counter) => value_of(counter, range) < most,
-        CounterChange::Lower(_) => true,
-        CounterChange::Clear => true,
-    }
-}
-
 /// A mapped range without its start, under which it is kept. So it takes 32 bytes.
 #[derive(Clone, Copy)]
 pub struct Mapping {
@@ -148,7 +96,7 @@ impl Mapping {
 
     /// The range that is kept under a start.
     #[inline(always)]
-    pub fn range_at(self, start: u64) -> Range
+    pub fn with_start(self, start: u64) -> Range
         ensures { result ≡ range_in (keyed start self) }
     {
         Range {
@@ -163,11 +111,11 @@ impl Mapping {
     }
 }
 
-/// Tells of an entry the range that it keeps.
+/// Tells each range as a [`Range`].
 #[derive(Clone, Copy)]
-pub struct RangeKept;
+pub struct AsRange;
 
-impl Telling<u64, Mapping, Range> for RangeKept {
+impl Telling<u64, Mapping, Range> for AsRange {
     ghost use Rattle.acc_ordered.specs.Listing.{keyed};
     ghost use Rattle.acc_present.specs.Kept.{range_in};
 
@@ -175,6 +123,6 @@ impl Telling<u64, Mapping, Range> for RangeKept {
 
     #[inline]
     fn tell(&self, start: u64, mapping: Mapping) -> Range {
-        mapping.range_at(start)
+        mapping.with_start(start)
     }
 }

@@ -1,6 +1,6 @@
 //! The register of open data regions.
 
-ghost use Rattle.std.specs.Prelude.{◌≡◌, ◌+◌, ◌*◌, ◌<◌, ◌≤◌, ◌⊎◌, [], length, map, None, Some, IsSome, IfOk, IfErr, OnOk, OnErr, MatchOption, vec_capacity};
+ghost use Rattle.std.specs.Prelude.{◌≡◌, ◌+◌, ◌<◌, ◌≤◌, ◌⊎◌, [], length, map, None, Some, IsSome, IfOk, IfErr, OnOk, OnErr, MatchOption, vec_capacity};
 ghost use Rattle.acc_base.specs.Register.{region_at, newest_region, holdings_at, with_region, without_region};
 ghost use Rattle.acc_present.specs.Present.{AreNumbered, IsPlaceMissing, region_of};
 
@@ -146,23 +146,6 @@ impl Register {
     {
         self.regions.reserve(regions)?;
         self.spare.reserve(holdings)?;
-        Ok(())
-    }
-
-    /// Opens a region. It is refused only where there was no room for one, and fewer places than a quarter were of
-    /// regions that are gone.
-    pub fn enter(&mut self, number: u64, holdings: Vec<Holding>) -> Result<(), Fault>
-        requires { region_at number self.old.regions ≡ None }
-        ensures ok { OnOk result (self.new.regions ≡ with_region (record { number = number; holdings = holdings.items }) self.old.regions) }
-        ensures only { IfErr result (λ fault. fault ≡ Fault.Memory) }
-        ensures needed { OnErr result (self.old.room ≡ 0) }
-        ensures cleared { OnErr result ((3 * self.old.gone < length self.old.regions) ⊎ (self.old.gone ≡ 0)) }
-        ensures unchanged { OnErr result (self.new.regions ≡ self.old.regions) }
-        ensures room { self.old.room ≤ self.new.room + 1 }
-        ensures room_holdings { self.old.holdings ≤ self.new.holdings }
-    {
-        self.regions.reserve(1)?;
-        self.enter_reserved(number, holdings);
         Ok(())
     }
 

@@ -103,9 +103,17 @@ pub fn make_room(bytes: &mut Vec<u8>, count: usize)
     ensures { bytes.new.items ≡ bytes.old.items }
 {
     if bytes.capacity() - bytes.len() < count {
-        let all = bytes.len().saturating_add(count);
-        let _ = bytes.reserve(all.saturating_mul(3).min(all.saturating_add(AHEAD)));
+        grow(bytes, count);
     }
+}
+
+/// The same where there is none. It is apart, so that what puts a short text is short enough to be inlined.
+#[inline(never)]
+fn grow(bytes: &mut Vec<u8>, count: usize)
+    ensures { bytes.new.items ≡ bytes.old.items }
+{
+    let all = bytes.len().saturating_add(count);
+    let _ = bytes.reserve(all.saturating_mul(3).min(all.saturating_add(AHEAD)));
 }
 
 impl Write for Page {

@@ -5,10 +5,10 @@ ghost use Rattle.std.specs.Prelude.{◌<◌, ◌^◌};
 
 use crate::tests::same;
 use crate::tests::turns::section;
-use acc_base::{Aim, Fault, Found, Transfer};
+use acc_base::{Fault, Found, Range, Transfer};
 use acc_dev::Device;
 use acc_placement::Holes;
-use acc_present::{Attached, Left, Present, Queues};
+use acc_present::{Attached, Left, Place, Present, Queues};
 use std::process::Abort;
 
 /// Takes all of 64 bytes, in ranges of 16, and more.
@@ -45,8 +45,15 @@ fn present(rt: &(impl Abort + AllocGlobal)) -> Result<Present, Fault> {
     let array = section((0x1000, 16));
     let mut present = Present::new(rt.alloc(), 2);
     assert!(rt; present.find(array) == Found::Absent);
-    present.add(array, 1)?;
-    present.enter(1, Vec::new(rt.alloc()))?;
+    present.reserve(1, 1, 0)?;
+    let range = Range {
+        section: array,
+        block: 1,
+        structured: 0,
+        dynamic: 0,
+    };
+    present.add_reserved(range, Place::default());
+    present.enter_reserved(1, Vec::new(rt.alloc()));
     Ok(present)
 }
 
@@ -64,26 +71,21 @@ fn check_present(rt: &(impl Abort + AllocGlobal)) -> Result<(), Fault> {
 }
 
 /// Attaches a pointer of block 1 twice, and detaches it at once.
-fn check_pointer(rt: &(impl Abort + AllocGlobal)) {
+fn check_pointer(rt: &(impl Abort + AllocGlobal)) -> Result<(), Fault> {
     let mut attached = Attached::new(rt.alloc(), 2);
-    let (pointer, block, target) = (0x1008, 1, 0x1_0000_0040);
-    let new = Aim::New {
-        pointer,
-        block,
-        target,
-    };
-    let found = [
-        attached.attach(block, pointer, target, 0x2000),
-        attached.attach(block, pointer, target, target),
-    ];
-    let wanted = [Ok(new), Ok(Aim::Again { pointer, block })];
+    attached.reserve(1)?;
+    let (block, pointer) = (1, 0x1008);
+    attached.aim_reserved(block, pointer);
+    attached.aim_again(block, pointer);
+    let found = attached.count(block, pointer);
     let left = attached.detach_now(block, pointer);
     same(
         rt,
         (found, left),
-        (wanted, Left::Zero),
+        (2, Left::Zero),
         "a pointer that is detached at once",
     );
+    Ok(())
 }
 
 fn check_queues(rt: &(impl Abort + AllocGlobal)) -> Result<(), Fault> {
@@ -111,6 +113,6 @@ fn calls_of_each_layer_return_what_they_should(rt: HostRuntime) -> Result<(), Fa
     check_first_block(&rt, false, 0xa5)?;
     check_first_block(&rt, true, 0)?;
     check_present(&rt)?;
-    check_pointer(&rt);
+    check_pointer(&rt)?;
     check_queues(&rt)
 }

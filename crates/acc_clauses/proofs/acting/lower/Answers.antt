@@ -9,4 +9,4 @@ pub returns-then-ended : goal.returns-then-ended
 returns-then-ended c = record { acted = subst (λ (b : Bool). IsActedBy c.args.task.now (Dropped c.args.block b) (beside c.args.environment.now c.args.host.now) (beside c.end.new.environment c.end.new.host)) (sym c.if-ended.true) c.end.ensures.acted }
 
 pub returns-else-ended : goal.returns-else-ended
-returns-else-ended c = grind (arith, dropped_acts c.args.task.now c.args.block (beside c.args.environment.now c.args.host.now) c.recount.new.present c.recount.ensures.table c.recount.ensures.room c.requires.marked)
+returns-else-ended c = grind (arith, dropped_acts c.args.task.now c.args.block (beside c.args.environment.now c.args.host.now) c.recount.new.self c.recount.ensures.table c.recount.ensures.room c.requires.marked)

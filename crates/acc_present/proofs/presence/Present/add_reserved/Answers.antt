@@ -11,7 +11,7 @@ use Rattle.acc_present.specs.declared.ranges.Mapping.{Mapping}
 use Rattle.acc_present.specs.Present.{PresentState, IsWithinLimit, with_ranges}
 use Rattle.acc_present.specs.Kept.{start_in, ranges_in, mapping_of}
 use Rattle.acc_present.proofs.Mapping.{absent_start, start_new, with_entry-ranges, mapped_now}
-use Rattle.acc_present.proofs.presence.Present.put.Goals as goal
+use Rattle.acc_present.proofs.presence.Present.add_reserved.Goals as goal
 
 pub insert-requires-clause-new : goal.insert-requires-clause-new
 insert-requires-clause-new c = absent_start c.args.range c.self.inside.ranges.entries c.self.invariant.2.mapped (subst (λ (rs : List Range). where_is c.args.range.section rs ≡ Absent) (sym (ap (λ (p : PresentState). p.table.ranges) c.self.view_is)) c.requires.absent)

@@ -97,8 +97,8 @@ uint32_t lw_report(lw_table *table, char *buffer, size_t size, uint64_t *len, lw
 
 /* ---- Tables ---- */
 
-/* The first version whose limits begin with their size, and how many bytes they had in it. */
-enum { FIRST_VERSION = 2000, FIRST_SIZE = offsetof(lw_limits, devices) + sizeof(uint64_t) };
+/* How many bytes the limits had in the first version of these two numbers. */
+enum { FIRST_SIZE = offsetof(lw_limits, devices) + sizeof(uint64_t) };
 
 /* A program that was compiled with the header of 0.1.0 calls it. The limits that it writes are of no version. */
 void lw_limits_default(void *limits);
@@ -107,10 +107,10 @@ void lw_limits_default(void *limits)
     memset(limits, 0, offsetof(lw_limits, host));
 }
 
-/* Whether the library knows limits of this version and size. */
+/* Whether the library knows limits of this version, whose first two numbers are its own, and of this size. */
 static int is_known(const lw_limits *limits)
 {
-    return limits->version >= FIRST_VERSION && limits->size >= FIRST_SIZE && limits->size <= sizeof *limits;
+    return limits->version / 1000 == LW_VERSION / 1000 && limits->size >= FIRST_SIZE && limits->size <= sizeof *limits;
 }
 
 static uint32_t begin(lw_table *table, const limit_fields *fields, lw_fault *fault)

@@ -1618,7 +1618,8 @@ static void check_versions(void)
         uint32_t size, version;
     } wrong_ones[] = {
         {0, 0}, {whole.size, 0}, {whole.size, 1999}, {0, LW_VERSION}, {whole.size - 8, LW_VERSION},
-        {whole.size + 8, LW_VERSION}, {UINT32_MAX, UINT32_MAX},
+        {whole.size + 8, LW_VERSION}, {UINT32_MAX, UINT32_MAX}, {whole.size, 3000}, {whole.size, 3007},
+        {whole.size - 8, 3000}, {whole.size, 1002005}, {whole.size, UINT32_MAX},
     };
     char text[LW_FAULT_TEXT_SIZE];
 

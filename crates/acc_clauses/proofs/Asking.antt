@@ -135,12 +135,13 @@ pub asked_left : (d : Directive) (g : Register) (holdings : List Holding) → fe
 asked_left d g holdings few left = rw (few, left) refl
 
 -- the plan of these tasks is the directive's, where no transfer that it makes is of a block that is lent
-pub planned : (l : Limits) (d : Directive) (s : State) (holdings : List Holding) (xs : List Acted) (r : Result ⊤ Fault) → asked_of d s.register ≡ Ok (tasks_with d holdings) → tasks_in xs ≡ tasks_with d holdings → length (tasks_with d holdings) ≤ 64
-    → queue_named (queue_in d) ≡ Ok tt → judge_all l 0 (tasks_with d holdings) s ≡ Ok (dids_in xs) → r ≡ none_lent (transfers_in d s.records.queues) s.records.loans → OnOk r (IsPlanOf l d s (record { tasks = tasks_in xs; dids = dids_in xs }))
-planned l d s holdings xs (Err fault) asked same few known judged free = tt
-planned l d s holdings xs (Ok x) asked same few known judged free = record {
+pub planned : (l : Limits) (d : Directive) (s : State) (holdings : List Holding) (xs : List Acted) (q : Option ℕ) (r : Result ⊤ Fault) → q ≡ queue_in d → asked_of d s.register ≡ Ok (tasks_with d holdings) → tasks_in xs ≡ tasks_with d holdings → length (tasks_with d holdings) ≤ 64
+    → queue_named (queue_in d) ≡ Ok tt → judge_all l 0 (tasks_with d holdings) s ≡ Ok (dids_in xs) → r ≡ none_lent (transfers_in d s.records.queues) s.records.loans → OnOk r (IsPlanOf l d s (record { tasks = tasks_in xs; dids = dids_in xs; queue = q }))
+planned l d s holdings xs q (Err fault) queued asked same few known judged free = tt
+planned l d s holdings xs q (Ok x) queued asked same few known judged free = record {
   asked = rw same asked;
   few = rw same few;
+  queued = queued;
   known = known;
   judged = rw same judged;
   free = sym free;

@@ -1,5 +1,5 @@
 -- What contracts see of a plan, and what it rests on.
-use Rattle.std.specs.Prelude.{ℕ, ◌≡◌, ◌≤◌, Bool, List, [], ◌∷◌, ◌++◌, length, reverse, Result, Ok}
+use Rattle.std.specs.Prelude.{ℕ, ◌≡◌, ◌≤◌, Bool, List, [], ◌∷◌, ◌++◌, length, reverse, Option, Result, Ok}
 use Rattle.acc_clauses.specs.Words.{Directive, Holding, Task, Did, Fault, Transfer}
 use Rattle.acc_base.specs.declared.directives.Directive.TheVariants as directives
 use Rattle.acc_base.specs.declared.mappings.Counter.TheVariants.{Structured}
@@ -17,10 +17,11 @@ use Rattle.acc_base.specs.Acting.{judge_task, judge_all, after}
 use Rattle.acc_clauses.specs.declared.acted.Acted.{Acted}
 use Rattle.acc_clauses.specs.Overlays.{state_after}
 
--- the tasks of a directive in the order in which they act, and what each does
+-- the tasks of a directive in the order in which they act, and what each does; and the queue that the directive names
 pub record Planned : Type 0 where
   pub tasks : List Task
   pub dids : List Did
+  pub queue : Option ℕ
 
 -- what a directive asks, in the order in which it acts; too many items are refused before all else
 abbrev pub asked_of : Directive → Register → Result (List Task) Fault
@@ -32,10 +33,11 @@ in_written_order (directives.Exit number) dids = reverse dids
 in_written_order _ dids = dids
 
 -- the plan is what judging the directive in this state found. The directive asks at most 64 tasks, and the plan has
--- what they do. There is the queue that it names. No transfer that it makes is of a block that is lent
+-- what they do, and the queue that it names, which is there. No transfer that it makes is of a block that is lent
 pub record IsPlanOf (l : Limits) (d : Directive) (s : State) (p : Planned) : Type 0 where
   pub asked : asked_of d s.register ≡ Ok p.tasks
   pub few : length p.tasks ≤ 64
+  pub queued : p.queue ≡ queue_in d
   pub known : queue_named (queue_in d) ≡ Ok tt
   pub judged : judge_all l 0 p.tasks s ≡ Ok p.dids
   pub free : none_lent (transfers_in d s.records.queues) s.records.loans ≡ Ok tt

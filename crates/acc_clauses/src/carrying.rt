@@ -17,7 +17,7 @@ use crate::effects::puts_in;
 use crate::finishing::finish;
 use crate::lending::{check_lease, plan_loan};
 use crate::notes::count_holdings;
-use crate::planning::{self, queue_in, regions_entered};
+use crate::planning::{self, regions_entered};
 use crate::plans::Plan;
 use crate::running::act_all;
 use crate::shared::Shared;
@@ -71,7 +71,7 @@ impl DeviceData {
         // What was made for births that never came is given up before all else. Bytes for births are made last, so that
         // none stay where other room is refused.
         self.give_up_births();
-        match queue_in(directive) {
+        match plan.queue() {
             Some(q) => self.reserve_puts(q, puts_in(q, acts))?,
             None => {}
         }

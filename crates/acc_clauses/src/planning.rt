@@ -169,7 +169,7 @@ fn holdings_left<'a>(view: &'a View<'_>, directive: &Directive) -> Result<&'a [H
 }
 
 /// The queue that a directive names. Without one its transfers are made at once, and a wait is for all queues.
-pub(crate) fn queue_in(directive: &Directive) -> Option<u64>
+fn queue_in(directive: &Directive) -> Option<u64>
     ensures { result ≡ queue_in directive.now }
 {
     match directive {
@@ -222,7 +222,9 @@ pub(crate) fn plan(view: &View<'_>, directive: &Directive, plan: &mut Plan) -> R
     ensures planned { OnOk result (IsPlanOf view.now.limits directive.now view.now.state plan.new) }
 {
     let holdings = holdings_left(view, directive)?;
-    check_queue(queue_in(directive))?;
+    let queue = queue_in(directive);
+    check_queue(queue)?;
     judge_all(view, directive, holdings, &mut plan.draft)?;
+    plan.queue = queue;
     transfers_free(view, directive)
 }

@@ -1,6 +1,6 @@
 //! The plan of a directive.
 
-ghost use Rattle.std.specs.Prelude.{◌≡◌, ◌≤◌, [], length};
+ghost use Rattle.std.specs.Prelude.{◌≡◌, ◌≤◌, [], length, None};
 ghost use Rattle.acc_clauses.specs.Overlays.{tasks_in, dids_in};
 ghost use Rattle.acc_clauses.specs.Acts.{lens_born};
 
@@ -14,12 +14,14 @@ use std::marker::Model;
 /// used again costs nothing to make, and finds again what it found.
 pub struct Plan {
     pub(crate) draft: Draft,
+    // The queue that the directive names.
+    pub(crate) queue: Option<u64>,
 }
 
 // By hand, so that a crate above does not prove the drops of its parts again.
 impl Drop for Plan {
     fn drop(self) {
-        let Plan { draft: _ } = self;
+        let Plan { draft: _, queue: _ } = self;
     }
 }
 
@@ -29,16 +31,17 @@ impl Model for Plan {
 
     ghost Value = { Planned };
 
-    ghost view = { λ p. record { tasks = tasks_in p.draft; dids = dids_in p.draft } };
+    ghost view = { λ p. record { tasks = tasks_in p.draft; dids = dids_in p.draft; queue = p.queue } };
 }
 
 impl Plan {
     /// A plan of nothing, to be filled by [`crate::DeviceData::plan`]. It allocates nothing.
     pub fn new() -> Self
-        ensures { result ≡ record { tasks = []; dids = [] } }
+        ensures { result ≡ record { tasks = []; dids = []; queue = None } }
     {
         Plan {
             draft: Draft::new(),
+            queue: None,
         }
     }
 
@@ -50,6 +53,14 @@ impl Plan {
         ensures few { length result.now ≤ 64 }
     {
         self.draft.acts()
+    }
+
+    /// The queue that the directive names.
+    #[inline(always)]
+    pub(crate) fn queue(&self) -> Option<u64>
+        ensures { result ≡ self.now.queue }
+    {
+        self.queue
     }
 
     /// The lengths of the blocks that its tasks give birth to, one after the other.

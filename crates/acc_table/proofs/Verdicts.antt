@@ -1,6 +1,6 @@
 -- A directive that was judged becomes its event, and a call its verdict.
 use Rattle.std.proofs.Common.{ℕ, ◌≡◌, ◌+◌, ◌-◌, ◌<◌, ◌≤◌, Bool, true, false, arith, refl, sym, ◌∙◌, ap, subst, length-append, length-drop, List, [], ◌∷◌, ◌++◌, length, Option, Some, None, Result, Ok, Err}
-use Rattle.std.specs.Prelude.{⊤, not, nat_le, take, drop, is_none, option_map, unwrap_or, ◌&&◌, IfOk, IfErr, OnErr, OnOk}
+use Rattle.std.specs.Prelude.{⊤, not, nat_le, take, drop, option_map, ◌&&◌, IfOk, IfErr, OnErr, OnOk}
 use Rattle.std.proofs.lemmas.List.{take_all, length-take-le}
 use Rattle.std.proofs.lemmas.Bool.Decides.{nat_tests}
 use Rattle.acc_clauses.specs.Words.{Section, Directive, Call, Event, Did, Transfer, Fault}
@@ -37,29 +37,29 @@ use Rattle.acc_table.specs.Devices.{whole_with, whole_of}
 use Rattle.acc_table.specs.Tables.{world_of}
 use Rattle.acc_table.proofs.DeviceLists.{set_own}
 use Rattle.acc_table.proofs.InUse.{with_device, world_in, AreDevicesOf, IsUsed, number_used, in_view, seen_in, event_made, unchanged}
-use Rattle.acc_table.specs.Making.{is_idle, number_told, event_told, reply_told, is_loan, admitted, write_admitted, planned_verdict, MayBeToldOf, IsMadeInto, IsCommitted, IsAsBefore}
+use Rattle.acc_table.specs.Making.{number_told, event_told, reply_told, is_loan, admitted, write_admitted, planned_verdict, MayBeToldOf, IsMadeInto, IsCommitted, IsAsBefore}
 
 -- ---- the event
 
 -- where there is something to do, the verdict on a directive is the event with the number
-pub told : (n : ℕ) (d : Directive) (s : State) (dids : List Did) → is_idle d s ≡ false → verdict_of n d s dids ≡ Makes (event_told n d (number_told d s) (in_written_order d dids))
-told n (Step device queue) s dids e = go (head_of queue s.records.queues) e
+pub told : (n : ℕ) (d : Directive) (s : State) (dids : List Did) (number : ℕ) → number_told d s ≡ Some number → verdict_of n d s dids ≡ Makes (event_told n d number (in_written_order d dids))
+told n (Step device queue) s dids number e = go (head_of queue s.records.queues) e
   where
-    go : (o : Option Transfer) → is_none (option_map (λ (t : Transfer). t.block) o) ≡ false → step_verdict n queue o ≡ Makes (Stepped n queue (unwrap_or (option_map (λ (t : Transfer). t.block) o) 0))
+    go : (o : Option Transfer) → option_map (λ (t : Transfer). t.block) o ≡ Some number → step_verdict n queue o ≡ Makes (Stepped n queue number)
     go None x = cc
-    go (Some t) x = refl
-told n _ s dids e = refl
+    go (Some t) x = cc
+told n _ s dids number e = cc
 
 -- its reply is the one with the number
 pub replied : (k : ℕ) (d : Directive) (n : ℕ) (did : List Did) (s : State) → reply_told d n ≡ reply_of (event_told k d n did) s
 replied k (Enter device items) n did s = refl
 replied k _ n did s = refl
 
--- where the directive is the step of an empty queue, there is nothing to do
-pub told_idle : (n : ℕ) (d : Directive) (s : State) (dids : List Did) → is_idle d s ≡ true → verdict_of n d s dids ≡ Idle
+-- where it has no number, there is nothing to do
+pub told_idle : (n : ℕ) (d : Directive) (s : State) (dids : List Did) → number_told d s ≡ None → verdict_of n d s dids ≡ Idle
 told_idle n (Step device queue) s dids e = go (head_of queue s.records.queues) e
   where
-    go : (o : Option Transfer) → is_none (option_map (λ (t : Transfer). t.block) o) ≡ true → step_verdict n queue o ≡ Idle
+    go : (o : Option Transfer) → option_map (λ (t : Transfer). t.block) o ≡ None → step_verdict n queue o ≡ Idle
     go None x = refl
     go (Some t) x = cc
 told_idle n _ s dids e = cc
@@ -229,11 +229,11 @@ told_no_loan k (Enter device items) n did = refl
 told_no_loan k _ n did = refl
 
 verdict_no_loan : (n : ℕ) (d : Directive) (s : State) (dids : List Did) (e : Event) → verdict_of n d s dids ≡ Makes e → is_loan e ≡ false
-verdict_no_loan n d s dids e h = go (is_idle d s) refl
+verdict_no_loan n d s dids e h = go (number_told d s) refl
   where
-    go : (b : Bool) → is_idle d s ≡ b → is_loan e ≡ false
-    go true idle = let none : verdict_of n d s dids ≡ Idle = told_idle n d s dids idle in cc
-    go false busy = no_loan_made e _ (sym (told n d s dids busy) ∙ h) (told_no_loan n d (number_told d s) (in_written_order d dids))
+    go : (o : Option ℕ) → number_told d s ≡ o → is_loan e ≡ false
+    go None idle = let none : verdict_of n d s dids ≡ Idle = told_idle n d s dids idle in cc
+    go (Some number) is = no_loan_made e _ (sym (told n d s dids number is) ∙ h) (told_no_loan n d number (in_written_order d dids))
 
 -- so is the event that a directive makes
 pub directive_no_loan : (w : World) (d : Directive) (e : Event) → judge w (Do d) ≡ Ok (Makes e) → is_loan e ≡ false
@@ -263,7 +263,7 @@ judged_refused w call fault h = rw h refl
 
 -- the device of the event of a directive
 pub device_told : (n : ℕ) (d : Directive) (s : State) (dids : List Did) (e : Event) → verdict_of n d s dids ≡ Makes e → device_in e ≡ n
-device_told n d s dids e h = go (is_idle d s) refl
+device_told n d s dids e h = go (number_told d s) refl
   where
     same : (f : Event) → ◌≡◌ {A = Verdict} (Makes f) (Makes e) → device_in f ≡ n → device_in e ≡ n
     same f p is = let one : f ≡ e = cc in subst (λ x. device_in x ≡ n) one is
@@ -272,9 +272,9 @@ device_told n d s dids e h = go (is_idle d s) refl
     on (Enter device items) k did = refl
     on _ k did = refl
 
-    go : (b : Bool) → is_idle d s ≡ b → device_in e ≡ n
-    go true idle = let none : verdict_of n d s dids ≡ Idle = told_idle n d s dids idle in cc
-    go false busy = same _ (sym (told n d s dids busy) ∙ h) (on d (number_told d s) (in_written_order d dids))
+    go : (o : Option ℕ) → number_told d s ≡ o → device_in e ≡ n
+    go None idle = let none : verdict_of n d s dids ≡ Idle = told_idle n d s dids idle in cc
+    go (Some number) is = same _ (sym (told n d s dids number is) ∙ h) (on d number (in_written_order d dids))
 
 module _ {l : Limits} {base : Base} {x : Devices} {trace : List Event} {w : World} (t : AreDevicesOf l base x trace w) {n : ℕ} {y : DeviceContents} (u : IsUsed x n y) where
   -- a call that was judged so and made its event is done

@@ -1,5 +1,5 @@
 -- How a directive that was judged becomes an event, and what is refused before its items are judged.
-use Rattle.std.specs.Prelude.{ℕ, ◌≡◌, ◌++◌, ◌∷◌, [], Bool, true, false, List, length, is_none, option_map, unwrap_or, Result, Ok, Err, MatchResult, ⊤}
+use Rattle.std.specs.Prelude.{ℕ, ◌≡◌, ◌++◌, ◌∷◌, [], Bool, true, false, List, length, Option, Some, option_map, Result, Ok, Err, MatchResult, ⊤}
 use Rattle.acc_clauses.specs.Words.{Section, Directive, Loan, Did, Event, Fault}
 use Rattle.acc_base.specs.declared.calls.Call.TheVariants.{Lend, Gather}
 use Rattle.acc_base.specs.declared.directives.Directive.TheVariants.{Enter, Exit, EnterData, ExitData, Update, Wait, Step}
@@ -24,17 +24,13 @@ use Rattle.acc_table.specs.declared.making.Kind.TheVariants as kinds
 use Rattle.acc_table.specs.declared.calls.Reply.TheVariants as replies
 use Rattle.acc_table.specs.Calls.{reply_of, MayWantMemory}
 
--- the directive is the step of an empty queue
-abbrev pub is_idle : Directive → State → Bool
-is_idle (Step device queue) s = is_none (option_map (λ t. t.block) (head_of queue s.records.queues))
-is_idle d s = false
-
--- the number that the event of a directive has from the state before it, and 0 where it has none
-abbrev pub number_told : Directive → State → ℕ
-number_told (Enter device items) s = s.register.next
-number_told (Wait device queue) s = length (steps_of queue s.records.queues)
-number_told (Step device queue) s = unwrap_or (option_map (λ t. t.block) (head_of queue s.records.queues)) 0
-number_told d s = 0
+-- the number that the event of a directive has from the state before it, and 0 where it has none. There is no event of
+-- the step of an empty queue
+abbrev pub number_told : Directive → State → Option ℕ
+number_told (Enter device items) s = Some s.register.next
+number_told (Wait device queue) s = Some (length (steps_of queue s.records.queues))
+number_told (Step device queue) s = option_map (λ t. t.block) (head_of queue s.records.queues)
+number_told d s = Some 0
 
 -- the kind of a directive
 abbrev pub kind_of : Directive → Kind
@@ -46,7 +42,7 @@ kind_of (Update device items if_present queue) = kinds.Update
 kind_of (Wait device queue) = kinds.Wait
 kind_of (Step device queue) = kinds.Step
 
--- the event of a directive on a device, not idle, with this number, and whose items did this, in written order
+-- the event of a directive on a device, with this number, and whose items did this, in written order
 abbrev pub event_told : ℕ → Directive → ℕ → List Did → Event
 event_told d (Enter device items) n did = events.Entered d n items did
 event_told d (Exit number) n did = events.Left d number did

@@ -1,6 +1,6 @@
 //! How a judged directive becomes an event. All growths come before the first change.
 
-ghost use Rattle.std.specs.Prelude.{◌≡◌, ◌+◌, ◌<◌, ◌≤◌, ◌^◌, ◌++◌, ◌∷◌, [], false, length, Ok, vec_len, vec_capacity, is_none, IsOk, IfOk, IfErr, OnOk, OnErr, IfSome};
+ghost use Rattle.std.specs.Prelude.{◌≡◌, ◌+◌, ◌<◌, ◌≤◌, ◌^◌, ◌++◌, ◌∷◌, [], false, length, Ok, vec_len, vec_capacity, option_map, IsOk, IfOk, IfErr, OnOk, OnErr, IfSome};
 ghost use Rattle.acc_base.specs.declared.directives.Directive.{Directive};
 ghost use Rattle.acc_base.specs.declared.faults.Fault.TheVariants.{Memory};
 ghost use Rattle.acc_base.specs.Limits.{recorded};
@@ -11,35 +11,25 @@ ghost use Rattle.acc_clauses.specs.Overlays.{dids_in};
 ghost use Rattle.acc_clauses.specs.Stored.{AreContentsSound};
 ghost use Rattle.acc_clauses.specs.Devices.{SharedContents, HaveRisen, contents_with};
 ghost use Rattle.acc_clauses.specs.Planned.{IsPlanOf, in_written_order, state_by};
-ghost use Rattle.acc_table.specs.Making.{is_idle, kind_of, number_told, event_told, reply_told, apart_of, planned_verdict, MayBeToldOf, IsCommitted, IsAsBefore};
+ghost use Rattle.acc_table.specs.Making.{kind_of, number_told, event_told, reply_told, apart_of, planned_verdict, MayBeToldOf, IsCommitted, IsAsBefore};
 
 use crate::calls::Reply;
 use acc_base::{Did, Directive, Event, Fault, List};
 use acc_clauses::{Acted, DeviceData, Plan, Shared};
 use std::alloc::{AllocError, Global};
 
-/// Whether the directive is the step of an empty queue, with which there is nothing to do.
-fn is_idle(device: &DeviceData, shared: &Shared, directive: &Directive) -> bool
-    requires { length shared.now.host ≡ device.now.limits.host }
-    ensures { result ≡ is_idle directive.now (contents_with device.now shared.now).state }
-{
-    match directive {
-        Directive::Step { queue, .. } => device.view(shared).head_block(*queue).is_none(),
-        _ => false,
-    }
-}
-
 /// The number that the event of a directive has from the state before it. It is that of the region that is entered, of
-/// the transfers that a wait makes, or of the block that a step's transfer names. It is 0 for all others.
-fn number_told(device: &DeviceData, shared: &Shared, directive: &Directive) -> u64
+/// the transfers that a wait makes, or of the block that a step's transfer names. It is 0 for all others. `None` where
+/// there is nothing to do: in the step of an empty queue.
+fn number_told(device: &DeviceData, shared: &Shared, directive: &Directive) -> Option<u64>
     requires { length shared.now.host ≡ device.now.limits.host }
     ensures { result ≡ number_told directive.now (contents_with device.now shared.now).state }
 {
     match directive {
-        Directive::Enter { .. } => shared.next_region(),
-        Directive::Wait { queue, .. } => device.view(shared).waiting(*queue),
-        Directive::Step { queue, .. } => device.view(shared).head_block(*queue).unwrap_or(0),
-        _ => 0,
+        Directive::Enter { .. } => Some(shared.next_region()),
+        Directive::Wait { queue, .. } => Some(device.view(shared).waiting(*queue)),
+        Directive::Step { queue, .. } => device.view(shared).head_block(*queue),
+        _ => Some(0),
     }
 }
 
@@ -210,42 +200,6 @@ fn make_room(
     Ok(apart)
 }
 
-/// Judges a directive, and makes room for it and its event. It returns of what the items will do what stands in memory
-/// of its own, or `None` where there is nothing to do. Nothing but room changes.
-///
-/// # Errors
-///
-/// What the device refuses to plan, or [`Fault::Memory`] where there is no such refusal.
-#[inline(always)]
-fn prepare(
-    device: &mut DeviceData,
-    shared: &Shared,
-    trace: &mut Vec<Event>,
-    plan: &mut Plan,
-    directive: &Directive,
-) -> Result<Option<Vec<Did>>, Fault>
-    requires items { few_items directive.now ≡ Ok tt }
-    requires own { own_device device.old.limits.number (device_named directive.now) ≡ Ok tt }
-    requires sound { AreContentsSound (contents_with device.old shared.now) }
-    requires births { device.old.device.records.births + 64 ≤ 2 ^ 48 }
-    ensures limits { device.new.limits ≡ device.old.limits }
-    ensures device { device.new.device ≡ device.old.device }
-    ensures trace { trace.new.items ≡ trace.old.items }
-    ensures judged { let c = contents_with device.old shared.now in OnOk result (plan_of c.limits directive.now c.state ≡ Ok (planned_verdict directive.now plan.new c)) }
-    ensures planned { let c = contents_with device.new shared.now in OnOk result (IsPlanOf c.limits directive.now c.state plan.new) }
-    ensures idle { IfOk result (λ apart. is_none apart ≡ is_idle directive.now (contents_with device.old shared.now).state) }
-    ensures apart { IfOk result (λ told. IfSome told (λ apart. apart.items ≡ apart_of (in_written_order directive.now plan.new.dids))) }
-    ensures room { IfOk result (λ told. IfSome told (λ _. HasPlanRoom directive.now plan.new device.new.room)) }
-    ensures place { IfOk result (λ told. IfSome told (λ _. vec_len trace.new < vec_capacity trace.new)) }
-    ensures refused { let c = contents_with device.old shared.now in IfErr result (MayBeToldOf (plan_of c.limits directive.now c.state)) }
-{
-    device.plan(shared, directive, plan)?;
-    if is_idle(device, shared, directive) {
-        return Ok(None);
-    }
-    Ok(Some(make_room(device, trace, directive, plan)?))
-}
-
 /// Judges a directive, makes room for it and its event, and does it. It returns the number of the event, and of what
 /// the items did what stands in memory of its own; or `None` where there is nothing to do. The event is left to be
 /// stored. All this is behind a reference, so that the directive is moved but once: into its event.
@@ -268,8 +222,7 @@ fn enact(
     requires regions { shared.old.numbers.region < 2 ^ 48 }
     ensures judged { let c = contents_with device.old shared.old in OnOk result (plan_of c.limits directive.now c.state ≡ Ok (planned_verdict directive.now plan.new c)) }
     ensures planned { let c = contents_with device.old shared.old in OnOk result (IsPlanOf c.limits directive.now c.state plan.new) }
-    ensures idle { IfOk result (λ told. is_none told ≡ is_idle directive.now (contents_with device.old shared.old).state) }
-    ensures number { IfOk result (λ told. IfSome told (λ t. t.0 ≡ number_told directive.now (contents_with device.old shared.old).state)) }
+    ensures number { IfOk result (λ told. option_map (λ t. t.0) told ≡ number_told directive.now (contents_with device.old shared.old).state) }
     ensures apart { IfOk result (λ told. IfSome told (λ t. t.1.items ≡ apart_of (in_written_order directive.now plan.new.dids))) }
     ensures place { IfOk result (λ told. IfSome told (λ _. vec_len trace.new < vec_capacity trace.new)) }
     ensures limits { device.new.limits ≡ device.old.limits }
@@ -280,10 +233,11 @@ fn enact(
     ensures sound { AreContentsSound (contents_with device.new shared.new) }
     ensures risen { HaveRisen shared.old shared.new }
 {
-    let Some(apart) = prepare(device, shared, trace, plan, directive)? else {
+    device.plan(shared, directive, plan)?;
+    let Some(number) = number_told(device, shared, directive) else {
         return Ok(None);
     };
-    let number = number_told(device, shared, directive);
+    let apart = make_room(device, trace, directive, plan)?;
     device.commit(shared, directive, plan);
     Ok(Some((number, apart)))
 }

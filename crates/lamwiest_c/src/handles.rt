@@ -68,11 +68,18 @@ impl Handle {
 }
 
 impl Drop for Handle {
+    // Each call drops an empty handle where it puts the table back.
+    #[inline(always)]
     fn drop(self) {
         if let Some(parts) = self.take() {
-            drop(parts.into_box());
+            end(parts);
         }
     }
+}
+
+#[inline(never)]
+fn end(parts: BoxParts<TableWithLeases, Global>) {
+    drop(parts.into_box());
 }
 
 /// Takes out what a handle has, and leaves it with nothing.

@@ -40,14 +40,14 @@ returns-clause-room c =
     let room = c.reserve_parts.new.self.room in
     let acts = c.acts-acts.result.now in
     let planned : IsPlanOf k.limits d k.state p = c.requires.planned.1.1 in
-    let puts : HasPutRoom (λ q. puts_in q p.tasks p.dids) room = elim c.match-queue_in.branch [
+    let puts : HasPutRoom (λ q. puts_in q p.tasks p.dids) room = elim c.match-queue.branch [
       | in-Some+in_ok-reserve_puts-in-Some w ↦
           let q = w.in-Some.q in
           let count : w.puts_in.result ≡ puts_in q p.tasks p.dids = w.puts_in.ensures.value ∙ ap (λ ts. puts_in q ts (dids_in acts)) c.acts-acts.ensures.tasks ∙ ap (λ ds. puts_in q p.tasks ds) c.acts-acts.ensures.dids in
           let kept : room.puts ≡ w.reserve_puts.new.self.room.puts = c.reserve_parts.ensures.puts ∙ ap (λ (x : DeviceContents). x.room.puts) w.self-is in
-          one_room d k p q room c.requires.planned.1.0 planned (sym c.queue_in.ensures ∙ w.in-Some.is)
+          one_room d k p q room c.requires.planned.1.0 planned (sym planned.queued ∙ sym c.queue.ensures ∙ w.in-Some.is)
           (subst (λ ps. puts_in q p.tasks p.dids ≤ spare_at q ps) (sym kept) (subst (λ n. n ≤ spare_at q w.reserve_puts.new.self.room.puts) count w.in_ok-reserve_puts-in-Some.ensures.room))
-      | in-None w ↦ none_room d k p room c.requires.planned.1.0 planned (sym c.queue_in.ensures ∙ w.in-None.is)
+      | in-None w ↦ none_room d k p room c.requires.planned.1.0 planned (sym planned.queued ∙ sym c.queue.ensures ∙ w.in-None.is)
     ] in
     let count : c.count_holdings-holdings.result ≡ length (holdings_by p.tasks p.dids) = c.count_holdings-holdings.ensures ∙ ap (λ ts. length (holdings_by ts (dids_in acts))) c.acts-acts.ensures.tasks ∙ ap (λ ds. length (holdings_by p.tasks ds)) c.acts-acts.ensures.dids in
     room_made c.reserve_parts.result d p room

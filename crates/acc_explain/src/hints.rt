@@ -114,7 +114,7 @@ fn hint_of(finding: Finding<'_>) -> Option<Hint<'_>> {
         ScriptFault::Syntax => syntax_hint(finding),
         ScriptFault::Number => words(number_hint(finding)),
         ScriptFault::UnknownName => Some(unknown_hint(finding)),
-        ScriptFault::HostFull => words("--host BYTES makes host memory larger"),
+        ScriptFault::HostFull => words("--host BYTES makes host memory larger, up to 64M"),
         ScriptFault::NoOpenRegion => words("data enters one, and end data exits from it"),
         _ => None,
     }

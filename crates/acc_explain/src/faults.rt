@@ -15,6 +15,9 @@ const SHOWN: usize = 40;
 /// How many bytes a line may have.
 const LONGEST: usize = 4_096;
 
+/// How many bytes of a line are counted at most. Of a line with more a front may be given alone, which also has more.
+const COUNTED: usize = 8_000;
+
 /// The column of what is wrong in a line at fault, in bytes from 1 on; of a place before it where there is no memory to
 /// find it.
 pub fn fault_column(alloc: Global, arrays: &Arrays, line: &[u8], kind: ScriptFault) -> u64 {
@@ -72,8 +75,13 @@ pub fn explain_fault(
 
 fn put_long(page: &mut Page, number: u64, line: &[u8]) {
     put_note(page, number);
-    page.text("it has ");
-    page.number(line.len() as u64);
+    let is_longer = line.len() > COUNTED;
+    page.text(if is_longer {
+        "it has more than "
+    } else {
+        "it has "
+    });
+    page.number(line.len().min(COUNTED) as u64);
     page.text(" bytes with its comment, and may have 4096\n");
 }
 

@@ -3,7 +3,7 @@
 use crate::readers::Reader;
 use crate::routines::LISTS;
 use crate::sources::{put_note, put_place};
-use crate::tokens::{nth_bytes, nth_token};
+use crate::tokens::{front_of, nth_bytes, nth_token};
 use acc_base::ScriptFault;
 use acc_read::{Page, is_text};
 
@@ -37,6 +37,22 @@ impl<'a> Finding<'a> {
         }
     }
 
+    /// Whether a colon stands behind the wrong token.
+    fn is_before_colon(self) -> bool {
+        is_text(nth_bytes(self.text, self.nth.saturating_add(1)), ":")
+    }
+
+    /// The number of the parenthesis behind which the wrong token stands as a modifier, or is the colon of one.
+    fn open_of_modifier(self) -> Option<usize> {
+        let is_colon = is_text(self.found(), ":");
+        let word = self.nth.checked_sub(usize::from(is_colon))?;
+        let open = word.checked_sub(1)?;
+        let is_modifier = matches!(self.kind, ScriptFault::Syntax)
+            && (is_colon || self.is_before_colon())
+            && is_text(nth_bytes(self.text, open), "(");
+        is_modifier.then_some(open)
+    }
+
     /// Whether the line begins with a word.
     fn is_of(self, word: &str) -> bool {
         is_text(nth_bytes(self.text, 0), word)
@@ -53,7 +69,9 @@ type Hint<'a> = (&'static str, &'a [u8], &'static str, &'a [u8]);
 
 /// Puts what to write in place of what was found, under the line of a number, where that is known.
 pub fn put_hint(page: &mut Page, reader: Reader<'_>, number: u64, finding: Finding<'_>) {
-    if let Some((words, bytes, more, last)) = hint_of(finding) {
+    if let Some(open) = finding.open_of_modifier() {
+        put_modifiers(page, reader, number, finding.text, open);
+    } else if let Some((words, bytes, more, last)) = hint_of(finding) {
         put_note(page, number);
         page.text(words);
         page.bytes(bytes);
@@ -63,6 +81,22 @@ pub fn put_hint(page: &mut Page, reader: Reader<'_>, number: u64, finding: Findi
     } else if matches!(finding.kind, ScriptFault::NameTaken) {
         put_taken(page, reader, number, finding.found());
     }
+}
+
+/// Puts which modifier a clause has, by the number of its parenthesis.
+fn put_modifiers(page: &mut Page, reader: Reader<'_>, number: u64, text: &[u8], open: usize) {
+    put_note(page, number);
+    page.text("a word before a colon is a modifier, and ");
+    page.bytes(nth_bytes(text, open.saturating_sub(1)));
+    page.text(" has ");
+    let front = front_of(text, open.saturating_add(1));
+    page.text(if reader.fits(front, "readonly: a)") {
+        "readonly\n"
+    } else if reader.fits(front, "zero: a)") {
+        "zero\n"
+    } else {
+        "none\n"
+    });
 }
 
 /// Puts the length of the array that has that name already.
@@ -79,8 +113,8 @@ fn hint_of(finding: Finding<'_>) -> Option<Hint<'_>> {
     match finding.kind {
         ScriptFault::Syntax => syntax_hint(finding),
         ScriptFault::Number => words(number_hint(finding)),
-        ScriptFault::UnknownName => Some(unknown_hint(finding.found())),
-        ScriptFault::HostFull => words("--host BYTES makes host memory larger"),
+        ScriptFault::UnknownName => Some(unknown_hint(finding)),
+        ScriptFault::HostFull => words("--host BYTES makes host memory larger, up to 64M"),
         ScriptFault::NoOpenRegion => words("data enters one, and end data exits from it"),
         _ => None,
     }
@@ -197,8 +231,17 @@ fn number_hint(finding: Finding<'_>) -> &'static str {
     }
 }
 
-fn unknown_hint(found: &[u8]) -> Hint<'_> {
+fn unknown_hint(finding: Finding<'_>) -> Hint<'_> {
+    let found = finding.found();
     if has_word("zero readonly", found) {
+        if finding.is_before_colon() {
+            return (
+                "a modifier stands once, and first in the parentheses",
+                &[],
+                "",
+                &[],
+            );
+        }
         return ("a modifier has a colon behind it: ", found, ": REF", &[]);
     }
     let words = "no line before declares it; that is done by: array ";

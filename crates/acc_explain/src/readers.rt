@@ -25,16 +25,29 @@ impl Reader<'_> {
         }
     }
 
-    /// Returns whether a front part with this tail is a line whose tokens all stand where they may.
+    /// Returns whether a front part with this tail is a line whose tokens all stand where they may. The tail may name
+    /// arrays that are not declared, and the front part may not.
     pub fn fits(self, front: &[u8], tail: &str) -> bool {
+        match self.fault_with(front, tail) {
+            Some(ScriptFault::Syntax | ScriptFault::TooLong) => false,
+            Some(ScriptFault::UnknownName) => !self.has_unknown(front, tail),
+            _ => true,
+        }
+    }
+
+    fn fault_with(self, front: &[u8], tail: &str) -> Option<ScriptFault> {
         let mut page = Page::new(self.alloc);
         page.bytes(front);
         page.text(" ");
         page.text(tail);
-        !matches!(
-            self.fault(page.as_slice()),
-            Some(ScriptFault::Syntax | ScriptFault::TooLong)
-        )
+        self.fault(page.as_slice())
+    }
+
+    /// Whether a front part names an array that is not declared. Its last word may be a modifier before a colon.
+    fn has_unknown(self, front: &[u8], tail: &str) -> bool {
+        let is_colon = tail.as_bytes().first() == Some(&b':');
+        let next = if is_colon { ":" } else { "" };
+        self.fault_with(front, next) == Some(ScriptFault::UnknownName)
     }
 
     /// Returns whether some tail of a sentence makes a front part such a line.
@@ -92,10 +105,15 @@ impl Reader<'_> {
         unfit.saturating_sub(1)
     }
 
+    /// The first token with which a text has this fault, and has it with the next one too: a word before a colon is no
+    /// name.
     fn first_with(self, text: &[u8], kind: ScriptFault) -> usize {
         let count = token_count(text);
         for nth in 1..=count {
-            if self.fault(front_of(text, nth)) == Some(kind) {
+            let next = nth.saturating_add(1);
+            if self.fault(front_of(text, nth)) == Some(kind)
+                && self.fault(front_of(text, next)) == Some(kind)
+            {
                 return nth.saturating_sub(1);
             }
         }

@@ -2,8 +2,8 @@
 
 use crate::sources::put_place;
 use crate::tokens::{Token, bytes_of, next_token, nth_bytes, nth_token};
-use acc_base::Fault;
-use acc_read::{Page, before_comment, is_text, next_line};
+use acc_base::{Fault, MEMORY_MAX};
+use acc_read::{Arrays, Page, Statement, before_comment, is_text, line_at, next_line};
 use std::alloc::Global;
 use std::collections::BTreeMap;
 
@@ -20,7 +20,10 @@ struct Declared {
 /// What is known of a script, up to a line.
 #[derive(Drop)]
 struct Warner<'a> {
+    alloc: Global,
     arrays: BTreeMap<&'a [u8], Declared>,
+    /// The same for the reader, in host memory of the greatest size.
+    read: Arrays,
     /// The file of the script.
     file: Option<&'a str>,
     /// Whether a section may reach past its array.
@@ -46,7 +49,9 @@ pub fn warnings_of<'a>(
     script: &'a [u8],
 ) -> Result<Page, Fault> {
     let mut warner = Warner {
+        alloc,
         arrays: BTreeMap::new(alloc),
+        read: Arrays::new(alloc, MEMORY_MAX as u32),
         file,
         has_long_sections: false,
         has_unused_names: false,
@@ -77,11 +82,8 @@ impl<'a> Warner<'a> {
 
     fn read_line(&mut self, line: u64, text: &'a [u8]) {
         self.read_note(line, text);
-        let text = before_comment(text);
-        if is_text(nth_bytes(text, 0), "array") {
-            self.declare(line, text);
-        } else {
-            self.read_tokens(line, text);
+        if !self.declare(line, text) {
+            self.read_tokens(line, before_comment(text));
         }
     }
 
@@ -118,18 +120,24 @@ impl<'a> Warner<'a> {
         }
     }
 
-    fn declare(&mut self, line: u64, text: &'a [u8]) {
-        let token = nth_token(text, 1);
-        if let Some(bytes) = number_in(text, next_token(text, token.end)) {
-            let name = bytes_of(text, token);
-            let array = Declared {
-                line,
-                token,
-                bytes,
-                is_used: self.arrays.contains_key(&name),
-            };
-            self.wants |= self.arrays.insert(name, array).is_err();
+    /// Notes the array that a line declares; returns whether it does. A line at fault declares none.
+    fn declare(&mut self, line: u64, text: &'a [u8]) -> bool {
+        if !is_text(nth_bytes(text, 0), "array") {
+            return false;
         }
+        let Ok(Statement::Declare { name, array }) = line_at(self.alloc, &self.read, 0, None, text)
+        else {
+            return false;
+        };
+        let declared = Declared {
+            line,
+            token: nth_token(text, 1),
+            bytes: array.whole().len,
+            is_used: false,
+        };
+        self.wants |= self.read.insert(name, array).is_err();
+        self.wants |= self.arrays.insert(name, declared).is_err();
+        true
     }
 
     /// Notes that a line uses an array, if that is what a token names.

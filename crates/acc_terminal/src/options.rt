@@ -358,18 +358,24 @@ impl<'a> Options<'a> {
             events: self.events.or(line.events),
             full: self.full.or(line.full),
             threads: self.threads.or(line.threads),
-            shown: Views {
-                echo: self.shown.echo || line.shown.echo,
-                json: self.shown.json || line.shown.json,
-                log: self.shown.log.or(line.shown.log),
-                check: self.shown.check || line.shown.check,
-                check_fails: self.shown.check_fails || line.shown.check_fails,
-                check_all: self.shown.check_all || line.shown.check_all,
-                ..self.shown
-            },
+            shown: shown_by_both(self.shown, line.shown),
             explain: self.explain.or(line.explain),
             ..self
         }
+    }
+}
+
+/// What a command line and a first line show. The check of the first line counts where the command line has none.
+fn shown_by_both(command: Views, line: Views) -> Views {
+    let check = if command.check { command } else { line };
+    Views {
+        echo: command.echo || line.echo,
+        json: command.json || line.json,
+        log: command.log.or(line.log),
+        check: check.check,
+        check_fails: check.check_fails,
+        check_all: check.check_all,
+        ..command
     }
 }
 

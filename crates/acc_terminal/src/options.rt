@@ -485,11 +485,24 @@ fn bad_value(alloc: Global, matches: &ArgMatches<'_>) -> Result<Option<String>, 
 fn size_told(alloc: Global, name: &str, text: &str) -> Result<Option<String>, AllocError> {
     let reason = match bytes_of(text) {
         Some(16..=67_108_864) => return Ok(None),
+        None if !is_number_of_bytes(text) => {
+            String::from_str(alloc, "wanted a number of bytes, as 4096, 64K or 1M")?
+        }
+        // What does not fit into 64 bits is no number, or the greatest.
+        None | Some(u64::MAX) => String::from_str(alloc, "it is not in 16..=67108864")?,
         Some(bytes) => format!(in alloc; "{bytes} is not in 16..=67108864")?,
-        None => String::from_str(alloc, "wanted a number of bytes, as 4096, 64K or 1M")?,
     };
     let told = format!(in alloc; "invalid value '{text}' for '--{name} <BYTES>': {reason}")?;
     Ok(Some(told))
+}
+
+/// Whether a text says a number of bytes, however many they are.
+fn is_number_of_bytes(text: &str) -> bool {
+    let digits = text
+        .strip_suffix('K')
+        .or(text.strip_suffix('M'))
+        .unwrap_or(text);
+    !digits.is_empty() && digits.as_bytes().iter().all(|byte| byte.is_ascii_digit())
 }
 
 fn bare<'a>(alloc: Global) -> Command<'a> {

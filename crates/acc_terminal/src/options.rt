@@ -175,7 +175,10 @@ const OF_ONE_FILE: &[&str] = &["expect", "emit", "svg", "svg-every", "html"];
 const INSTEAD: &[(&str, &[&str])] = &[
     ("emit", &[]),
     ("rows", &["emit", "FILE"]),
-    ("random", &["emit", "rows", "FILE"]),
+    (
+        "random",
+        &["emit", "rows", "threads", "trace", "events", "FILE"],
+    ),
     ("drill", &["emit", "rows", "random", "FILE"]),
     (
         "test",

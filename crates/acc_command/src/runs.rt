@@ -16,7 +16,7 @@ use std::thread::Threads;
 /// How many data regions may be open at a time.
 const REGIONS: u64 = 64;
 
-/// How many events there may be, unless the trace may have more.
+/// How many events there may be, unless the trace may have as many.
 const TICKETS: u64 = 1_048_576;
 
 /// The greatest value of a counter.
@@ -183,7 +183,7 @@ pub fn options_for<'a>(
     Err(Mishap::FirstLine)
 }
 
-/// The limits of a run.
+/// The limits of a run. There is a ticket more than the trace may have events, so a trace that is full is told first.
 ///
 /// # Errors
 ///
@@ -195,7 +195,7 @@ pub fn limits(options: Options<'_>) -> Result<Config, Fault> {
         machine.host,
         machine.device,
         REGIONS,
-        events.max(TICKETS),
+        events.saturating_add(1).max(TICKETS),
         COUNTER_MAX,
         QUEUE_CAP,
         events,

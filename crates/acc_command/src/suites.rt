@@ -71,20 +71,37 @@ impl<'a, R: Threads + Wait + Sync + AllocGlobal, D: FileStore + Sync> Tester<'a,
 
     /// Whether a file is a script, or what that has to print.
     fn belongs_to(&self, file: &str, script: &str) -> Result<bool, Fault> {
-        let output = output_name(self.rt.alloc(), script)?;
-        Ok(self.files.is_same(file, script) || self.files.is_same(file, output.as_str()))
+        Ok(self.files.is_same(file, script) || self.is_output(file, script)?)
     }
 
-    /// Refuses a script without `.acc` beside one that has the same name with it: both have to print the same file.
+    /// Whether a file is what a script has to print.
+    fn is_output(&self, file: &str, script: &str) -> Result<bool, Fault> {
+        let output = output_name(self.rt.alloc(), script)?;
+        Ok(self.files.is_same(file, output.as_str()))
+    }
+
+    /// Refuses a script without `.acc` beside one that has the same name with it: both have to print the same file. Of
+    /// those without only paths of the command line are scripts.
     fn keep_outputs(&self, names: &[String]) -> Result<(), Mishap<'a>> {
         for path in self.options.tests {
-            for name in names {
-                if name.as_str().strip_suffix(".acc") == Some(*path) {
-                    return Err(Mishap::Unread(*path, "another script has the same output"));
-                }
+            if is_bare_script(*path, names) && self.has_twin(*path, names)? {
+                return Err(Mishap::Unread(*path, "another script has the same output"));
             }
         }
         Ok(())
+    }
+
+    /// Whether a script with `.acc` has to print the same file as one without.
+    fn has_twin(&self, script: &str, names: &[String]) -> Result<bool, Fault> {
+        let output = output_name(self.rt.alloc(), script)?;
+        for name in names {
+            if adds_suffix(name.as_str(), script)
+                && self.is_output(output.as_str(), name.as_str())?
+            {
+                return Ok(true);
+            }
+        }
+        Ok(false)
     }
 
     fn run_all<O: Sink>(
@@ -307,6 +324,22 @@ impl<'a, R: Threads + Wait + Sync + AllocGlobal, D: FileStore + Sync> Tester<'a,
             Err(fault) => self.failed("cannot write ", name, fault.reason()?),
         }
     }
+}
+
+/// Whether a path has no `.acc`, and is one of these scripts.
+fn is_bare_script(path: &str, names: &[String]) -> bool {
+    !path.ends_with(".acc") && names.iter().any(|name| name.as_str() == path)
+}
+
+/// Whether the name of a file is that of another, in whichever folder, with `.acc` behind it.
+fn adds_suffix(name: &str, other: &str) -> bool {
+    name.strip_suffix(".acc")
+        .is_some_and(|stem| last_of(stem) == last_of(other))
+}
+
+/// The name of a file in its folder.
+fn last_of(path: &str) -> &str {
+    path.rsplit_once('/').map_or(path, |parts| parts.1)
 }
 
 /// Adds to what a script printed, which fails for lack of memory alone.

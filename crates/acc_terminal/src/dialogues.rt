@@ -13,7 +13,7 @@ use acc_read::Page;
 use acc_script::{
     InOnePart, MemorySink, Session, Sink, Source, Status, Watcher, run_line, write_all,
 };
-use acc_trials::put_numbers;
+use acc_trials::{put_numbers, put_texts};
 use std::alloc::Global;
 use std::sync::Wait;
 use std::thread::Threads;
@@ -203,6 +203,11 @@ impl<R: AllocGlobal, O: Sink> Dialogue<'_, R, O> {
                 say(follower.err, statements().as_bytes());
                 Ok(())
             }
+            Word::Misused(word, wanted) => {
+                let texts = ["accrun: '", word, "' ", wanted, "\n"];
+                say_texts(self.rt.alloc(), follower.err, &texts);
+                Ok(())
+            }
         }
     }
 
@@ -243,13 +248,8 @@ impl<R: AllocGlobal, O: Sink> Dialogue<'_, R, O> {
     ) -> Result<(), Fault> {
         let script = self.history.script();
         if let Err(reason) = follower.pictures.save(name, script.whole()?) {
-            let mut page = Page::new(self.rt.alloc());
-            page.text("accrun: cannot write ");
-            page.text(name);
-            page.text(": ");
-            page.text(reason);
-            page.text("\n");
-            say(follower.err, page.as_slice());
+            let texts = ["accrun: cannot write ", name, ": ", reason, "\n"];
+            say_texts(self.rt.alloc(), follower.err, &texts);
         }
         Ok(())
     }
@@ -295,6 +295,13 @@ impl<R: AllocGlobal, O: Sink> Dialogue<'_, R, O> {
 /// Writes a text beside the output. A failure of the sink changes nothing.
 fn say<E: Sink>(err: &mut E, text: &[u8]) {
     let _ = write_all(err, text);
+}
+
+/// Writes texts beside the output, in one piece.
+fn say_texts<E: Sink>(alloc: Global, err: &mut E, texts: &[&str]) {
+    let mut page = Page::new(alloc);
+    put_texts(&mut page, texts);
+    say(err, page.as_slice());
 }
 
 /// Writes a fault, and behind it its reason.

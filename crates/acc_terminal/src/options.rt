@@ -175,7 +175,10 @@ const OF_ONE_FILE: &[&str] = &["expect", "emit", "svg", "svg-every", "html"];
 const INSTEAD: &[(&str, &[&str])] = &[
     ("emit", &[]),
     ("rows", &["emit", "FILE"]),
-    ("random", &["emit", "rows", "FILE"]),
+    (
+        "random",
+        &["emit", "rows", "threads", "trace", "events", "FILE"],
+    ),
     ("drill", &["emit", "rows", "random", "FILE"]),
     (
         "test",
@@ -358,18 +361,24 @@ impl<'a> Options<'a> {
             events: self.events.or(line.events),
             full: self.full.or(line.full),
             threads: self.threads.or(line.threads),
-            shown: Views {
-                echo: self.shown.echo || line.shown.echo,
-                json: self.shown.json || line.shown.json,
-                log: self.shown.log.or(line.shown.log),
-                check: self.shown.check || line.shown.check,
-                check_fails: self.shown.check_fails || line.shown.check_fails,
-                check_all: self.shown.check_all || line.shown.check_all,
-                ..self.shown
-            },
+            shown: shown_by_both(self.shown, line.shown),
             explain: self.explain.or(line.explain),
             ..self
         }
+    }
+}
+
+/// What a command line and a first line show. The check of the first line counts where the command line has none.
+fn shown_by_both(command: Views, line: Views) -> Views {
+    let check = if command.check { command } else { line };
+    Views {
+        echo: command.echo || line.echo,
+        json: command.json || line.json,
+        log: command.log.or(line.log),
+        check: check.check,
+        check_fails: check.check_fails,
+        check_all: check.check_all,
+        ..command
     }
 }
 
@@ -479,11 +488,24 @@ fn bad_value(alloc: Global, matches: &ArgMatches<'_>) -> Result<Option<String>, 
 fn size_told(alloc: Global, name: &str, text: &str) -> Result<Option<String>, AllocError> {
     let reason = match bytes_of(text) {
         Some(16..=67_108_864) => return Ok(None),
+        None if !is_number_of_bytes(text) => {
+            String::from_str(alloc, "wanted a number of bytes, as 4096, 64K or 1M")?
+        }
+        // What does not fit into 64 bits is no number, or the greatest.
+        None | Some(u64::MAX) => String::from_str(alloc, "it is not in 16..=67108864")?,
         Some(bytes) => format!(in alloc; "{bytes} is not in 16..=67108864")?,
-        None => String::from_str(alloc, "wanted a number of bytes, as 4096, 64K or 1M")?,
     };
     let told = format!(in alloc; "invalid value '{text}' for '--{name} <BYTES>': {reason}")?;
     Ok(Some(told))
+}
+
+/// Whether a text says a number of bytes, however many they are.
+fn is_number_of_bytes(text: &str) -> bool {
+    let digits = text
+        .strip_suffix('K')
+        .or(text.strip_suffix('M'))
+        .unwrap_or(text);
+    !digits.is_empty() && digits.as_bytes().iter().all(|byte| byte.is_ascii_digit())
 }
 
 fn bare<'a>(alloc: Global) -> Command<'a> {

@@ -1,5 +1,7 @@
 //! The words of a prompt that are no statements.
 
+use acc_read::statement_text;
+
 /// What a line at a prompt asks for that is no statement of a script.
 #[derive(Clone, Copy)]
 pub enum Word<'a> {
@@ -11,17 +13,24 @@ pub enum Word<'a> {
     History,
     /// To tell the statements.
     Help,
+    /// Nothing: this is one of these words, and how it has to be used.
+    Misused(&'a str, &'static str),
 }
 
 impl Word<'_> {
-    /// What a line asks for; `None` for a statement.
+    /// What a line asks for before its comment; `None` for a statement.
     pub fn of(line: &[u8]) -> Option<Word<'_>> {
-        let text = str::from_utf8(line).ok()?.trim();
-        match text {
-            "undo" => Some(Word::Undo),
-            "history" => Some(Word::History),
-            "help" => Some(Word::Help),
-            _ => Some(Word::Save(text.strip_prefix("save ")?.trim())),
+        let text = str::from_utf8(statement_text(line)).ok()?;
+        let word = text.split_ascii_whitespace().next()?;
+        let rest = text.strip_prefix(word)?.trim();
+        match (word, rest) {
+            ("undo", "") => Some(Word::Undo),
+            ("history", "") => Some(Word::History),
+            ("help", "") => Some(Word::Help),
+            ("save", "") => Some(Word::Misused(word, "wants a FILE")),
+            ("save", _) => Some(Word::Save(rest)),
+            ("undo" | "history" | "help", _) => Some(Word::Misused(word, "stands alone")),
+            _ => None,
         }
     }
 }

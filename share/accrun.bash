@@ -1,4 +1,4 @@
-# Completion of accrun for bash: its options, as its help names them, the words that four of them take, and files.
+# Completion of accrun for bash: its options, as its help names them, the words that five of them take, and files.
 _accrun() {
     local word=${COMP_WORDS[COMP_CWORD]} before=${COMP_WORDS[COMP_CWORD - 1]} words
     # An equals sign is a word of its own here.
@@ -11,6 +11,7 @@ _accrun() {
     case $before in
     --explain=) words='auto always never' ;;
     --log=) words='text json' ;;
+    --check=) words='warn error all' ;;
     --emit | --emit=) words='c fortran' ;;
     --trace | --trace=) words='counts full' ;;
     *)

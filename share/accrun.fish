@@ -1,4 +1,4 @@
-# Completion of accrun for fish: its options, as its help names them, the words that four of them take, and files.
+# Completion of accrun for fish: its options, as its help names them, the words that five of them take, and files.
 for option in (accrun --help | string replace -rf '^ +(?:-., )?--([a-z-]+).*' '$1')
     switch $option
         case emit
@@ -9,6 +9,8 @@ for option in (accrun --help | string replace -rf '^ +(?:-., )?--([a-z-]+).*' '$
             complete -c accrun -l $option -a 'auto always never'
         case log
             complete -c accrun -l $option -a 'text json'
+        case check
+            complete -c accrun -l $option -a 'warn error all'
         case '*'
             complete -c accrun -l $option
     end

@@ -8,8 +8,8 @@ use acc_base::Fault;
 use acc_emit::{CHECK, EmitFault, Language, MAKEFILE, Origin, Reason, emit};
 use acc_follow::Page;
 use acc_script::{Sink, Source, Status, write_all};
-use acc_terminal::Options;
-use acc_trials::{FileFault, FileStore, put_texts};
+use acc_terminal::{Options, put_place};
+use acc_trials::{FileFault, FileStore, lines_of, put_texts};
 use std::alloc::{AllocError, Global};
 use std::sync::Wait;
 use std::thread::Threads;
@@ -176,11 +176,33 @@ impl<R: Threads + Wait + Sync + AllocGlobal, D: FileStore> Maker<'_, R, D> {
     ) -> Result<Page, Mishap<'x>> {
         let reason = &mut told.reason;
         let options = options_for(self.rt.alloc(), options, options.file, script, reason)?;
+        if options.out.is_some() {
+            self.check_requirements(options, script, reason)?;
+        }
         let emitted = self.emitted(options, script, output);
         if let Err(Mishap::Fault(Fault::Script { .. })) = &emitted {
             find_column(self.rt, options, script, self.files, told);
         }
         emitted
+    }
+
+    /// Refuses a script that requires what its options do not give, which a test skips, or what is unknown; the reason
+    /// tells that.
+    fn check_requirements<'x>(
+        &self,
+        options: Options<'_>,
+        script: &[u8],
+        reason: &mut Page,
+    ) -> Result<(), Mishap<'x>> {
+        let lines = lines_of(self.rt.alloc(), script).map_err(Fault::from)?;
+        let Some(note) = options.machine().lack(&lines) else {
+            return Ok(());
+        };
+        put_place(reason, options.file.unwrap_or(""), note.line, 0);
+        let texts = [": error: cannot be emitted: it requires ", note.text, "\n"];
+        put_texts(reason, &texts);
+        reason.whole()?;
+        Err(Mishap::Told)
     }
 
     fn emitted<'x>(

@@ -1,5 +1,6 @@
 //! The files that pictures become.
 
+use crate::runs::{NAMED_TWICE, is_named};
 use acc_follow::{Frame, Page, PictureSink, Stop, Unkept};
 use acc_terminal::Keeper;
 use acc_trials::{FileFault, FileStore};
@@ -18,6 +19,8 @@ pub struct PictureFiles<'a, D> {
     pub alloc: Global,
     /// The file of the script, if there is one.
     pub file: Option<&'a str>,
+    /// The file of the output that it has to have, if there is one.
+    pub expect: Option<&'a str>,
     /// The file of the picture at the end, if there is one.
     pub last: Option<&'a str>,
     /// The file of the pictures behind directives, without the number of the line.
@@ -62,11 +65,18 @@ impl<D: FileStore> PictureFiles<'_, D> {
         put_numbered(&mut page, self.each.unwrap_or(""), number);
         match page.whole() {
             // The name is that of the command line, with a number.
-            Ok(name) => self
-                .files
-                .write(str::from_utf8(name).unwrap_or(""), picture),
+            Ok(name) => self.write_apart(str::from_utf8(name).unwrap_or(""), picture),
             Err(_) => Err(FileFault::Memory),
         }
+    }
+
+    /// Writes a picture of a line, unless its file is another one of the run.
+    fn write_apart(&self, name: &str, picture: &[u8]) -> Result<(), FileFault> {
+        let others = [self.file, self.expect, self.last, self.page];
+        if is_named(self.files, name, &others) {
+            return Err(FileFault::Because(NAMED_TWICE));
+        }
+        self.files.write(name, picture)
     }
 }
 

@@ -25,6 +25,9 @@ const COUNTER_MAX: u64 = 4_294_967_295;
 /// How many transfers may wait in one queue.
 const QUEUE_CAP: u64 = 256;
 
+/// Why a picture or a page cannot be written to a file of its own run.
+pub const NAMED_TWICE: &str = "it is named twice";
+
 /// What a run tells beside its output, for whoever ends it.
 #[derive(Drop)]
 pub struct Told {
@@ -130,6 +133,7 @@ fn run_drawn<'x, R: Threads + Wait + Sync + AllocGlobal, S: Source, O: Sink, E: 
             files,
             alloc: rt.alloc(),
             file: options.file,
+            expect: options.expect,
             last: options.svg,
             each: options.svg_every,
             page: options.html,
@@ -232,7 +236,8 @@ pub fn read_whole<'a, S: Source, D: FileStore>(
     }
 }
 
-/// Refuses a picture or a page that is another file of a run too: the script, the expected output, or each other.
+/// Refuses a picture or a page that is another file of a run too: the script, the expected output, or each other. A
+/// picture of a line is looked at when it is written.
 ///
 /// # Errors
 ///
@@ -255,15 +260,24 @@ fn keep<'a, D: FileStore>(
     let Some(name) = written else {
         return Ok(());
     };
+    if is_named(files, name, others) {
+        return Err(Mishap::Unwritten(name, None, NAMED_TWICE));
+    }
+    Ok(())
+}
+
+/// Whether a file is one of those with these names. `-` names none.
+pub fn is_named<D: FileStore>(files: &D, name: &str, others: &[Option<&str>]) -> bool {
     for other in others {
         if let Some(other) = *other
             && name != "-"
+            && other != "-"
             && files.is_same(name, other)
         {
-            return Err(Mishap::Unwritten(name, None, "it is named twice"));
+            return true;
         }
     }
-    Ok(())
+    false
 }
 
 /// Puts the column of the line at fault of a script, by a run that shows nothing.

@@ -16,7 +16,7 @@ pub const MAKEFILE: &str =
 CC = gcc
 CFLAGS = -std=gnu11 -Wextra $(BOTH)
 FC = gfortran
-FFLAGS = -ffree-line-length-none -Wno-unused -Wno-unused-dummy-argument $(BOTH)
+FFLAGS = -Wno-unused -Wno-unused-dummy-argument $(BOTH)
 BOTH = -O1 -Wall -Werror -fopenacc $(if $(filter own,$(DEVICE)),,-foffload=disable)
 DEVICE = lamwiest
 KNOWN =

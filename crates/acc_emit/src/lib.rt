@@ -11,6 +11,7 @@ mod doing;
 mod emitters;
 mod emitting;
 mod faults;
+mod folds;
 mod harness;
 mod harness_in_fortran;
 mod items;

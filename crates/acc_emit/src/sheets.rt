@@ -1,6 +1,7 @@
 //! The text of the program, while it grows.
 
 use crate::faults::{EmitFault, Reason};
+use crate::folds::put_folded;
 use crate::harness::IN_C;
 use crate::harness_in_fortran::IN_FORTRAN;
 use crate::languages::Language;
@@ -216,7 +217,17 @@ impl Sheet {
         page.text(harness.declarations);
         page.bytes(body);
         page.text(harness.functions);
-        Ok(page)
+        self.folded(alloc, page)
+    }
+
+    /// Returns a program whose lines are no longer than its language allows.
+    fn folded(&self, alloc: Global, page: Page) -> Result<Page, EmitFault> {
+        if self.language == Language::C {
+            return Ok(page);
+        }
+        let mut folded = Page::new(alloc);
+        put_folded(&mut folded, page.whole()?);
+        Ok(folded)
     }
 }
 

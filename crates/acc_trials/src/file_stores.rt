@@ -1,7 +1,7 @@
 //! The files that the command line names.
 
 use acc_base::Fault;
-use acc_script::{FromRead, read_all};
+use acc_script::{FromRead, Source, read_all};
 use std::alloc::Global;
 use std::fs::{self, File, OpenFile};
 use std::io::{self, ErrorKind, Read, Write};
@@ -267,10 +267,30 @@ fn read_open<F: Read + OpenFile + Drop>(alloc: Global, file: F) -> Result<Vec<u8
 }
 
 fn read_whole<F: Read + Drop>(alloc: Global, file: F) -> Result<Vec<u8>, FileFault> {
-    match read_all(alloc, &mut FromRead::new(file)) {
+    let mut reader = WatchedReader {
+        inner: FromRead::new(file),
+        has_failed: false,
+    };
+    match read_all(alloc, &mut reader) {
         Ok(bytes) => Ok(bytes),
         Err(Fault::Memory) => Err(FileFault::Memory),
-        Err(_) => Err(FileFault::Because("it is too long, or a read failed")),
+        Err(_) if reader.has_failed => Err(FileFault::Because("a read failed")),
+        Err(_) => Err(FileFault::Because("it has more than 16,777,216 bytes")),
+    }
+}
+
+/// A reader that notes whether a read failed.
+#[derive(Drop)]
+struct WatchedReader<F: Read + Drop> {
+    inner: FromRead<F>,
+    has_failed: bool,
+}
+
+impl<F: Read + Drop> Source for WatchedReader<F> {
+    fn read(&mut self, piece: &mut [u8]) -> Option<usize> {
+        let count = self.inner.read(piece);
+        self.has_failed |= count.is_none();
+        count
     }
 }
 

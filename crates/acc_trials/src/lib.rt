@@ -14,7 +14,7 @@ mod trials;
 pub use chances::Chance;
 pub use file_stores::{Disk, FileFault, FileStore};
 pub use machines::{Machine, bytes_of};
-pub use notes::{first_words, lines_of, options_in};
+pub use notes::{Note, first_words, lines_of, options_in};
 pub use random_scripts::random_script;
 pub use reports::{BAIL_OUT, Report};
 pub use trials::{

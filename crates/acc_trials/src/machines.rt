@@ -35,6 +35,14 @@ impl Machine {
         Ok(Some(Trial::noted(alloc, &texts, Page::new(alloc))?))
     }
 
+    /// The first comment that requires what is unknown, or else the first that requires what this machine lacks.
+    pub fn lack<'x>(self, lines: &[&'x [u8]]) -> Option<Note<'x>> {
+        match self.requirement(lines, None) {
+            None => self.requirement(lines, Some(false)),
+            unknown => unknown,
+        }
+    }
+
     /// The first comment with a requirement that is met so.
     fn requirement<'x>(self, lines: &[&'x [u8]], met: Option<bool>) -> Option<Note<'x>> {
         let mut done = 0;

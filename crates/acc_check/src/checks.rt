@@ -371,13 +371,26 @@ impl Check {
         Note::None
     }
 
-    /// What to write where a kernel reads a section that has a mark.
-    fn note_of_device(&self, mark: Mark, section: Section) -> Note {
+    /// What to write where a kernel reads a section that has a mark for this cause.
+    fn note_of_device(&self, mark: Mark, section: Section, cause: Cause) -> Note {
+        if mark == Mark::Behind && self.is_lacked_by_host(cause, section.start) {
+            return Note::None;
+        }
         match (self.tracker.account.queue_with(section.start, false), mark) {
             (Some(queue), _) => Note::Wait(queue),
             (None, Mark::Behind) => Note::UpdateDevice,
             (None, _) => Note::Copyin,
         }
+    }
+
+    /// Whether the host lacks the newer byte too that a device lacks for this cause. A copy of its own does not bring it.
+    fn is_lacked_by_host(&self, cause: Cause, address: u64) -> bool {
+        let byte = Section {
+            start: address,
+            len: 1,
+        };
+        self.tracker.known.stale_host(byte).is_some()
+            && self.looks.history.cause(None, address).line_written() == cause.line_written()
     }
 
     /// Finds what of a section is stale as a device has it.
@@ -393,7 +406,7 @@ impl Check {
                 _ => Kind::Unfilled,
             };
             let cause = self.cause(run.mark, Some(Block::of(placed)), section.start);
-            let note = self.note_of_device(run.mark, section);
+            let note = self.note_of_device(run.mark, section, cause);
             self.looks.findings.push(Finding {
                 kind,
                 section,

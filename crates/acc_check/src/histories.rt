@@ -112,6 +112,13 @@ pub(crate) struct Cause {
     pub missed: Option<Done>,
 }
 
+impl Cause {
+    /// The number of the line that wrote the newer byte.
+    pub fn line_written(self) -> Option<u64> {
+        self.written.map(|done| done.line)
+    }
+}
+
 /// What all lines so far did, in their order.
 #[derive(Drop)]
 pub(crate) struct History {

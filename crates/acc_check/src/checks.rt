@@ -1,7 +1,7 @@
 //! The check of a script: what its lines read is told where it is stale.
 
 use crate::findings::{Finding, Kind, Note, Origin, put_drop, put_finding, put_leak, put_needless};
-use crate::histories::Cause;
+use crate::histories::{Block, Cause, Deed};
 use crate::looks::{Looks, part_of};
 use acc_base::{Config, Directive, Fault, Found, Item, Section, UpdateClause};
 use acc_read::{Names, Page, ScriptKernel, Statement};
@@ -320,11 +320,11 @@ impl Check {
                 break;
             };
             let section = part_of(rest, run);
+            let cause = self.cause(run.mark, None, section.start);
             let (kind, note) = match run.mark {
-                Mark::Behind => (Kind::StaleHost, self.note_of_host(table, section)),
+                Mark::Behind => (Kind::StaleHost, self.note_of_host(table, section, cause)),
                 _ => (Kind::Unfilled, Note::None),
             };
-            let cause = self.cause(run.mark, None, section.start);
             self.looks.forget_drops(section);
             self.looks.findings.push(Finding {
                 kind,
@@ -338,20 +338,24 @@ impl Check {
         Ok(())
     }
 
-    /// Why a byte of host memory, or of a device, has a mark.
-    fn cause(&self, mark: Mark, device: Option<u64>, address: u64) -> Cause {
+    /// Why a byte of host memory, or of a block, has a mark.
+    fn cause(&self, mark: Mark, block: Option<Block>, address: u64) -> Cause {
         match mark {
-            Mark::Unfilled => self.looks.history.cause_unfilled(device, address),
-            _ => self.looks.history.cause(device, address),
+            Mark::Unfilled => self.looks.history.cause_unfilled(block, address),
+            _ => self.looks.history.cause(block, address),
         }
     }
 
-    /// What to write where the host reads a section. Where a device has it and is behind too, its newer bytes are lost.
-    fn note_of_host(&self, table: &Table, section: Section) -> Note {
-        if let Some(queue) = self.tracker.account.queue_with(section.start, true) {
-            return Note::Wait(queue);
+    /// What to write where the host reads a section that is behind for this cause. Where older bytes were copied over the
+    /// newer ones, or each device that has it is behind too, they are lost.
+    fn note_of_host(&self, table: &Table, section: Section, cause: Cause) -> Note {
+        let queue = self.tracker.account.queue_with(section.start, true);
+        match (cause.missed.map(|done| done.deed), queue) {
+            (Some(Deed::Ended), _) => return Note::Copyout,
+            (Some(Deed::CopiedIn | Deed::CopiedOut), _) => return Note::None,
+            (_, Some(queue)) => return Note::Wait(queue),
+            _ => {}
         }
-        let mut note = Note::Copyout;
         for device in 0..table.config().devices() {
             if let Some(held) = self.placed(table, device, section) {
                 if self
@@ -362,10 +366,31 @@ impl Check {
                 {
                     return Note::UpdateSelf;
                 }
-                note = Note::None;
             }
         }
-        note
+        Note::None
+    }
+
+    /// What to write where a kernel reads a section that has a mark for this cause.
+    fn note_of_device(&self, mark: Mark, section: Section, cause: Cause) -> Note {
+        if mark == Mark::Behind && self.is_lacked_by_host(cause, section.start) {
+            return Note::None;
+        }
+        match (self.tracker.account.queue_with(section.start, false), mark) {
+            (Some(queue), _) => Note::Wait(queue),
+            (None, Mark::Behind) => Note::UpdateDevice,
+            (None, _) => Note::Copyin,
+        }
+    }
+
+    /// Whether the host lacks the newer byte too that a device lacks for this cause. A copy of its own does not bring it.
+    fn is_lacked_by_host(&self, cause: Cause, address: u64) -> bool {
+        let byte = Section {
+            start: address,
+            len: 1,
+        };
+        self.tracker.known.stale_host(byte).is_some()
+            && self.looks.history.cause(None, address).line_written() == cause.line_written()
     }
 
     /// Finds what of a section is stale as a device has it.
@@ -376,15 +401,12 @@ impl Check {
                 break;
             };
             let section = part_of(rest, run);
-            let (kind, note) = match run.mark {
-                Mark::Behind => (Kind::StaleDevice, Note::UpdateDevice),
-                _ => (Kind::Unfilled, Note::Copyin),
+            let kind = match run.mark {
+                Mark::Behind => Kind::StaleDevice,
+                _ => Kind::Unfilled,
             };
-            let note = match self.tracker.account.queue_with(section.start, false) {
-                Some(queue) => Note::Wait(queue),
-                None => note,
-            };
-            let cause = self.cause(run.mark, Some(placed.device), section.start);
+            let cause = self.cause(run.mark, Some(Block::of(placed)), section.start);
+            let note = self.note_of_device(run.mark, section, cause);
             self.looks.findings.push(Finding {
                 kind,
                 section,

@@ -1,7 +1,7 @@
 //! What each event does to the bytes that are told of it.
 
 use crate::checks::Check;
-use crate::histories::{Deed, Done};
+use crate::histories::{Block, Deed, Done};
 use acc_base::{Event, Fault, Found, Section};
 use acc_stale::Part;
 use acc_table::{Place, Table};
@@ -38,7 +38,7 @@ impl Check {
             }
         }
         self.tracker.known.wrote(section, &parts)?;
-        self.looks.note(0, Deed::HostWrote, section)
+        self.looks.note(Block::default(), Deed::HostWrote, section)
     }
 
     /// Adds what each range of a device has of what the host wrote, by rising address.
@@ -122,14 +122,15 @@ impl Check {
         self.tracker
             .known
             .gathered(placed, section, &attached, found, after, own)?;
+        let block = Block::of(placed);
         let Some(before) = found else {
-            return self.looks.note(device, Deed::KernelWrote, section);
+            return self.looks.note(block, Deed::KernelWrote, section);
         };
         if before != after {
             let done = Done {
                 line: self.looks.line,
                 deed: Deed::KernelWrote,
-                device,
+                block,
                 section,
             };
             self.looks.history.add_kernel(done, before, after)?;
@@ -157,7 +158,7 @@ fn from_address(section: Section, start: u64) -> Option<Section> {
 }
 
 /// What of a section lies behind a part of it.
-fn behind(section: Section, part: Section) -> Section {
+pub(crate) fn behind(section: Section, part: Section) -> Section {
     let start = part.start.saturating_add(part.len);
     let done = start.saturating_sub(section.start);
     Section {

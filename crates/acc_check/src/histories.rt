@@ -3,7 +3,7 @@
 ghost use Rattle.std.specs.Prelude.{◌≤◌, length};
 
 use acc_base::Section;
-use acc_stale::has_address;
+use acc_stale::{Placed, has_address};
 use std::alloc::{AllocError, Global};
 
 /// How many runs of bytes that one kernel wrote are kept apart.
@@ -25,7 +25,7 @@ pub(crate) enum Deed {
     CopiedIn,
     /// They were mapped to a new block, and not copied.
     Created,
-    /// Their mapping ended.
+    /// Their mapping ended, and they were not copied.
     Ended,
     /// An end that copies to host memory copied nothing, since they stay mapped.
     KeptOut,
@@ -43,7 +43,7 @@ impl Deed {
         match self {
             Deed::HostWrote => "written by the host here",
             Deed::KernelWrote => "written on the device here",
-            Deed::CopiedOut | Deed::CopiedIn => "copied here",
+            Deed::CopiedOut | Deed::CopiedIn => "overwritten here by older bytes",
             Deed::Created => "mapped here with no copy",
             Deed::Ended => "its mapping ended here with no copy",
             Deed::KeptOut => "not copied here, since it stays mapped",
@@ -55,9 +55,37 @@ impl Deed {
     /// Whether it could have copied to host memory, or to a device, and did not.
     fn missed(self, out: bool) -> bool {
         match self {
-            Deed::Ended | Deed::KeptOut | Deed::QueuedOut => out,
+            Deed::KeptOut | Deed::QueuedOut => out,
             Deed::KeptIn | Deed::QueuedIn => !out,
             _ => false,
+        }
+    }
+
+    /// Whether it left no newer byte in the memory from which such a copy had to come.
+    fn lost(self, out: bool) -> bool {
+        match self {
+            Deed::Ended | Deed::CopiedIn => out,
+            Deed::CopiedOut => !out,
+            _ => false,
+        }
+    }
+}
+
+/// A block of a device, by the numbers of both.
+#[derive(Clone, Copy, Default, PartialEq, Eq)]
+pub(crate) struct Block {
+    /// The number of the device.
+    pub device: u64,
+    /// The number of the block.
+    pub number: u64,
+}
+
+impl Block {
+    /// The block that lies there.
+    pub fn of(placed: Placed) -> Block {
+        Block {
+            device: placed.device,
+            number: placed.block,
         }
     }
 }
@@ -69,8 +97,8 @@ pub(crate) struct Done {
     pub line: u64,
     /// What it did.
     pub deed: Deed,
-    /// The number of the device.
-    pub device: u64,
+    /// The block that has them; any where the host wrote them.
+    pub block: Block,
     /// The bytes.
     pub section: Section,
 }
@@ -80,8 +108,15 @@ pub(crate) struct Done {
 pub(crate) struct Cause {
     /// What wrote the newer byte.
     pub written: Option<Done>,
-    /// What came behind that, and could have copied it.
+    /// What came behind that, and lost it, or could have copied it.
     pub missed: Option<Done>,
+}
+
+impl Cause {
+    /// The number of the line that wrote the newer byte.
+    pub fn line_written(self) -> Option<u64> {
+        self.written.map(|done| done.line)
+    }
 }
 
 /// What all lines so far did, in their order.
@@ -164,28 +199,33 @@ impl History {
         Ok(())
     }
 
-    /// Why a byte of host memory is stale, or of a device.
-    pub fn cause(&self, device: Option<u64>, address: u64) -> Cause {
-        let mut memory = device;
-        for done in self.all.iter().rev() {
+    /// Why a byte of host memory is stale, or of a block. The older byte is followed back to the memory that had it when
+    /// the newer one was written elsewhere.
+    pub fn cause(&self, block: Option<Block>, address: u64) -> Cause {
+        let mut memory = block;
+        let mut end = self.all.len();
+        for at in (0..self.all.len()).rev() {
+            let Some(done) = self.all.get(at) else {
+                break;
+            };
             if !has_address(done.section, address) {
                 continue;
             }
-            let is_here = memory == Some(done.device);
+            let is_here = memory == Some(done.block);
             match (done.deed, memory) {
                 (Deed::KernelWrote, None) | (Deed::HostWrote, Some(_)) => {
-                    let missed = if memory == device {
-                        self.missed_behind(*done, device, address)
-                    } else {
-                        None
-                    };
-                    let written = Some(*done);
-                    return Cause { written, missed };
+                    return self.cause_between(at, end, memory, address);
                 }
                 (Deed::KernelWrote, Some(_)) if is_here => break,
                 (Deed::HostWrote, None) => break,
-                (Deed::CopiedOut, None) => memory = Some(done.device),
-                (Deed::CopiedIn, Some(_)) if is_here => memory = None,
+                (Deed::CopiedOut, None) => {
+                    memory = Some(done.block);
+                    end = at.saturating_add(1);
+                }
+                (Deed::CopiedIn, Some(_)) if is_here => {
+                    memory = None;
+                    end = at.saturating_add(1);
+                }
                 _ => {}
             }
         }
@@ -195,17 +235,29 @@ impl History {
         }
     }
 
-    /// Why nothing ever filled a byte of host memory, or of a device: what made its block, or put its copy into a queue.
-    pub fn cause_unfilled(&self, device: Option<u64>, address: u64) -> Cause {
-        let mut memory = device;
+    /// The cause where the deed at a place wrote the newer byte, and a memory kept the older one up to the place `end`. If
+    /// it was copied on there, only what lost the newer byte before that is told.
+    fn cause_between(&self, at: usize, end: usize, memory: Option<Block>, address: u64) -> Cause {
+        let deeds = self.all.get(at..end).unwrap_or(&[]);
+        let is_copied = end < self.all.len();
+        Cause {
+            written: deeds.first().copied(),
+            missed: missed_in(deeds, memory, address).filter(|done| !is_copied
+                || done.deed.lost(memory.is_none())),
+        }
+    }
+
+    /// Why nothing ever filled a byte of host memory, or of a block: what made its block, or put its copy into a queue.
+    pub fn cause_unfilled(&self, block: Option<Block>, address: u64) -> Cause {
+        let mut memory = block;
         let mut missed = None;
         for done in self.all.iter().rev() {
             if !has_address(done.section, address) {
                 continue;
             }
-            let is_here = memory == Some(done.device);
+            let is_here = memory == Some(done.block);
             match done.deed {
-                Deed::CopiedOut if memory.is_none() => memory = Some(done.device),
+                Deed::CopiedOut if memory.is_none() => memory = Some(done.block),
                 Deed::CopiedIn if is_here => memory = None,
                 Deed::QueuedIn if is_here && missed.is_none() => missed = Some(*done),
                 Deed::Created if is_here => {
@@ -220,24 +272,28 @@ impl History {
             missed,
         }
     }
+}
 
-    /// The last deed that could have copied a byte, behind the one that wrote it: from the device whose kernel did, or to
-    /// the one that reads it.
-    fn missed_behind(&self, written: Done, reader: Option<u64>, address: u64) -> Option<Done> {
-        let device = reader.unwrap_or(written.device);
-        for done in self.all.iter().rev() {
-            if done.line <= written.line {
-                return None;
-            }
-            if done.deed.missed(reader.is_none())
-                && done.device == device
-                && has_address(done.section, address)
-            {
-                return Some(*done);
-            }
+/// What left a memory without a newer byte, of the deeds from the one on that wrote it: the first that lost it, or else the
+/// last that could have copied it. While a copy waits, the end of its mapping loses nothing.
+fn missed_in(deeds: &[Done], memory: Option<Block>, address: u64) -> Option<Done> {
+    let written = deeds.first()?;
+    let block = memory.unwrap_or(written.block);
+    let out = memory.is_none();
+    let mut missed: Option<Done> = None;
+    for done in deeds {
+        if done.block != block || !has_address(done.section, address) {
+            continue;
         }
-        None
+        let waits = missed.map_or(false, |missed| missed.deed == Deed::QueuedOut);
+        match done.deed {
+            Deed::Ended if waits => {}
+            deed if deed.lost(out) => return Some(*done),
+            deed if deed.missed(out) => missed = Some(*done),
+            _ => {}
+        }
     }
+    missed
 }
 
 /// The runs of bytes that a kernel wrote, while they are looked for.

@@ -4,8 +4,9 @@
 ghost use Rattle.std.specs.Prelude.{◌≡◌, IfErr};
 ghost use Rattle.acc_base.specs.declared.faults.Fault.TheVariants.{Memory};
 
+use crate::events::behind;
 use crate::findings::{Finding, Kind, Note};
-use crate::histories::{Cause, Deed, Done, History};
+use crate::histories::{Block, Cause, Deed, Done, History};
 use acc_base::{Fault, Section, Step, Task, Transfer};
 use acc_stale::{Held, ItemDone, Known, Mark, Placed, Run, Watch, has_address};
 use std::alloc::Global;
@@ -25,6 +26,8 @@ pub(crate) struct Looks {
     pub drops: Vec<Held>,
     /// The mapping that the next step ends.
     ends: Option<Held>,
+    /// The block of the last item that had one.
+    block: Block,
 }
 
 impl Looks {
@@ -37,41 +40,73 @@ impl Looks {
             findings: Vec::new(alloc),
             drops: Vec::new(alloc),
             ends: None,
+            block: Block::default(),
         }
     }
 
     // ---- the history
 
-    /// Keeps what this line did to bytes.
-    pub fn note(&mut self, device: u64, deed: Deed, section: Section) -> Result<(), Fault>
+    /// Keeps what this line did to bytes, of a block or of host memory.
+    pub fn note(&mut self, block: Block, deed: Deed, section: Section) -> Result<(), Fault>
         ensures only { IfErr result (λ fault. fault ≡ Memory) }
     {
         let line = self.line;
         self.history.add(Done {
             line,
             deed,
-            device,
+            block,
             section,
         })?;
         Ok(())
     }
 
-    /// Keeps that a step copied nothing where its clause could have: that a mapping goes on, or has no bytes yet.
-    fn note_kept(&mut self, device: u64, task: Task, step: Step) -> Result<(), Fault>
+    /// Keeps that a mapping ended, of the bytes that its step does not copy.
+    fn note_end(&mut self, task: Task, step: Step, section: Section) -> Result<(), Fault>
         ensures only { IfErr result (λ fault. fault ≡ Memory) }
     {
+        let block = self.block;
+        if !task.copies(step) {
+            return self.note(block, Deed::Ended, section);
+        }
+        let copied = task.section();
+        let before = Section {
+            start: section.start,
+            len: copied.start.saturating_sub(section.start),
+        };
+        self.note(block, Deed::Ended, before)?;
+        self.note(block, Deed::Ended, behind(section, copied))
+    }
+
+    /// Keeps that a step copied nothing where its clause could have: that a mapping goes on, or has no bytes yet.
+    fn note_kept(&mut self, task: Task, step: Step) -> Result<(), Fault>
+        ensures only { IfErr result (λ fault. fault ≡ Memory) }
+    {
+        let block = self.block;
         match step {
             Step::Born { .. } if !task.gets_bytes() => {
-                self.note(device, Deed::Created, task.section())
+                self.note(block, Deed::Created, task.section())
             }
             Step::Dropped { ended: false, .. } if task.gives_bytes() => {
-                self.note(device, Deed::KeptOut, task.section())
+                self.note(block, Deed::KeptOut, task.section())
             }
             Step::Counted { .. } if task.gets_bytes() => {
-                self.note(device, Deed::KeptIn, task.section())
+                self.note(block, Deed::KeptIn, task.section())
             }
             _ => Ok(()),
         }
+    }
+
+    /// Keeps that bytes of a block were copied, or that their copy was put into a queue.
+    fn note_copy(&mut self, block: Block, t: Transfer, queue: Option<u64>) -> Result<(), Fault>
+        ensures only { IfErr result (λ fault. fault ≡ Memory) }
+    {
+        let deed = match (queue, t.out) {
+            (None, true) => Deed::CopiedOut,
+            (None, false) => Deed::CopiedIn,
+            (Some(_), true) => Deed::QueuedOut,
+            (Some(_), false) => Deed::QueuedIn,
+        };
+        self.note(block, deed, t.section)
     }
 
     // ---- what may be meant
@@ -148,9 +183,12 @@ impl Watch for Looks {
             let line = self.line;
             self.ends = ends.map(|held| Held { line, ..held });
         }
+        if let Some(number) = number_of(step) {
+            self.block = Block { device, number };
+        }
         match ends {
-            Some(held) => self.note(device, Deed::Ended, held.section),
-            None => self.note_kept(device, task, step),
+            Some(held) => self.note_end(task, step, held.section),
+            None => self.note_kept(task, step),
         }
     }
 
@@ -167,19 +205,24 @@ impl Watch for Looks {
         }
     }
 
-    fn after_item(&mut self, device: u64, t: Transfer, queue: Option<u64>) -> Result<(), Fault> {
-        let deed = match (queue, t.out) {
-            (None, true) => Deed::CopiedOut,
-            (None, false) => Deed::CopiedIn,
-            (Some(_), true) => Deed::QueuedOut,
-            (Some(_), false) => Deed::QueuedIn,
-        };
-        self.note(device, deed, t.section)
+    fn after_item(&mut self, _device: u64, t: Transfer, queue: Option<u64>) -> Result<(), Fault> {
+        self.note_copy(self.block, t, queue)
     }
 
     fn before_copy(&mut self, known: &Known, block: Placed, t: Transfer) -> Result<(), Fault> {
         self.find_overwritten(known, block, t)?;
-        self.after_item(block.device, t, None)
+        self.note_copy(Block::of(block), t, None)
+    }
+}
+
+/// The number of the block of a step, if it has one.
+fn number_of(step: Step) -> Option<u64> {
+    match step {
+        Step::Nothing => None,
+        Step::Counted { block }
+        | Step::Born { block, .. }
+        | Step::Dropped { block, .. }
+        | Step::Moved { block } => Some(block),
     }
 }
 

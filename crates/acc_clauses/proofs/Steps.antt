@@ -23,11 +23,6 @@ use Rattle.acc_clauses.proofs.Marked.{marks_counted}
 
 -- ---- ranges
 
--- a change that leaves each range
-pub changed-same_ranges : (k : ℕ) (f : Range → Range) (rs : List Range) → ((r : Range) → f r ≡ r) → changed_at k f rs ≡ rs
-changed-same_ranges k f [] h = refl
-changed-same_ranges k f (r ∷ rs) h = grind (arith, nat_tests, changed-same_ranges k f rs h)
-
 pub is_some : {X : Type 0} (o : Option X) (x : X) → o ≡ Some x → IsSome o
 is_some o x e = rw e refl
 

@@ -71,7 +71,7 @@ impl Model for NameKey {
 }
 
 impl NameKey {
-    /// The key of a name; `None` where it has more bytes.
+    /// The key of a name; `None` where that has more than 32 bytes.
     #[inline(always)]
     fn new(name: &[u8]) -> Option<NameKey>
         ensures { MatchOption result (32 < length name.now) (λ key. key ≡ name.now) }

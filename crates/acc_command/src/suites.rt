@@ -74,12 +74,6 @@ impl<'a, R: Threads + Wait + Sync + AllocGlobal, D: FileStore + Sync> Tester<'a,
         Ok(self.files.is_same(file, script) || self.is_output(file, script)?)
     }
 
-    /// Whether a file is what a script has to print.
-    fn is_output(&self, file: &str, script: &str) -> Result<bool, Fault> {
-        let output = output_name(self.rt.alloc(), script)?;
-        Ok(self.files.is_same(file, output.as_str()))
-    }
-
     /// Refuses a script without `.acc` beside one that has the same name with it: both have to print the same file. Of
     /// those without only paths of the command line are scripts.
     fn keep_outputs(&self, names: &[String]) -> Result<(), Mishap<'a>> {
@@ -89,19 +83,6 @@ impl<'a, R: Threads + Wait + Sync + AllocGlobal, D: FileStore + Sync> Tester<'a,
             }
         }
         Ok(())
-    }
-
-    /// Whether a script with `.acc` has to print the same file as one without.
-    fn has_twin(&self, script: &str, names: &[String]) -> Result<bool, Fault> {
-        let output = output_name(self.rt.alloc(), script)?;
-        for name in names {
-            if adds_suffix(name.as_str(), script)
-                && self.is_output(output.as_str(), name.as_str())?
-            {
-                return Ok(true);
-            }
-        }
-        Ok(false)
     }
 
     fn run_all<O: Sink>(
@@ -323,6 +304,28 @@ impl<'a, R: Threads + Wait + Sync + AllocGlobal, D: FileStore + Sync> Tester<'a,
             Ok(()) => Trial::noted(alloc, &[], Page::new(alloc)),
             Err(fault) => self.failed("cannot write ", name, fault.reason()?),
         }
+    }
+}
+
+// Neither of these waits.
+impl<R: AllocGlobal, D: FileStore> Tester<'_, '_, R, D> {
+    /// Whether a file is what a script has to print.
+    fn is_output(&self, file: &str, script: &str) -> Result<bool, Fault> {
+        let output = output_name(self.rt.alloc(), script)?;
+        Ok(self.files.is_same(file, output.as_str()))
+    }
+
+    /// Whether a script with `.acc` has to print the same file as one without.
+    fn has_twin(&self, script: &str, names: &[String]) -> Result<bool, Fault> {
+        let output = output_name(self.rt.alloc(), script)?;
+        for name in names {
+            if adds_suffix(name.as_str(), script)
+                && self.is_output(output.as_str(), name.as_str())?
+            {
+                return Ok(true);
+            }
+        }
+        Ok(false)
     }
 }
 

@@ -177,32 +177,13 @@ impl<R: Threads + Wait + Sync + AllocGlobal, D: FileStore> Maker<'_, R, D> {
         let reason = &mut told.reason;
         let options = options_for(self.rt.alloc(), options, options.file, script, reason)?;
         if options.out.is_some() {
-            self.check_requirements(options, script, reason)?;
+            check_requirements(self.rt.alloc(), options, script, reason)?;
         }
         let emitted = self.emitted(options, script, output);
         if let Err(Mishap::Fault(Fault::Script { .. })) = &emitted {
             find_column(self.rt, options, script, self.files, told);
         }
         emitted
-    }
-
-    /// Refuses a script that requires what its options do not give, which a test skips, or what is unknown; the reason
-    /// tells that.
-    fn check_requirements<'x>(
-        &self,
-        options: Options<'_>,
-        script: &[u8],
-        reason: &mut Page,
-    ) -> Result<(), Mishap<'x>> {
-        let lines = lines_of(self.rt.alloc(), script).map_err(Fault::from)?;
-        let Some(note) = options.machine().lack(&lines) else {
-            return Ok(());
-        };
-        put_place(reason, options.file.unwrap_or(""), note.line, 0);
-        let texts = [": error: cannot be emitted: it requires ", note.text, "\n"];
-        put_texts(reason, &texts);
-        reason.whole()?;
-        Err(Mishap::Told)
     }
 
     fn emitted<'x>(
@@ -310,4 +291,23 @@ impl<R: Threads + Wait + Sync + AllocGlobal, D: FileStore> Maker<'_, R, D> {
             }
         }
     }
+}
+
+/// Refuses a script that requires what its options do not give, which a test skips, or what is unknown; the reason
+/// tells that.
+fn check_requirements<'x>(
+    alloc: Global,
+    options: Options<'_>,
+    script: &[u8],
+    reason: &mut Page,
+) -> Result<(), Mishap<'x>> {
+    let lines = lines_of(alloc, script).map_err(Fault::from)?;
+    let Some(note) = options.machine().lack(&lines) else {
+        return Ok(());
+    };
+    put_place(reason, options.file.unwrap_or(""), note.line, 0);
+    let texts = [": error: cannot be emitted: it requires ", note.text, "\n"];
+    put_texts(reason, &texts);
+    reason.whole()?;
+    Err(Mishap::Told)
 }

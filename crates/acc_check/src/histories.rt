@@ -274,22 +274,25 @@ impl History {
     }
 }
 
-/// What left a memory without a newer byte, of the deeds from the one on that wrote it: the first that lost it, or else the
-/// last that could have copied it. While a copy waits, the end of its mapping loses nothing.
+/// What left a memory without a newer byte, of the deeds from the one on that wrote it. That is the first that lost it, or
+/// else the last that could have copied it. While a copy waits, the end of its mapping loses nothing.
 fn missed_in(deeds: &[Done], memory: Option<Block>, address: u64) -> Option<Done> {
     let written = deeds.first()?;
     let block = memory.unwrap_or(written.block);
     let out = memory.is_none();
     let mut missed: Option<Done> = None;
+    let mut waits = false;
     for done in deeds {
         if done.block != block || !has_address(done.section, address) {
             continue;
         }
-        let waits = missed.map_or(false, |missed| missed.deed == Deed::QueuedOut);
         match done.deed {
             Deed::Ended if waits => {}
             deed if deed.lost(out) => return Some(*done),
-            deed if deed.missed(out) => missed = Some(*done),
+            deed if deed.missed(out) => {
+                missed = Some(*done);
+                waits |= deed == Deed::QueuedOut;
+            }
             _ => {}
         }
     }

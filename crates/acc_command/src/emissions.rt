@@ -306,7 +306,11 @@ fn check_requirements<'x>(
         return Ok(());
     };
     put_place(reason, options.file.unwrap_or(""), note.line, 0);
-    let texts = [": error: cannot be emitted: it requires ", note.text, "\n"];
+    let texts = [
+        ": error: cannot be emitted: '# requires: ",
+        note.text,
+        "' is not met\n",
+    ];
     put_texts(reason, &texts);
     reason.whole()?;
     Err(Mishap::Told)

@@ -306,12 +306,9 @@ fn check_requirements<'x>(
         return Ok(());
     };
     put_place(reason, options.file.unwrap_or(""), note.line, 0);
-    let texts = [
-        ": error: cannot be emitted: '# requires: ",
-        note.text,
-        "' is not met\n",
-    ];
-    put_texts(reason, &texts);
+    reason.text(": error: cannot be emitted: '# requires: ");
+    reason.text(note.text);
+    reason.text("' is not met\n");
     reason.whole()?;
     Err(Mishap::Told)
 }

@@ -13,7 +13,7 @@ use acc_read::Page;
 use acc_script::{
     InOnePart, MemorySink, Session, Sink, Source, Status, Watcher, run_line, write_all,
 };
-use acc_trials::{put_numbers, put_texts};
+use acc_trials::put_numbers;
 use std::alloc::Global;
 use std::sync::Wait;
 use std::thread::Threads;
@@ -204,8 +204,9 @@ impl<R: AllocGlobal, O: Sink> Dialogue<'_, R, O> {
                 Ok(())
             }
             Word::Misused(word, wanted) => {
-                let texts = ["accrun: '", word, "' ", wanted, "\n"];
-                say_texts(self.rt.alloc(), follower.err, &texts);
+                let mut page = Page::new(self.rt.alloc());
+                put_misused(&mut page, word, wanted);
+                say(follower.err, page.as_slice());
                 Ok(())
             }
         }
@@ -248,8 +249,13 @@ impl<R: AllocGlobal, O: Sink> Dialogue<'_, R, O> {
     ) -> Result<(), Fault> {
         let script = self.history.script();
         if let Err(reason) = follower.pictures.save(name, script.whole()?) {
-            let texts = ["accrun: cannot write ", name, ": ", reason, "\n"];
-            say_texts(self.rt.alloc(), follower.err, &texts);
+            let mut page = Page::new(self.rt.alloc());
+            page.text("accrun: cannot write ");
+            page.text(name);
+            page.text(": ");
+            page.text(reason);
+            page.text("\n");
+            say(follower.err, page.as_slice());
         }
         Ok(())
     }
@@ -297,11 +303,13 @@ fn say<E: Sink>(err: &mut E, text: &[u8]) {
     let _ = write_all(err, text);
 }
 
-/// Writes texts beside the output, in one piece.
-fn say_texts<E: Sink>(alloc: Global, err: &mut E, texts: &[&str]) {
-    let mut page = Page::new(alloc);
-    put_texts(&mut page, texts);
-    say(err, page.as_slice());
+/// Puts how a word of the prompt has to be used.
+fn put_misused(page: &mut Page, word: &str, wanted: &str) {
+    page.text("accrun: '");
+    page.text(word);
+    page.text("' ");
+    page.text(wanted);
+    page.text("\n");
 }
 
 /// Writes a fault, and behind it its reason.

@@ -121,19 +121,24 @@ public:
         write(to.part(0, elements.size()), elements.data());
     }
 
+    // What the host has. The last byte is asked for first: where it is refused, no room is made for the elements.
     template <class T> std::vector<T> read(Span<T> from)
     {
-        std::vector<T> elements(from.count);
+        char last;
         lw_fault fault;
+        must(lw_host_read(&table, from.behind() - 1, &last, from.count != 0, &fault), fault);
+        std::vector<T> elements(from.count);
         must(lw_host_read(&table, from.start, elements.data(), from.len(), &fault), fault);
         return elements;
     }
 
-    // What a device has of them.
+    // What a device has of them, likewise.
     template <class T> std::vector<T> read_device(Span<T> from, uint64_t device = 0)
     {
-        std::vector<T> elements(from.count);
+        char last;
         lw_fault fault;
+        must(lw_device_read(&table, device, from.behind() - 1, &last, from.count != 0, &fault), fault);
+        std::vector<T> elements(from.count);
         must(lw_device_read(&table, device, from.start, elements.data(), from.len(), &fault), fault);
         return elements;
     }

@@ -70,15 +70,17 @@ void add_at_an_odd_address(lamwiest::Region &region, Doubles odd)
     on_odd[0] += on_odd[1];
 }
 
-// Elements of more bytes than 64 bits count, and one as far behind the first: no memory has them.
+// Elements of more bytes than 64 bits count, a quarter of them, and one as far behind the first: no memory has them.
 void reach_too_far(lamwiest::Table &table, lamwiest::Region &region, Doubles near)
 {
     const std::size_t too_many = (std::size_t(1) << 61) + 1;
 
     show_refusal([&] { table.array<double>(too_many); });
-    for (Doubles far : {Doubles{near.start, too_many}, near.part(too_many - 1, 1)}) {
+    for (Doubles far : {Doubles{near.start, too_many}, near.part(0, too_many / 4), near.part(too_many - 1, 1)}) {
         show_refusal([&] { lamwiest::Lease<double> on_far(region, far); });
         show_refusal([&] { table.update({lamwiest::self(far)}); });
+        show_refusal([&] { table.read(far); });
+        show_refusal([&] { table.read_device(far); });
     }
 }
 

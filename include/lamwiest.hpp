@@ -327,13 +327,16 @@ public:
         }
     }
 
-    // Brings it back, and tells where that is refused. The lease is out still then.
+    // Brings it back, and it has no elements any more. It tells where that is refused: the lease is out still then.
     void gather()
     {
         lw_fault fault;
         put_back();
         must(lw_gather(table.get(), number, &fault), fault);
         is_out = false;
+        copy.clear();
+        elements = nullptr;
+        count = 0;
     }
 
     T &operator[](std::size_t place) { return elements[place]; }

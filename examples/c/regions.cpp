@@ -70,6 +70,17 @@ void add_at_an_odd_address(lamwiest::Region &region, Doubles odd)
     on_odd[0] += on_odd[1];
 }
 
+// A lease that came back has no elements, and leaves what another one changes.
+void gather_twice(lamwiest::Region &region, Doubles odd)
+{
+    lamwiest::Lease<double> spent(region, odd);
+
+    spent.gather();
+    std::cout << "spent: " << spent.size() << " elements, at none: " << (spent.data() == nullptr) << '\n';
+    add_at_an_odd_address(region, odd);
+    show_refusal([&] { spent.gather(); });
+}
+
 // Elements of more bytes than 64 bits count, a quarter of them, and one as far behind the first: no memory has them.
 void reach_too_far(lamwiest::Table &table, lamwiest::Region &region, Doubles near)
 {
@@ -158,7 +169,7 @@ void run()
     table.write(odd, {1, 2});
     {
         lamwiest::Region region(table, {lamwiest::copy(bytes)});
-        add_at_an_odd_address(region, odd);
+        gather_twice(region, odd);
         reach_too_far(table, region, odd);
     }
     show("odd", table.read(odd));

@@ -41,6 +41,7 @@ inline void must(uint32_t status, const lw_fault &fault)
 // told as UINT64_MAX, which no table has.
 template <class T> struct Span {
     static_assert(std::is_trivially_copyable<T>::value, "elements are copied byte by byte");
+    static_assert(!std::is_same<T, bool>::value, "not every byte is a bool");
 
     uint64_t start;
     std::size_t count;

@@ -37,17 +37,22 @@ inline void must(uint32_t status, const lw_fault &fault)
     }
 }
 
-// So many elements of T in host memory, from a host address on.
+// So many elements of T in host memory, from a host address on. A length or an address that does not fit in 64 bits is
+// told as UINT64_MAX, which no table has.
 template <class T> struct Span {
     static_assert(std::is_trivially_copyable<T>::value, "elements are copied byte by byte");
+    static_assert(!std::is_same<T, bool>::value, "not every byte is a bool");
 
     uint64_t start;
     std::size_t count;
 
-    uint64_t len() const { return count * sizeof(T); }
+    uint64_t len() const { return count <= UINT64_MAX / sizeof(T) ? count * sizeof(T) : UINT64_MAX; }
+
+    // The first host address behind these.
+    uint64_t behind() const { return len() <= UINT64_MAX - start ? start + len() : UINT64_MAX; }
 
     // The elements [first:count] of these.
-    Span part(std::size_t first, std::size_t count) const { return Span{start + first * sizeof(T), count}; }
+    Span part(std::size_t first, std::size_t count) const { return Span{Span{start, first}.behind(), count}; }
 };
 
 // ---- Items of data clauses. pointer: the host address of the pointer to the section's data, or 0 ----
@@ -117,19 +122,24 @@ public:
         write(to.part(0, elements.size()), elements.data());
     }
 
+    // What the host has. The last byte is asked for first: where it is refused, no room is made for the elements.
     template <class T> std::vector<T> read(Span<T> from)
     {
-        std::vector<T> elements(from.count);
+        char last;
         lw_fault fault;
+        must(lw_host_read(&table, from.behind() - 1, &last, from.count != 0, &fault), fault);
+        std::vector<T> elements(from.count);
         must(lw_host_read(&table, from.start, elements.data(), from.len(), &fault), fault);
         return elements;
     }
 
-    // What a device has of them.
+    // What a device has of them, likewise.
     template <class T> std::vector<T> read_device(Span<T> from, uint64_t device = 0)
     {
-        std::vector<T> elements(from.count);
+        char last;
         lw_fault fault;
+        must(lw_device_read(&table, device, from.behind() - 1, &last, from.count != 0, &fault), fault);
+        std::vector<T> elements(from.count);
         must(lw_device_read(&table, device, from.start, elements.data(), from.len(), &fault), fault);
         return elements;
     }
@@ -300,11 +310,11 @@ public:
         lw_fault fault;
         must(lw_lend(table.get(), region.number, section.start, section.len(), &number, &fault), fault);
         lw_lease_bytes(table.get(), number, &bytes, &len, nullptr);
+        count = len / sizeof(T);
         if (reinterpret_cast<std::uintptr_t>(bytes) % alignof(T) != 0) {
-            take_copy(section);
+            take_copy();
         }
         elements = copy.empty() ? static_cast<T *>(bytes) : copy.data();
-        count = section.count;
     }
     Lease(const Lease &) = delete;
     Lease &operator=(const Lease &) = delete;
@@ -318,13 +328,16 @@ public:
         }
     }
 
-    // Brings it back, and tells where that is refused. The lease is out still then.
+    // Brings it back, and it has no elements any more. It tells where that is refused: the lease is out still then.
     void gather()
     {
         lw_fault fault;
         put_back();
         must(lw_gather(table.get(), number, &fault), fault);
         is_out = false;
+        copy.clear();
+        elements = nullptr;
+        count = 0;
     }
 
     T &operator[](std::size_t place) { return elements[place]; }
@@ -335,15 +348,15 @@ public:
 
 private:
     // Without memory for the copy the lease is brought back.
-    void take_copy(Span<T> section)
+    void take_copy()
     {
         try {
-            copy.resize(section.count);
+            copy.resize(count);
         } catch (...) {
             lw_gather(table.get(), number, nullptr);
             throw;
         }
-        std::memcpy(copy.data(), bytes, section.len());
+        std::memcpy(copy.data(), bytes, count * sizeof(T));
     }
 
     void put_back()

@@ -33,6 +33,16 @@ void add_ten_times(lamwiest::Region &region, Doubles a, Doubles b)
     }
 }
 
+// Shows what a call is refused for.
+template <class Call> void show_refusal(Call call)
+{
+    try {
+        call();
+    } catch (const lamwiest::Refused &refused) {
+        std::cout << "refused " << refused.what() << '\n';
+    }
+}
+
 // A kernel that fails: its lease comes back and its region is exited on the way out.
 void fail_in_region(lamwiest::Table &table, Doubles b)
 {
@@ -58,6 +68,31 @@ void add_at_an_odd_address(lamwiest::Region &region, Doubles odd)
     lamwiest::Lease<double> on_odd(region, odd);
 
     on_odd[0] += on_odd[1];
+}
+
+// A lease that came back has no elements, and leaves what another one changes.
+void gather_twice(lamwiest::Region &region, Doubles odd)
+{
+    lamwiest::Lease<double> spent(region, odd);
+
+    spent.gather();
+    std::cout << "spent: " << spent.size() << " elements, at none: " << (spent.data() == nullptr) << '\n';
+    add_at_an_odd_address(region, odd);
+    show_refusal([&] { spent.gather(); });
+}
+
+// Elements of more bytes than 64 bits count, a quarter of them, and one as far behind the first: no memory has them.
+void reach_too_far(lamwiest::Table &table, lamwiest::Region &region, Doubles near)
+{
+    const std::size_t too_many = (std::size_t(1) << 61) + 1;
+
+    show_refusal([&] { table.array<double>(too_many); });
+    for (Doubles far : {Doubles{near.start, too_many}, near.part(0, too_many / 4), near.part(too_many - 1, 1)}) {
+        show_refusal([&] { lamwiest::Lease<double> on_far(region, far); });
+        show_refusal([&] { table.update({lamwiest::self(far)}); });
+        show_refusal([&] { table.read(far); });
+        show_refusal([&] { table.read_device(far); });
+    }
 }
 
 void show(const char *name, const std::vector<double> &elements)
@@ -108,11 +143,7 @@ void run()
     } catch (const std::runtime_error &failure) {
         std::cout << failure.what() << '\n' << table.report();
     }
-    try {
-        lamwiest::Region region(table, {lamwiest::present(a)});
-    } catch (const lamwiest::Refused &refused) {
-        std::cout << "refused " << refused.what() << '\n';
-    }
+    show_refusal([&] { lamwiest::Region region(table, {lamwiest::present(a)}); });
     lw_stored_event update = {};
     update.kind = LW_UPDATED;
     update.queue = LW_NO_QUEUE_GIVEN;
@@ -138,7 +169,8 @@ void run()
     table.write(odd, {1, 2});
     {
         lamwiest::Region region(table, {lamwiest::copy(bytes)});
-        add_at_an_odd_address(region, odd);
+        gather_twice(region, odd);
+        reach_too_far(table, region, odd);
     }
     show("odd", table.read(odd));
 }

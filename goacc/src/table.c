@@ -155,14 +155,17 @@ void lwa_take_for(const char *name, void *from, int event, int construct)
     lwa_report_if_asked();
 }
 
+/* A tool may call routines, each of which is a caller of its own. */
 void lwa_leave(void)
 {
+    const __typeof__(caller) outer = caller;
+
     LWA_CHECK(lwa_keep_pages());
     free_lock();
-    pthread_setcancelstate(caller.cancel_state, NULL);
-    lwa_tell_notes(caller.construct);
-    if (caller.event != acc_ev_none) {
-        lwa_tell(caller.event + 1, caller.construct);
+    pthread_setcancelstate(outer.cancel_state, NULL);
+    lwa_tell_notes(outer.construct);
+    if (outer.event != acc_ev_none) {
+        lwa_tell(outer.event + 1, outer.construct);
     }
 }
 

@@ -51,14 +51,16 @@ lw_table *lwa_table(void)
 static void start_table(void)
 {
     char text[LWA_REFUSAL];
-    lw_fault fault;
+    lw_fault fault = {.status = LW_BAD_CONFIG};
 
     lwa_limits = (lw_limits)LW_LIMITS;
     lwa_limits.host = lwa_number_of("LAMWIEST_HOST", "number of bytes", 16777216);
     lwa_limits.device = lwa_number_of("LAMWIEST_DEVICE", "number of bytes", 16777216);
     lwa_limits.regions = 65536;
     lwa_limits.trace_cap = TRACE;
-    if (lw_table_new(lwa_table(), &lwa_limits, &fault) != LW_DONE) {
+    /* Of a 0 the table would have a size of its own. */
+    if (lwa_limits.host == 0 || lwa_limits.device == 0
+        || lw_table_new(lwa_table(), &lwa_limits, &fault) != LW_DONE) {
         lwa_refusal_text(&fault, text);
         lwa_unserved("%s, LAMWIEST_HOST is %" PRIu64 ", LAMWIEST_DEVICE is %" PRIu64, text, lwa_limits.host,
                      lwa_limits.device);

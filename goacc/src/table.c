@@ -43,12 +43,16 @@ _Thread_local bool lwa_in_kernel;
 /* A signal handler of the program has called, and may have interrupted what reads the program's lines. */
 static _Thread_local bool in_handler;
 
+/* Some call of the program has checked the environment. */
+static _Atomic bool is_checked;
+
 lw_table *lwa_table(void)
 {
     return &tables[lwa_on];
 }
 
-static void start_table(void)
+/* Makes a table of the sizes that the environment has. */
+static void make_table(lw_table *table)
 {
     char text[LWA_REFUSAL];
     lw_fault fault = {.status = LW_BAD_CONFIG};
@@ -59,12 +63,16 @@ static void start_table(void)
     lwa_limits.regions = 65536;
     lwa_limits.trace_cap = TRACE;
     /* Of a 0 the table would have a size of its own. */
-    if (lwa_limits.host == 0 || lwa_limits.device == 0
-        || lw_table_new(lwa_table(), &lwa_limits, &fault) != LW_DONE) {
+    if (lwa_limits.host == 0 || lwa_limits.device == 0 || lw_table_new(table, &lwa_limits, &fault) != LW_DONE) {
         lwa_refusal_text(&fault, text);
         lwa_unserved("%s, LAMWIEST_HOST is %" PRIu64 ", LAMWIEST_DEVICE is %" PRIu64, text, lwa_limits.host,
                      lwa_limits.device);
     }
+}
+
+static void start_table(void)
+{
+    make_table(lwa_table());
     stored[lwa_on] = 0;
     lwa_start_script();
     lwa_start_log();
@@ -125,12 +133,9 @@ static void sleep_for_good(void)
     }
 }
 
-void lwa_take_for(const char *name, void *from, int event, int construct)
+/* Takes the lock for a call of the program, of which the first one checks the environment. */
+static void begin(const char *name, void *from, int event, int construct)
 {
-    static bool is_checked;
-
-    lwa_find_tools();
-    lwa_tell(event, construct);
     caller.name = name;
     caller.from = from;
     caller.event = event;
@@ -153,8 +158,28 @@ void lwa_take_for(const char *name, void *from, int event, int construct)
         is_checked = true;
         lwa_check_environment();
     }
+}
+
+void lwa_take_for(const char *name, void *from, int event, int construct)
+{
+    lwa_find_tools();
+    lwa_tell(event, construct);
+    begin(name, from, event, construct);
     lwa_go_to(lwa_chosen_device());
     lwa_report_if_asked();
+}
+
+/* The sizes are checked by a table that is made of them, and ends at once. */
+void lwa_check_first(const char *name, void *from)
+{
+    if (!is_checked) {
+        lw_table table = LW_NO_TABLE;
+
+        begin(name, from, acc_ev_none, acc_construct_runtime_api);
+        make_table(&table);
+        lw_table_end(&table);
+        lwa_leave();
+    }
 }
 
 /* A tool may call routines, each of which is a caller of its own. */

@@ -196,12 +196,13 @@ void lwa_leave(void)
     }
 }
 
-/* A function of the host may call what it likes. Blocks are brought back also where another thread ends the program,
-   which may wait for them. */
+/* A function of the host may call what it likes, and a tool too, on another device also. Blocks are brought back also
+   where another thread ends the program, which may wait for them. */
 void lwa_run_free(void (*run)(void *), void *addresses, bool on_device)
 {
     const int event = on_device ? acc_ev_enqueue_launch_start : acc_ev_none;
     const __typeof__(caller) outer = caller;
+    const unsigned device = lwa_on;
 
     free_lock();
     lwa_tell_notes(outer.construct);
@@ -216,6 +217,7 @@ void lwa_run_free(void (*run)(void *), void *addresses, bool on_device)
     lwa_in_kernel = lwa_in_runtime = false;
     lwa_tell(on_device ? event + 1 : event, outer.construct);
     caller = outer;
+    lwa_on = device;
     take_lock();
     lwa_turn++;
     if (on_device && !has_table()) {

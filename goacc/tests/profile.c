@@ -1,5 +1,5 @@
-/* Chapter 5: tools are told the events of directives, kernels, memory, copies and waits, in their order. One that calls
-   a routine at an event is told those behind it all the same. */
+/* Chapter 5: tools are told the events of directives, kernels, memory, copies and waits, in their order. One that asks
+   for another device at an event is told those behind it all the same. */
 #include "show.h"
 
 #include <acc_prof.h>
@@ -23,7 +23,7 @@ static void tell(acc_prof_info *info, acc_event_info *event, acc_api_info *api)
         printf(" of a: %d", (int)event->data_event.bytes);
     }
     if (is_data || type == acc_ev_enqueue_launch_start) {
-        acc_get_device_num(acc_device_default);
+        acc_get_property(1, acc_device_not_host, acc_property_memory);
     }
     printf("%s\n", event->event_type == type && api->device_type == acc_device_not_host ? "" : ", wrong");
 }

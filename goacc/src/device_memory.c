@@ -55,6 +55,7 @@ LWA_EXPORT void *acc_malloc(size_t len)
 
     LWA_PASS(lwa_in_runtime || (lwa_shadow && !lwa_is_for_table()), acc_malloc, len)
     if (!lwa_is_for_table()) {
+        lwa_check_first("acc_malloc", LWA_FROM);
         return malloc(len);
     }
     lwa_take("acc_malloc", LWA_FROM);

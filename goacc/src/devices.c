@@ -1,4 +1,5 @@
 /* The routines of devices and of queues (OpenACC 3.3, section 3.2), as GCC 12's openacc.h has them. */
+#include <limits.h>
 #include <stdlib.h>
 #include <strings.h>
 
@@ -35,13 +36,15 @@ acc_device_t lwa_type_of_tables(void)
     return type == acc_device_nvidia || type == acc_device_radeon ? type : acc_device_not_host;
 }
 
+/* What is too large for a number of a device stays none. */
 static void choose_by_environment(void)
 {
     if (chosen.kind == BY_ENVIRONMENT) {
-        const char *number = getenv("ACC_DEVICE_NUM");
+        const char *text = getenv("ACC_DEVICE_NUM");
+        const unsigned long number = text != NULL ? strtoul(text, NULL, 10) : 0;
 
         chosen.kind = lwa_named_type() == acc_device_host ? HOST : TABLE;
-        chosen.device = number != NULL ? (unsigned)strtoul(number, NULL, 10) : 0;
+        chosen.device = number < UINT_MAX ? (unsigned)number : UINT_MAX;
     }
 }
 
@@ -135,6 +138,7 @@ LWA_EXPORT void acc_shutdown(acc_device_t type)
 LWA_EXPORT int acc_get_num_devices(acc_device_t type)
 {
     LWA_PASS(lwa_shadow, acc_get_num_devices, type)
+    lwa_check_first("acc_get_num_devices", LWA_FROM);
     return is_table_type(type) ? LWA_DEVICES : is_host_type(type);
 }
 
@@ -147,6 +151,7 @@ LWA_EXPORT void acc_set_device_type(acc_device_t type)
 LWA_EXPORT acc_device_t acc_get_device_type(void)
 {
     LWA_PASS(lwa_shadow, acc_get_device_type)
+    lwa_check_first("acc_get_device_type", LWA_FROM);
     return chosen.begins ? acc_device_none : lwa_is_for_table() ? lwa_type_of_tables() : acc_device_host;
 }
 
@@ -187,6 +192,7 @@ LWA_EXPORT size_t acc_get_property(int number, acc_device_t type, acc_device_pro
 LWA_EXPORT const char *acc_get_property_string(int number, acc_device_t type, acc_device_property_t property)
 {
     LWA_PASS(lwa_shadow, acc_get_property_string, number, type, property)
+    lwa_check_first("acc_get_property_string", LWA_FROM);
     if (!is_device(number, type)) {
         return NULL;
     }
@@ -202,6 +208,7 @@ LWA_EXPORT const char *acc_get_property_string(int number, acc_device_t type, ac
 LWA_EXPORT int acc_on_device(acc_device_t type)
 {
     LWA_PASS(lwa_shadow, acc_on_device, type)
+    lwa_check_first("acc_on_device", LWA_FROM);
     return lwa_in_kernel ? type == acc_device_not_host || type == lwa_type_of_tables()
                          : type == acc_device_host || type == acc_device_none;
 }

@@ -349,5 +349,6 @@ LWA_EXPORT void GOACC_parallel(int flags, kernel_function *run, size_t count, vo
 {
     (void)flags;
     (void)count;
+    lwa_check_first("compute construct", LWA_FROM);
     run(at);
 }

@@ -63,7 +63,10 @@ void lwa_check_environment(void)
     if (!lwa_shadow && lwa_named_type() == acc_device_none) {
         lwa_unserved("ACC_DEVICE_TYPE is '%s', and may be host, not_host, nvidia or radeon", getenv("ACC_DEVICE_TYPE"));
     }
-    lwa_number_of("ACC_DEVICE_NUM", "number of a device", 0);
+    if (lwa_number_of("ACC_DEVICE_NUM", "number of a device", 0) >= LWA_DEVICES && !lwa_shadow) {
+        lwa_unserved("there is no device of the number %s; the last one is %d", getenv("ACC_DEVICE_NUM"),
+                     LWA_DEVICES - 1);
+    }
 }
 
 bool lwa_is_on(const char *variable)

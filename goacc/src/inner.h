@@ -141,6 +141,9 @@ void lwa_take_for(const char *name, void *from, int event, int construct);
 #define lwa_take(name, from) lwa_take_for(name, from, acc_ev_none, acc_construct_runtime_api)
 void lwa_leave(void);
 
+/* The same for a call that needs neither: where it is the first of the program it checks the environment. */
+void lwa_check_first(const char *name, void *from);
+
 /* Goes on with another device, whose table is made where there is none. */
 void lwa_go_to(unsigned device);
 
@@ -462,6 +465,7 @@ void *lwa_next(const char *name);
 #define LWA_LIST(...) __VA_ARGS__
 #define LWA_PASS(when, name, ...) \
     if (when) { \
+        lwa_check_first(#name, LWA_FROM); \
         return LWA_NEXT(name)(__VA_ARGS__); \
     }
 

@@ -115,14 +115,17 @@ LWA_EXPORT void acc_register_library(acc_prof_reg reg, acc_prof_reg unreg, acc_p
 
 static void find_tools(void)
 {
+    in_tool = true;
     acc_register_library(acc_prof_register, acc_prof_unregister, acc_prof_lookup);
+    in_tool = false;
 }
 
+/* A tool may call routines while it is found, which do not look for it again. */
 void lwa_find_tools(void)
 {
     static pthread_once_t once = PTHREAD_ONCE_INIT;
 
-    if (!lwa_shadow) {
+    if (!lwa_shadow && !in_tool) {
         pthread_once(&once, find_tools);
     }
 }

@@ -43,26 +43,36 @@ _Thread_local bool lwa_in_kernel;
 /* A signal handler of the program has called, and may have interrupted what reads the program's lines. */
 static _Thread_local bool in_handler;
 
+/* Some call of the program has checked the environment. */
+static _Atomic bool is_checked;
+
 lw_table *lwa_table(void)
 {
     return &tables[lwa_on];
 }
 
-static void start_table(void)
+/* Makes a table of the sizes that the environment has. */
+static void make_table(lw_table *table)
 {
     char text[LWA_REFUSAL];
-    lw_fault fault;
+    lw_fault fault = {.status = LW_BAD_CONFIG};
 
     lwa_limits = (lw_limits)LW_LIMITS;
     lwa_limits.host = lwa_number_of("LAMWIEST_HOST", "number of bytes", 16777216);
     lwa_limits.device = lwa_number_of("LAMWIEST_DEVICE", "number of bytes", 16777216);
     lwa_limits.regions = 65536;
     lwa_limits.trace_cap = TRACE;
-    if (lw_table_new(lwa_table(), &lwa_limits, &fault) != LW_DONE) {
+    /* Of a 0 the table would have a size of its own. */
+    if (lwa_limits.host == 0 || lwa_limits.device == 0 || lw_table_new(table, &lwa_limits, &fault) != LW_DONE) {
         lwa_refusal_text(&fault, text);
         lwa_unserved("%s, LAMWIEST_HOST is %" PRIu64 ", LAMWIEST_DEVICE is %" PRIu64, text, lwa_limits.host,
                      lwa_limits.device);
     }
+}
+
+static void start_table(void)
+{
+    make_table(lwa_table());
     stored[lwa_on] = 0;
     lwa_start_script();
     lwa_start_log();
@@ -123,12 +133,9 @@ static void sleep_for_good(void)
     }
 }
 
-void lwa_take_for(const char *name, void *from, int event, int construct)
+/* Takes the lock for a call of the program, of which the first one checks the environment. */
+static void begin(const char *name, void *from, int event, int construct)
 {
-    static bool is_checked;
-
-    lwa_find_tools();
-    lwa_tell(event, construct);
     caller.name = name;
     caller.from = from;
     caller.event = event;
@@ -151,27 +158,51 @@ void lwa_take_for(const char *name, void *from, int event, int construct)
         is_checked = true;
         lwa_check_environment();
     }
+}
+
+void lwa_take_for(const char *name, void *from, int event, int construct)
+{
+    lwa_find_tools();
+    lwa_tell(event, construct);
+    begin(name, from, event, construct);
     lwa_go_to(lwa_chosen_device());
     lwa_report_if_asked();
 }
 
-void lwa_leave(void)
+/* The sizes are checked by a table that is made of them, and ends at once. */
+void lwa_check_first(const char *name, void *from)
 {
-    LWA_CHECK(lwa_keep_pages());
-    free_lock();
-    pthread_setcancelstate(caller.cancel_state, NULL);
-    lwa_tell_notes(caller.construct);
-    if (caller.event != acc_ev_none) {
-        lwa_tell(caller.event + 1, caller.construct);
+    if (!is_checked) {
+        lw_table table = LW_NO_TABLE;
+
+        begin(name, from, acc_ev_none, acc_construct_runtime_api);
+        make_table(&table);
+        lw_table_end(&table);
+        lwa_leave();
     }
 }
 
-/* A function of the host may call what it likes. Blocks are brought back also where another thread ends the program,
-   which may wait for them. */
+/* A tool may call routines, each of which is a caller of its own. */
+void lwa_leave(void)
+{
+    const __typeof__(caller) outer = caller;
+
+    LWA_CHECK(lwa_keep_pages());
+    free_lock();
+    pthread_setcancelstate(outer.cancel_state, NULL);
+    lwa_tell_notes(outer.construct);
+    if (outer.event != acc_ev_none) {
+        lwa_tell(outer.event + 1, outer.construct);
+    }
+}
+
+/* A function of the host may call what it likes, and a tool too, on another device also. Blocks are brought back also
+   where another thread ends the program, which may wait for them. */
 void lwa_run_free(void (*run)(void *), void *addresses, bool on_device)
 {
     const int event = on_device ? acc_ev_enqueue_launch_start : acc_ev_none;
     const __typeof__(caller) outer = caller;
+    const unsigned device = lwa_on;
 
     free_lock();
     lwa_tell_notes(outer.construct);
@@ -186,6 +217,7 @@ void lwa_run_free(void (*run)(void *), void *addresses, bool on_device)
     lwa_in_kernel = lwa_in_runtime = false;
     lwa_tell(on_device ? event + 1 : event, outer.construct);
     caller = outer;
+    lwa_on = device;
     take_lock();
     lwa_turn++;
     if (on_device && !has_table()) {

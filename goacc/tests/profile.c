@@ -1,4 +1,5 @@
-/* Chapter 5: tools are told the events of directives, kernels, memory, copies and waits, in their order. */
+/* Chapter 5: tools are told the events of directives, kernels, memory, copies and waits, in their order. One that asks
+   for another device at an event is told those behind it all the same. */
 #include "show.h"
 
 #include <acc_prof.h>
@@ -20,6 +21,9 @@ static void tell(acc_prof_info *info, acc_event_info *event, acc_api_info *api)
     printf("  %s", names[type]);
     if (is_data && event->data_event.host_ptr == a && event->data_event.device_ptr != a) {
         printf(" of a: %d", (int)event->data_event.bytes);
+    }
+    if (is_data || type == acc_ev_enqueue_launch_start) {
+        acc_get_property(1, acc_device_not_host, acc_property_memory);
     }
     printf("%s\n", event->event_type == type && api->device_type == acc_device_not_host ? "" : ", wrong");
 }

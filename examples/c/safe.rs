@@ -42,10 +42,7 @@ fn run() -> Result<(), Refused> {
     }
     let update = Directive::Update { if_present: false, asynchronous: Async::Sync };
     for (name, directive, clause) in [("data", Directive::Data, Clause::Copy), ("update", update, Clause::ToSelf)] {
-        match table.judge(0, directive, &[a.item(clause)]) {
-            Ok(()) => println!("judged {name}: done"),
-            Err(refused) => println!("judged {name}: refused {refused}"),
-        }
+        tell(&format!("judged {name}"), table.judge(0, directive, &[a.item(clause)]));
     }
     println!("copies made: {}", table.carry_out(1, Directive::Wait(None), &[])?);
     println!("{:?} {:?}", table.read(a)?, table.read(b)?);
@@ -65,8 +62,24 @@ fn run() -> Result<(), Refused> {
     Ok(())
 }
 
+fn tell<T>(what: &str, made: Result<T, Refused>) {
+    match made {
+        Ok(_) => println!("{what}: done"),
+        Err(refused) => println!("{what}: refused {refused}"),
+    }
+}
+
+/// Sections that are not in host memory, however far behind it.
+fn far_sections() -> Result<(), Refused> {
+    let mut table = Table::new(Limits::default())?;
+    let a = table.array::<f64>(4)?;
+    tell("part that wraps", table.region(0, &[a.part(usize::MAX / 8 + 1, 1).item(Clause::Copy)]));
+    tell("part of the last address", table.region(0, &[a.part(usize::MAX, 1).item(Clause::Copy)]));
+    Ok(())
+}
+
 fn main() -> ExitCode {
-    match run() {
+    match run().and_then(|()| far_sections()) {
         Ok(()) => ExitCode::SUCCESS,
         Err(refused) => {
             eprintln!("safe: refused {refused}");

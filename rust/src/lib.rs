@@ -190,9 +190,10 @@ impl<E: Element> Span<E> {
         self.count == 0
     }
 
-    /// The elements `[first:count]` of these.
+    /// The elements `[first:count]` of these. Behind the last host address they are refused as those of [`Span::at`].
     pub fn part(&self, first: usize, count: usize) -> Span<E> {
-        Span::at(self.start + (first * size_of::<E>()) as u64, count)
+        let before = first.saturating_mul(size_of::<E>()) as u64;
+        Span::at(self.start.saturating_add(before), count)
     }
 
     /// The item of a data clause that names these.

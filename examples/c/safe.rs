@@ -12,7 +12,7 @@
 //! }
 //! ```
 
-use lamwiest::{Async, Clause, Directive, Limits, Refused, Table};
+use lamwiest::{Async, Clause, Directive, Limits, Refused, Span, Table};
 use std::process::ExitCode;
 
 fn run() -> Result<(), Refused> {
@@ -75,6 +75,11 @@ fn far_sections() -> Result<(), Refused> {
     let a = table.array::<f64>(4)?;
     tell("part that wraps", table.region(0, &[a.part(usize::MAX / 8 + 1, 1).item(Clause::Copy)]));
     tell("part of the last address", table.region(0, &[a.part(usize::MAX, 1).item(Clause::Copy)]));
+    for count in [8_192, 8_193, 1 << 44, usize::MAX] {
+        let section = Span::<u64>::at(a.start(), count);
+        tell(&format!("read {count}"), table.read(section));
+        tell(&format!("on the device {count}"), table.read_device(0, section));
+    }
     Ok(())
 }
 

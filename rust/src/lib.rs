@@ -368,18 +368,37 @@ impl Table {
         Ok(())
     }
 
-    /// What the host has.
+    /// The limits that it has.
+    fn limits(&mut self) -> raw::Limits {
+        let mut limits = Limits::default().raw();
+        // SAFETY: as `Table` tells.
+        unsafe { raw::lw_limits_of(&mut self.0, &mut limits) };
+        limits
+    }
+
+    /// Elements to read so many into. More than host memory has are as many as make the read refused.
+    fn elements<E: Element>(&mut self, count: usize) -> Result<Vec<E>, Refused> {
+        let count = count.min(self.limits().host as usize / size_of::<E>().max(1) + 1);
+        let mut elements = Vec::new();
+        if elements.try_reserve_exact(count).is_err() {
+            return Err(Refused { status: raw::MEMORY, item: 0, value: 0 });
+        }
+        elements.resize(count, E::default());
+        Ok(elements)
+    }
+
+    /// What the host has. It is `Memory` where there is none for it.
     pub fn read<E: Element>(&mut self, from: Span<E>) -> Result<Vec<E>, Refused> {
-        let mut elements = vec![E::default(); from.count];
+        let mut elements = self.elements::<E>(from.count)?;
         let (bytes, len) = (elements.as_mut_ptr().cast(), mem::size_of_val(&elements[..]));
         // SAFETY: as `Table` tells.
         made(|_, fault| unsafe { raw::lw_host_read(&mut self.0, from.start, bytes, len, fault) })?;
         Ok(elements)
     }
 
-    /// What a device has of them. It is `Absent` where they are not mapped, or lent.
+    /// What a device has of them. It is `Absent` where they are not mapped, or lent, and `Memory` as [`Table::read`].
     pub fn read_device<E: Element>(&mut self, device: u64, from: Span<E>) -> Result<Vec<E>, Refused> {
-        let mut elements = vec![E::default(); from.count];
+        let mut elements = self.elements::<E>(from.count)?;
         let (bytes, len) = (elements.as_mut_ptr().cast(), mem::size_of_val(&elements[..]));
         // SAFETY: as `Table` tells.
         made(|_, fault| unsafe { raw::lw_device_read(&mut self.0, device, from.start, bytes, len, fault) })?;

@@ -83,6 +83,7 @@ pub const WAITED: u32 = 6;
 
 pub const VERSION: u32 = 2005;
 pub const DONE: u32 = 0;
+pub const MEMORY: u32 = 1;
 pub const BAD_LENGTH: u32 = 34;
 pub const FAULT_TEXT_SIZE: usize = 66;
 pub const NO_QUEUE_GIVEN: u64 = u64::MAX;
@@ -175,6 +176,7 @@ extern "C" {
         fault: &mut Fault,
     ) -> u32;
     pub fn lw_gather(table: &mut Table, lease: u64, fault: &mut Fault) -> u32;
+    pub fn lw_limits_of(table: &mut Table, limits: &mut Limits) -> u32;
     pub fn lw_report(table: &mut Table, buffer: *mut c_char, size: usize, len: &mut u64, fault: &mut Fault) -> u32;
     pub fn lw_script(
         limits: &Limits,

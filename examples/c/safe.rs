@@ -13,6 +13,7 @@
 //! ```
 
 use lamwiest::{Async, Clause, Directive, Limits, Refused, Span, Table};
+use std::panic::{self, AssertUnwindSafe};
 use std::process::ExitCode;
 
 fn run() -> Result<(), Refused> {
@@ -83,8 +84,39 @@ fn far_sections() -> Result<(), Refused> {
     Ok(())
 }
 
+/// A kernel runs only where there is room for both its events. What it leaves lent comes back.
+fn lent_blocks() -> Result<(), Refused> {
+    let mut table = Table::new(Limits { trace_cap: 2, ..Limits::default() })?;
+    let a = table.array::<u8>(1)?;
+    let mut region = table.region(0, &[a.item(Clause::Copy)])?;
+    let mut kernels = 0;
+    tell("kernel with room for one event", region.run(a, |_| kernels += 1));
+    println!("kernels: {kernels}, events folded: {}", region.rebase()?);
+    tell("kernel with room for two", region.run(a, |a| a[0] = 7));
+    println!("events folded: {}", region.rebase()?);
+    let panicked = panic::catch_unwind(AssertUnwindSafe(|| {
+        region.run(a, |a| {
+            a[0] += 1;
+            panic::resume_unwind(Box::new("no message"));
+        })
+    }));
+    println!("panicked: {}", panicked.is_err());
+    tell("copy", region.try_clone());
+    println!("events folded: {}", region.rebase()?);
+    tell("exit", region.exit());
+    println!("{:?}", table.read(a)?);
+
+    let mut table = Table::new(Limits { tickets: 2, ..Limits::default() })?;
+    let a = table.array::<u8>(1)?;
+    let mut region = table.region(0, &[a.item(Clause::Copy)])?;
+    tell("kernel with one ticket", region.run(a, |a| a[0] = 7));
+    tell("exit", region.exit());
+    println!("{:?}", table.read(a)?);
+    Ok(())
+}
+
 fn main() -> ExitCode {
-    match run().and_then(|()| far_sections()) {
+    match run().and_then(|()| far_sections()).and_then(|()| lent_blocks()) {
         Ok(()) => ExitCode::SUCCESS,
         Err(refused) => {
             eprintln!("safe: refused {refused}");

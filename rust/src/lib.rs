@@ -2,7 +2,7 @@
 //!
 //! A [`Table`] is host memory and the memories of devices, with what is mapped between them. A [`Region`] borrows its
 //! table, so no table ends and no region is exited too early; it is the table, too, for calls within it. A call that is
-//! refused returns [`Refused`], and changes nothing.
+//! refused returns [`Refused`], and changes nothing, unless [`Region::run`] tells so.
 //!
 //! ```no_run
 //! use lamwiest::{Clause, Limits, Table};
@@ -335,8 +335,8 @@ impl Table {
     }
 
     /// A copy, with the trace, which goes its own way from then on. A region that is open in it has no [`Region`]: it
-    /// stays open until the copy ends or begins anew. It is `Lent` where a block stayed lent, since its kernel panicked
-    /// or was refused at its end. Else it is `Memory`, where there is none for it.
+    /// stays open until the copy ends or begins anew. It is `Lent` while a block is lent that [`Region::run`] did not
+    /// bring back. Else it is `Memory`, where there is none for it.
     pub fn try_clone(&mut self) -> Result<Table, Refused> {
         let mut copy = Table(raw::Table::NONE);
         // SAFETY: as `Table` tells.
@@ -374,6 +374,22 @@ impl Table {
         // SAFETY: as `Table` tells.
         unsafe { raw::lw_limits_of(&mut self.0, &mut limits) };
         limits
+    }
+
+    /// What the second of two events is refused for, where there are no tickets or is no room in the trace for both.
+    fn check_two_events(&mut self) -> Result<(), Refused> {
+        let mut left = raw::LeftOver::default();
+        // SAFETY: as `Table` tells.
+        unsafe { raw::lw_left(&mut self.0, &mut left) };
+        if left.tickets < 2 {
+            return Err(Refused { status: raw::NO_TICKETS, item: 0, value: 0 });
+        }
+        let most = self.limits().trace_cap;
+        // SAFETY: as `Table` tells. There is room for two while the last place but one has no event.
+        if most < 2 || unsafe { raw::lw_event(&mut self.0, most - 2, &mut raw::Event::default()) } == raw::DONE {
+            return Err(Refused { status: raw::TRACE_FULL, item: 0, value: most });
+        }
+        Ok(())
     }
 
     /// Elements to read so many into. More than host memory has are as many as make the read refused.
@@ -504,7 +520,7 @@ impl Table {
         let number = made(|number, fault| unsafe {
             raw::lw_enter(&mut self.0, device, first, count, number, fault)
         })?;
-        Ok(Region { table: self, number })
+        Ok(Region { table: self, number, lease: None })
     }
 }
 
@@ -536,32 +552,51 @@ unsafe fn run_on<E: Element, T>(at: *mut E, count: usize, kernel: impl FnOnce(&m
 pub struct Region<'table> {
     table: &'table mut Table,
     number: u64,
+    lease: Option<u64>,
 }
 
 impl Region<'_> {
     /// Runs a kernel on the device's elements of a section (section 2.5), and returns what it returns. It reaches them
-    /// where they lie, or in a copy where they are not aligned as elements are. After a kernel that panics they stay
-    /// lent until the table ends or begins anew.
+    /// where they lie, or in a copy where they are not aligned as elements are. Their block is lent and brought back,
+    /// which are two events: without tickets or room in the trace for both the kernel does not run.
+    ///
+    /// Behind the kernel it can be `Memory` alone. Then what the kernel wrote is kept, and what it returned is not. The
+    /// block stays lent, as after a kernel that panics. The next `run` or the exit brings it back first.
     pub fn run<E: Element, T>(
         &mut self,
         section: Span<E>,
         kernel: impl FnOnce(&mut [E]) -> T,
     ) -> Result<T, Refused> {
+        self.bring_back()?;
+        self.table.check_two_events()?;
         let table = &mut self.table.0;
         let mut bytes = ptr::null_mut();
         // SAFETY: as `Table` tells.
         let lease = made(|lease, fault| unsafe {
             raw::lw_lend(table, self.number, section.start, section.len(), lease, fault)
         })?;
+        self.lease = Some(lease);
+        // SAFETY: as `Table` tells.
         made(|len, fault| unsafe { raw::lw_lease_bytes(table, lease, &mut bytes, len, fault) })?;
         // SAFETY: at the address lie the bytes of so many elements. The region is borrowed, so no call is made until
         // the kernel returns, and no one else reaches them.
         let answer = unsafe { run_on(bytes.cast(), section.count, kernel) };
-        made(|_, fault| unsafe { raw::lw_gather(table, lease, fault) })?;
+        self.bring_back()?;
         Ok(answer)
     }
 
-    /// The end of the construct. To drop the region is the same, without a word where that is refused.
+    /// Brings the block back that a kernel was lent, if it is out. Where that is refused it stays lent.
+    fn bring_back(&mut self) -> Result<(), Refused> {
+        if let Some(lease) = self.lease {
+            // SAFETY: as `Table` tells.
+            made(|_, fault| unsafe { raw::lw_gather(&mut self.table.0, lease, fault) })?;
+            self.lease = None;
+        }
+        Ok(())
+    }
+
+    /// The end of the construct. To drop the region is the same, without a word where that is refused. Then it stays
+    /// open until the table ends or begins anew.
     pub fn exit(mut self) -> Result<(), Refused> {
         let exited = self.try_exit();
         mem::forget(self);
@@ -569,6 +604,7 @@ impl Region<'_> {
     }
 
     fn try_exit(&mut self) -> Result<(), Refused> {
+        self.bring_back()?;
         // SAFETY: as `Table` tells.
         made(|_, fault| unsafe { raw::lw_exit(&mut self.table.0, self.number, fault) })?;
         Ok(())

@@ -112,6 +112,8 @@ fn lent_blocks() -> Result<(), Refused> {
     tell("kernel with one ticket", region.run(a, |a| a[0] = 7));
     tell("exit", region.exit());
     println!("{:?}", table.read(a)?);
+    table.reset()?;
+    println!("begun anew: {}", table.array::<u8>(1)?.start() == a.start());
     Ok(())
 }
 

@@ -4,7 +4,9 @@ use std::env;
 use std::process::Command;
 
 fn main() {
-    println!("cargo:rerun-if-env-changed=LAMWIEST_LIB");
+    for name in ["LAMWIEST_LIB", "PKG_CONFIG_PATH", "PKG_CONFIG_LIBDIR"] {
+        println!("cargo:rerun-if-env-changed={name}");
+    }
     if let Ok(folder) = env::var("LAMWIEST_LIB") {
         println!("cargo:rustc-link-search=native={folder}");
         return;

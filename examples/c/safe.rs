@@ -12,7 +12,8 @@
 //! }
 //! ```
 
-use lamwiest::{Async, Clause, Directive, Limits, Refused, Table};
+use lamwiest::{Async, Clause, Directive, Limits, Refused, Span, Table};
+use std::panic::{self, AssertUnwindSafe};
 use std::process::ExitCode;
 
 fn run() -> Result<(), Refused> {
@@ -42,10 +43,7 @@ fn run() -> Result<(), Refused> {
     }
     let update = Directive::Update { if_present: false, asynchronous: Async::Sync };
     for (name, directive, clause) in [("data", Directive::Data, Clause::Copy), ("update", update, Clause::ToSelf)] {
-        match table.judge(0, directive, &[a.item(clause)]) {
-            Ok(()) => println!("judged {name}: done"),
-            Err(refused) => println!("judged {name}: refused {refused}"),
-        }
+        tell(&format!("judged {name}"), table.judge(0, directive, &[a.item(clause)]));
     }
     println!("copies made: {}", table.carry_out(1, Directive::Wait(None), &[])?);
     println!("{:?} {:?}", table.read(a)?, table.read(b)?);
@@ -65,8 +63,62 @@ fn run() -> Result<(), Refused> {
     Ok(())
 }
 
+fn tell<T>(what: &str, made: Result<T, Refused>) {
+    match made {
+        Ok(_) => println!("{what}: done"),
+        Err(refused) => println!("{what}: refused {refused}"),
+    }
+}
+
+/// Sections that are not in host memory, however far behind it.
+fn far_sections() -> Result<(), Refused> {
+    let mut table = Table::new(Limits::default())?;
+    let a = table.array::<f64>(4)?;
+    tell("part that wraps", table.region(0, &[a.part(usize::MAX / 8 + 1, 1).item(Clause::Copy)]));
+    tell("part of the last address", table.region(0, &[a.part(usize::MAX, 1).item(Clause::Copy)]));
+    for count in [8_192, 8_193, 1 << 44, usize::MAX] {
+        let section = Span::<u64>::at(a.start(), count);
+        tell(&format!("read {count}"), table.read(section));
+        tell(&format!("on the device {count}"), table.read_device(0, section));
+    }
+    Ok(())
+}
+
+/// A kernel runs only where there is room for both its events. What it leaves lent comes back.
+fn lent_blocks() -> Result<(), Refused> {
+    let mut table = Table::new(Limits { trace_cap: 2, ..Limits::default() })?;
+    let a = table.array::<u8>(1)?;
+    let mut region = table.region(0, &[a.item(Clause::Copy)])?;
+    let mut kernels = 0;
+    tell("kernel with room for one event", region.run(a, |_| kernels += 1));
+    println!("kernels: {kernels}, events folded: {}", region.rebase()?);
+    tell("kernel with room for two", region.run(a, |a| a[0] = 7));
+    println!("events folded: {}", region.rebase()?);
+    let panicked = panic::catch_unwind(AssertUnwindSafe(|| {
+        region.run(a, |a| {
+            a[0] += 1;
+            panic::resume_unwind(Box::new("no message"));
+        })
+    }));
+    println!("panicked: {}", panicked.is_err());
+    tell("copy", region.try_clone());
+    println!("events folded: {}", region.rebase()?);
+    tell("exit", region.exit());
+    println!("{:?}", table.read(a)?);
+
+    let mut table = Table::new(Limits { tickets: 2, ..Limits::default() })?;
+    let a = table.array::<u8>(1)?;
+    let mut region = table.region(0, &[a.item(Clause::Copy)])?;
+    tell("kernel with one ticket", region.run(a, |a| a[0] = 7));
+    tell("exit", region.exit());
+    println!("{:?}", table.read(a)?);
+    table.reset()?;
+    println!("begun anew: {}", table.array::<u8>(1)?.start() == a.start());
+    Ok(())
+}
+
 fn main() -> ExitCode {
-    match run() {
+    match run().and_then(|()| far_sections()).and_then(|()| lent_blocks()) {
         Ok(()) => ExitCode::SUCCESS,
         Err(refused) => {
             eprintln!("safe: refused {refused}");

@@ -1,8 +1,8 @@
 //! Lamwiest, the data environment of an OpenACC 3.3 runtime, in safe Rust over the library for C.
 //!
 //! A [`Table`] is host memory and the memories of devices, with what is mapped between them. A [`Region`] borrows its
-//! table, so no table ends and no region is exited too early; it is the table, too, for calls within it. A call that is
-//! refused returns [`Refused`], and changes nothing.
+//! table, so no table ends and no region is exited too early; it has the [`Calls`] of its table, for those within it. A
+//! call that is refused returns [`Refused`], and changes nothing, unless [`Region::run`] tells so.
 //!
 //! ```no_run
 //! use lamwiest::{Clause, Limits, Table};
@@ -42,7 +42,7 @@ pub struct Limits {
     pub counter_max: u64,
     /// How many transfers may wait in one queue: up to 4,096; by default 256.
     pub queue_cap: u64,
-    /// How many events the stored trace may have until [`Table::rebase`]: up to 16,777,216; by default 262,144.
+    /// How many events the stored trace may have until [`Calls::rebase`]: up to 16,777,216; by default 262,144.
     pub trace_cap: u64,
     /// How many devices there are: up to 4; by default 1.
     pub devices: u64,
@@ -190,9 +190,10 @@ impl<E: Element> Span<E> {
         self.count == 0
     }
 
-    /// The elements `[first:count]` of these.
+    /// The elements `[first:count]` of these. Behind the last host address they are refused as those of [`Span::at`].
     pub fn part(&self, first: usize, count: usize) -> Span<E> {
-        Span::at(self.start + (first * size_of::<E>()) as u64, count)
+        let before = first.saturating_mul(size_of::<E>()) as u64;
+        Span::at(self.start.saturating_add(before), count)
     }
 
     /// The item of a data clause that names these.
@@ -320,33 +321,80 @@ fn raw_items(items: &[Item]) -> *const raw::Item {
 
 /// Host memory and the memories of devices, with what is mapped between them. It ends when it is dropped.
 ///
-/// Each call below is safe: the handle is the table's own and is borrowed for the call alone, and arrays are passed
-/// with their own lengths. All else that can be wrong is a [`Refused`].
-pub struct Table(raw::Table);
+/// Its calls are those of [`Calls`], and these.
+pub struct Table(Calls<[(); 0]>);
 
 impl Table {
+    /// A handle that has no table.
+    const NONE: Table = Table(Calls(raw::Table::NONE, []));
+
     /// A new table, on which nothing is mapped.
     pub fn new(limits: Limits) -> Result<Table, Refused> {
-        let mut table = Table(raw::Table::NONE);
-        // SAFETY: as `Table` tells.
-        made(|_, fault| unsafe { raw::lw_table_new(&mut table.0, &limits.raw(), fault) })?;
+        let mut table = Table::NONE;
+        // SAFETY: as `Calls` tells.
+        made(|_, fault| unsafe { raw::lw_table_new(&mut table.0 .0, &limits.raw(), fault) })?;
         Ok(table)
     }
 
+    /// Begins anew, with the limits that it has. Spans of before have no addresses then.
+    pub fn reset(&mut self) -> Result<(), Refused> {
+        // SAFETY: as `Calls` tells.
+        made(|_, fault| unsafe { raw::lw_table_reset(&mut self.0 .0, fault) })?;
+        Ok(())
+    }
+}
+
+impl Deref for Table {
+    type Target = Calls;
+
+    fn deref(&self) -> &Calls {
+        &self.0
+    }
+}
+
+impl DerefMut for Table {
+    fn deref_mut(&mut self) -> &mut Calls {
+        &mut self.0
+    }
+}
+
+/// The calls of a [`Table`], and of a [`Region`] within it. A region gives no one its table, so that it does not end or
+/// begin anew too early:
+///
+/// ```compile_fail,E0599
+/// # let mut table = lamwiest::Table::new(lamwiest::Limits::default())?;
+/// table.region(0, &[])?.reset()?;
+/// # Ok::<(), lamwiest::Refused>(())
+/// ```
+///
+/// The type is unsized, so no other table takes its place either:
+///
+/// ```compile_fail,E0277
+/// # let mut table = lamwiest::Table::new(lamwiest::Limits::default())?;
+/// # let mut other = lamwiest::Table::new(lamwiest::Limits::default())?;
+/// std::mem::swap(&mut *table.region(0, &[])?, &mut *other);
+/// # Ok::<(), lamwiest::Refused>(())
+/// ```
+///
+/// Each call is safe: the handle is the table's own and is borrowed for the call alone, and arrays are passed with
+/// their own lengths. All else that can be wrong is a [`Refused`].
+pub struct Calls<S: ?Sized = [()]>(raw::Table, S);
+
+impl Calls {
     /// A copy, with the trace, which goes its own way from then on. A region that is open in it has no [`Region`]: it
-    /// stays open until the copy ends or begins anew. It is `Lent` where a block stayed lent, since its kernel panicked
-    /// or was refused at its end. Else it is `Memory`, where there is none for it.
+    /// stays open until the copy ends or begins anew. It is `Lent` while a block is lent that [`Region::run`] did not
+    /// bring back. Else it is `Memory`, where there is none for it.
     pub fn try_clone(&mut self) -> Result<Table, Refused> {
-        let mut copy = Table(raw::Table::NONE);
-        // SAFETY: as `Table` tells.
-        made(|_, fault| unsafe { raw::lw_table_copy(&mut self.0, &mut copy.0, fault) })?;
+        let mut copy = Table::NONE;
+        // SAFETY: as `Calls` tells.
+        made(|_, fault| unsafe { raw::lw_table_copy(&mut self.0, &mut copy.0 .0, fault) })?;
         Ok(copy)
     }
 
     /// Whether another table has the same limits, and the same in all memories and on record. Their traces may differ.
     /// It is `Memory` where there is none for a copy of both.
-    pub fn is_same_as(&mut self, other: &mut Table) -> Result<bool, Refused> {
-        // SAFETY: as `Table` tells.
+    pub fn is_same_as(&mut self, other: &mut Calls) -> Result<bool, Refused> {
+        // SAFETY: as `Calls` tells.
         let same = made(|same, fault| unsafe { raw::lw_table_same(&mut self.0, &mut other.0, same, fault) })?;
         Ok(same != 0)
     }
@@ -354,7 +402,7 @@ impl Table {
     /// Host addresses for an array.
     pub fn array<E: Element>(&mut self, count: usize) -> Result<Span<E>, Refused> {
         let len = Span::<E>::at(0, count).len();
-        // SAFETY: as `Table` tells.
+        // SAFETY: as `Calls` tells.
         let start = made(|start, fault| unsafe { raw::lw_array(&mut self.0, len, start, fault) })?;
         Ok(Span::at(start, count))
     }
@@ -362,25 +410,60 @@ impl Table {
     /// The host writes elements, as many as these are, from the first on.
     pub fn write<E: Element>(&mut self, to: Span<E>, elements: &[E]) -> Result<(), Refused> {
         let (bytes, len) = (elements.as_ptr().cast(), mem::size_of_val(elements));
-        // SAFETY: as `Table` tells.
+        // SAFETY: as `Calls` tells.
         made(|_, fault| unsafe { raw::lw_host_write(&mut self.0, to.start, bytes, len, fault) })?;
         Ok(())
     }
 
-    /// What the host has.
+    /// The limits that it has.
+    fn limits(&mut self) -> raw::Limits {
+        let mut limits = Limits::default().raw();
+        // SAFETY: as `Calls` tells.
+        unsafe { raw::lw_limits_of(&mut self.0, &mut limits) };
+        limits
+    }
+
+    /// What the second of two events is refused for, where there are no tickets or is no room in the trace for both.
+    fn check_two_events(&mut self) -> Result<(), Refused> {
+        let mut left = raw::LeftOver::default();
+        // SAFETY: as `Calls` tells.
+        unsafe { raw::lw_left(&mut self.0, &mut left) };
+        if left.tickets < 2 {
+            return Err(Refused { status: raw::NO_TICKETS, item: 0, value: 0 });
+        }
+        let most = self.limits().trace_cap;
+        // SAFETY: as `Calls` tells. There is room for two while the last place but one has no event.
+        if most < 2 || unsafe { raw::lw_event(&mut self.0, most - 2, &mut raw::Event::default()) } == raw::DONE {
+            return Err(Refused { status: raw::TRACE_FULL, item: 0, value: most });
+        }
+        Ok(())
+    }
+
+    /// Elements to read so many into. More than host memory has are as many as make the read refused.
+    fn elements<E: Element>(&mut self, count: usize) -> Result<Vec<E>, Refused> {
+        let count = count.min(self.limits().host as usize / size_of::<E>().max(1) + 1);
+        let mut elements = Vec::new();
+        if elements.try_reserve_exact(count).is_err() {
+            return Err(Refused { status: raw::MEMORY, item: 0, value: 0 });
+        }
+        elements.resize(count, E::default());
+        Ok(elements)
+    }
+
+    /// What the host has. It is `Memory` where there is none for it.
     pub fn read<E: Element>(&mut self, from: Span<E>) -> Result<Vec<E>, Refused> {
-        let mut elements = vec![E::default(); from.count];
+        let mut elements = self.elements::<E>(from.count)?;
         let (bytes, len) = (elements.as_mut_ptr().cast(), mem::size_of_val(&elements[..]));
-        // SAFETY: as `Table` tells.
+        // SAFETY: as `Calls` tells.
         made(|_, fault| unsafe { raw::lw_host_read(&mut self.0, from.start, bytes, len, fault) })?;
         Ok(elements)
     }
 
-    /// What a device has of them. It is `Absent` where they are not mapped, or lent.
+    /// What a device has of them. It is `Absent` where they are not mapped, or lent, and `Memory` as [`Calls::read`].
     pub fn read_device<E: Element>(&mut self, device: u64, from: Span<E>) -> Result<Vec<E>, Refused> {
-        let mut elements = vec![E::default(); from.count];
+        let mut elements = self.elements::<E>(from.count)?;
         let (bytes, len) = (elements.as_mut_ptr().cast(), mem::size_of_val(&elements[..]));
-        // SAFETY: as `Table` tells.
+        // SAFETY: as `Calls` tells.
         made(|_, fault| unsafe { raw::lw_device_read(&mut self.0, device, from.start, bytes, len, fault) })?;
         Ok(elements)
     }
@@ -388,7 +471,7 @@ impl Table {
     /// Carries out `enter data` (section 2.6.6).
     pub fn enter_data(&mut self, device: u64, items: &[Item], asynchronous: Async) -> Result<(), Refused> {
         let (first, count) = (raw_items(items), items.len());
-        // SAFETY: as `Table` tells.
+        // SAFETY: as `Calls` tells.
         made(|_, fault| unsafe {
             raw::lw_enter_data(&mut self.0, device, first, count, asynchronous.raw(), fault)
         })?;
@@ -404,7 +487,7 @@ impl Table {
         asynchronous: Async,
     ) -> Result<(), Refused> {
         let (first, count, finalize) = (raw_items(items), items.len(), u32::from(finalize));
-        // SAFETY: as `Table` tells.
+        // SAFETY: as `Calls` tells.
         made(|_, fault| unsafe {
             raw::lw_exit_data(&mut self.0, device, first, count, finalize, asynchronous.raw(), fault)
         })?;
@@ -420,7 +503,7 @@ impl Table {
         asynchronous: Async,
     ) -> Result<(), Refused> {
         let (first, count, if_present) = (raw_items(items), items.len(), u32::from(if_present));
-        // SAFETY: as `Table` tells.
+        // SAFETY: as `Calls` tells.
         made(|_, fault| unsafe {
             raw::lw_update(&mut self.0, device, first, count, if_present, asynchronous.raw(), fault)
         })?;
@@ -430,38 +513,31 @@ impl Table {
     /// Makes all copies of a queue of a device, or those of all its queues, and returns how many they were.
     pub fn wait(&mut self, device: u64, queue: Option<u32>) -> Result<u64, Refused> {
         let queue = queue.map_or(raw::NO_QUEUE_GIVEN, u64::from);
-        // SAFETY: as `Table` tells.
+        // SAFETY: as `Calls` tells.
         made(|count, fault| unsafe { raw::lw_wait(&mut self.0, device, queue, count, fault) })
     }
 
     /// Judges a directive, and does not carry it out: it is refused for what its call would be. A wait has no items.
     pub fn judge(&mut self, device: u64, directive: Directive, items: &[Item]) -> Result<(), Refused> {
         let (asked, first, count) = (directive.raw(device), raw_items(items), items.len());
-        // SAFETY: as `Table` tells.
+        // SAFETY: as `Calls` tells.
         made(|_, fault| unsafe { raw::lw_judge(&mut self.0, &asked, first, count, fault) })?;
         Ok(())
     }
 
     /// Carries out a directive. It returns the number of a region that is entered, how many copies a wait made, and of
-    /// others 1. Such a region stays open until the table ends or begins anew. [`Table::region`] enters one that is
+    /// others 1. Such a region stays open until the table ends or begins anew. [`Calls::region`] enters one that is
     /// exited.
     pub fn carry_out(&mut self, device: u64, directive: Directive, items: &[Item]) -> Result<u64, Refused> {
         let (asked, first, count) = (directive.raw(device), raw_items(items), items.len());
-        // SAFETY: as `Table` tells.
+        // SAFETY: as `Calls` tells.
         made(|number, fault| unsafe { raw::lw_do(&mut self.0, &asked, first, count, number, fault) })
     }
 
     /// Makes room in the trace again, and returns how many events it had.
     pub fn rebase(&mut self) -> Result<u64, Refused> {
-        // SAFETY: as `Table` tells.
+        // SAFETY: as `Calls` tells.
         made(|folded, fault| unsafe { raw::lw_rebase(&mut self.0, folded, fault) })
-    }
-
-    /// Begins anew, with the limits that it has. Spans of before have no addresses then.
-    pub fn reset(&mut self) -> Result<(), Refused> {
-        // SAFETY: as `Table` tells.
-        made(|_, fault| unsafe { raw::lw_table_reset(&mut self.0, fault) })?;
-        Ok(())
     }
 
     /// The report that `accrun` prints.
@@ -471,7 +547,7 @@ impl Table {
         unsafe { raw::lw_report(&mut self.0, ptr::null_mut(), 0, &mut len, &mut raw::Fault::default()) };
         let mut text = vec![0; len as usize + 1];
         let (at, size) = (text.as_mut_ptr(), text.len());
-        // SAFETY: as `Table` tells.
+        // SAFETY: as `Calls` tells.
         made(|len, fault| unsafe { raw::lw_report(&mut self.0, at.cast(), size, len, fault) })?;
         text.truncate(len as usize);
         Ok(String::from_utf8_lossy(&text).into_owned())
@@ -480,18 +556,18 @@ impl Table {
     /// Enters a data region (section 2.6.5). It is exited when it is dropped.
     pub fn region(&mut self, device: u64, items: &[Item]) -> Result<Region<'_>, Refused> {
         let (first, count) = (raw_items(items), items.len());
-        // SAFETY: as `Table` tells.
+        // SAFETY: as `Calls` tells.
         let number = made(|number, fault| unsafe {
             raw::lw_enter(&mut self.0, device, first, count, number, fault)
         })?;
-        Ok(Region { table: self, number })
+        Ok(Region { table: self, number, lease: None })
     }
 }
 
 impl Drop for Table {
     fn drop(&mut self) {
-        // SAFETY: as `Table` tells.
-        unsafe { raw::lw_table_end(&mut self.0) };
+        // SAFETY: as `Calls` tells.
+        unsafe { raw::lw_table_end(&mut self.0 .0) };
     }
 }
 
@@ -514,34 +590,53 @@ unsafe fn run_on<E: Element, T>(at: *mut E, count: usize, kernel: impl FnOnce(&m
 
 /// An open data region. Calls within it are made on it as on its table; so an inner `Region` ends before it.
 pub struct Region<'table> {
-    table: &'table mut Table,
+    table: &'table mut Calls,
     number: u64,
+    lease: Option<u64>,
 }
 
 impl Region<'_> {
     /// Runs a kernel on the device's elements of a section (section 2.5), and returns what it returns. It reaches them
-    /// where they lie, or in a copy where they are not aligned as elements are. After a kernel that panics they stay
-    /// lent until the table ends or begins anew.
+    /// where they lie, or in a copy where they are not aligned as elements are. Their block is lent and brought back,
+    /// which are two events: without tickets or room in the trace for both the kernel does not run.
+    ///
+    /// Behind the kernel it can be `Memory` alone. Then what the kernel wrote is kept, and what it returned is not. The
+    /// block stays lent, as after a kernel that panics. The next `run` or the exit brings it back first.
     pub fn run<E: Element, T>(
         &mut self,
         section: Span<E>,
         kernel: impl FnOnce(&mut [E]) -> T,
     ) -> Result<T, Refused> {
+        self.bring_back()?;
+        self.table.check_two_events()?;
         let table = &mut self.table.0;
         let mut bytes = ptr::null_mut();
-        // SAFETY: as `Table` tells.
+        // SAFETY: as `Calls` tells.
         let lease = made(|lease, fault| unsafe {
             raw::lw_lend(table, self.number, section.start, section.len(), lease, fault)
         })?;
+        self.lease = Some(lease);
+        // SAFETY: as `Calls` tells.
         made(|len, fault| unsafe { raw::lw_lease_bytes(table, lease, &mut bytes, len, fault) })?;
         // SAFETY: at the address lie the bytes of so many elements. The region is borrowed, so no call is made until
         // the kernel returns, and no one else reaches them.
         let answer = unsafe { run_on(bytes.cast(), section.count, kernel) };
-        made(|_, fault| unsafe { raw::lw_gather(table, lease, fault) })?;
+        self.bring_back()?;
         Ok(answer)
     }
 
-    /// The end of the construct. To drop the region is the same, without a word where that is refused.
+    /// Brings the block back that a kernel was lent, if it is out. Where that is refused it stays lent.
+    fn bring_back(&mut self) -> Result<(), Refused> {
+        if let Some(lease) = self.lease {
+            // SAFETY: as `Calls` tells.
+            made(|_, fault| unsafe { raw::lw_gather(&mut self.table.0, lease, fault) })?;
+            self.lease = None;
+        }
+        Ok(())
+    }
+
+    /// The end of the construct. To drop the region is the same, without a word where that is refused. Then it stays
+    /// open until the table ends or begins anew.
     pub fn exit(mut self) -> Result<(), Refused> {
         let exited = self.try_exit();
         mem::forget(self);
@@ -549,22 +644,23 @@ impl Region<'_> {
     }
 
     fn try_exit(&mut self) -> Result<(), Refused> {
-        // SAFETY: as `Table` tells.
+        self.bring_back()?;
+        // SAFETY: as `Calls` tells.
         made(|_, fault| unsafe { raw::lw_exit(&mut self.table.0, self.number, fault) })?;
         Ok(())
     }
 }
 
 impl Deref for Region<'_> {
-    type Target = Table;
+    type Target = Calls;
 
-    fn deref(&self) -> &Table {
+    fn deref(&self) -> &Calls {
         self.table
     }
 }
 
 impl DerefMut for Region<'_> {
-    fn deref_mut(&mut self) -> &mut Table {
+    fn deref_mut(&mut self) -> &mut Calls {
         self.table
     }
 }

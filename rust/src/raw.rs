@@ -75,6 +75,13 @@ pub struct Event {
     pub stored: u64,
 }
 
+#[repr(C)]
+#[derive(Clone, Copy, Debug, Default)]
+pub struct LeftOver {
+    pub tickets: u64,
+    pub regions: u64,
+}
+
 pub const ENTERED: u32 = 1;
 pub const ENTERED_DATA: u32 = 3;
 pub const EXITED_DATA: u32 = 4;
@@ -83,6 +90,9 @@ pub const WAITED: u32 = 6;
 
 pub const VERSION: u32 = 2005;
 pub const DONE: u32 = 0;
+pub const MEMORY: u32 = 1;
+pub const NO_TICKETS: u32 = 3;
+pub const TRACE_FULL: u32 = 6;
 pub const BAD_LENGTH: u32 = 34;
 pub const FAULT_TEXT_SIZE: usize = 66;
 pub const NO_QUEUE_GIVEN: u64 = u64::MAX;
@@ -175,6 +185,9 @@ extern "C" {
         fault: &mut Fault,
     ) -> u32;
     pub fn lw_gather(table: &mut Table, lease: u64, fault: &mut Fault) -> u32;
+    pub fn lw_limits_of(table: &mut Table, limits: &mut Limits) -> u32;
+    pub fn lw_left(table: &mut Table, left: &mut LeftOver) -> u32;
+    pub fn lw_event(table: &mut Table, place: u64, event: &mut Event) -> u32;
     pub fn lw_report(table: &mut Table, buffer: *mut c_char, size: usize, len: &mut u64, fault: &mut Fault) -> u32;
     pub fn lw_script(
         limits: &Limits,

@@ -2,7 +2,7 @@
 //!
 //! A [`Table`] is host memory and the memories of devices, with what is mapped between them. A [`Region`] borrows its
 //! table, so no table ends and no region is exited too early; it has the [`Calls`] of its table, for those within it. A
-//! call that is refused returns [`Refused`], and changes nothing, unless [`Region::run`] tells so.
+//! call that is refused returns [`Refused`], and changes nothing, unless [`Region::run`] or [`Region::exit`] tells so.
 //!
 //! ```no_run
 //! use lamwiest::{Clause, Limits, Table};
@@ -66,7 +66,8 @@ impl Limits {
     }
 }
 
-/// A call was refused, and changed nothing; or a script ended at a fault.
+/// A call was refused, and changed nothing; or a script ended at a fault. [`Region::run`] and [`Region::exit`] may have
+/// brought a block back first.
 #[derive(Clone, Copy, Debug, PartialEq, Eq)]
 pub struct Refused {
     /// The status of `lamwiest.h`.
@@ -441,7 +442,8 @@ impl Calls {
 
     /// Elements to read so many into. More than host memory has are as many as make the read refused.
     fn elements<E: Element>(&mut self, count: usize) -> Result<Vec<E>, Refused> {
-        let count = count.min(self.limits().host as usize / size_of::<E>().max(1) + 1);
+        let most = (self.limits().host as usize).checked_div(size_of::<E>());
+        let count = most.map_or(count, |most| count.min(most + 1));
         let mut elements = Vec::new();
         if elements.try_reserve_exact(count).is_err() {
             return Err(Refused { status: raw::MEMORY, item: 0, value: 0 });
@@ -598,7 +600,8 @@ pub struct Region<'table> {
 impl Region<'_> {
     /// Runs a kernel on the device's elements of a section (section 2.5), and returns what it returns. It reaches them
     /// where they lie, or in a copy where they are not aligned as elements are. Their block is lent and brought back,
-    /// which are two events: without tickets or room in the trace for both the kernel does not run.
+    /// which are two events. Without tickets or room in the trace for both the kernel does not run: it is refused for
+    /// what the second would be.
     ///
     /// Behind the kernel it can be `Memory` alone. Then what the kernel wrote is kept, and what it returned is not. The
     /// block stays lent, as after a kernel that panics. The next `run` or the exit brings it back first.
@@ -635,8 +638,8 @@ impl Region<'_> {
         Ok(())
     }
 
-    /// The end of the construct. To drop the region is the same, without a word where that is refused. Then it stays
-    /// open until the table ends or begins anew.
+    /// The end of the construct; a block that stays lent is brought back first. To drop the region is the same, without
+    /// a word where that is refused. Then it stays open until the table ends or begins anew.
     pub fn exit(mut self) -> Result<(), Refused> {
         let exited = self.try_exit();
         mem::forget(self);

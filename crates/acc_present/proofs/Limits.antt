@@ -13,7 +13,7 @@ use Rattle.acc_base.specs.Accounts.{EachPair}
 use Rattle.acc_base.proofs.Results.{equal}
 use Rattle.acc_base.proofs.Lookups.{at-own}
 use Rattle.acc_base.proofs.Elements.{AllByRecursion-map, AllByRecursion-both}
-use Rattle.acc_base.proofs.RangeChanges.{block_of, KeepsPlace, risen_keeps, fallen_keeps, cleared_keeps}
+use Rattle.acc_base.proofs.RangeChanges.{block_of}
 use Rattle.acc_present.specs.Present.{IsWithinLimit, IsBelowLimit}
 
 within_fallen : (m : ℕ) (counter : Counter) (r : Range) → IsWithinLimit m r → IsWithinLimit m (fallen counter r)
@@ -42,11 +42,3 @@ all_recounted m task block rs r own found below h = AllByRecursion-map (IsWithin
     go : (x : Range) → range_of x.block rs ≡ Some x → IsWithinLimit m x → (b : Bool) → (x.block == block) ≡ b → IsWithinLimit m (cond b (recounted task x) x)
     go x o l true t = within_recounted m task block rs x (sym (ap (λ n. range_of n rs) (equal x.block block t)) ∙ o) below l
     go x o l false t = l
-
--- it changes neither the section nor the block
-pub recounted_keeps : (task : Task) → KeepsPlace (recounted task)
-recounted_keeps (Enter counter item queue) = risen_keeps counter
-recounted_keeps (ExitRegion holding) = fallen_keeps Structured
-recounted_keeps (ExitData true item queue) = cleared_keeps
-recounted_keeps (ExitData false item queue) = fallen_keeps Dynamic
-recounted_keeps (Move if_present item queue) = record { section = λ r. refl; block = λ r. refl }

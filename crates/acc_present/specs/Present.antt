@@ -86,12 +86,6 @@ pub record IsRoomKept (old new : Room) : Type 0 where
   pub regions : old.regions ≤ new.regions
   pub holdings : old.holdings ≤ new.holdings
 
--- the room of ranges has shrunk by one at most, and no other
-pub record IsRangeRoomTaken (old new : Room) : Type 0 where
-  pub ranges : old.ranges ≤ new.ranges + 1
-  pub regions : old.regions ≤ new.regions
-  pub holdings : old.holdings ≤ new.holdings
-
 -- the room of regions has shrunk by one at most, and no other
 pub record IsRegionRoomTaken (old new : Room) : Type 0 where
   pub ranges : old.ranges ≤ new.ranges

@@ -1,13 +1,10 @@
 -- What contracts see of the queues of transfers, and what holds of them at all times (OpenACC 3.3, section 2.16,
 -- asynchronous behavior).
-use Rattle.std.specs.Prelude.{ℕ, ◌≡◌, ◌≢◌, ◌+◌, ◌≤◌, List, length, Result, ⊤, slice_index}
+use Rattle.std.specs.Prelude.{ℕ, ◌≡◌, ◌≢◌, ◌+◌, ◌≤◌, List, length, slice_index}
 use Rattle.std.specs.List.{AllByRecursion}
 use Rattle.acc_base.specs.declared.transfers.Transfer.{Transfer}
-use Rattle.acc_base.specs.declared.faults.Fault.{Fault}
 use Rattle.acc_base.specs.declared.transfers.TheConstants.{QUEUE_COUNT}
-use Rattle.acc_base.specs.Results.{◌>>◌}
 use Rattle.acc_base.specs.Limits.{IsFromOne}
-use Rattle.acc_base.specs.Queues.{queue_known, queue_room}
 
 -- the limit of each queue, the queues by number, and for each how many more transfers it can take without allocating
 pub record QueuesState : Type 0 where
@@ -20,10 +17,6 @@ pub record AreQueues (cap : ℕ) (queues : List (List Transfer)) : Type 0 where
   pub limit : IsFromOne 4096 cap
   pub count : length queues ≡ QUEUE_COUNT
   pub each : AllByRecursion (λ transfers. length transfers ≤ cap) queues
-
--- one more transfer is accepted into the queue, or the refusal
-abbrev pub judge_put : ℕ → ℕ → List (List Transfer) → Result ⊤ Fault
-judge_put cap q queues = queue_known q >> queue_room cap q queues
 
 -- ---- room
 

@@ -1,11 +1,11 @@
 //! The queues of transfers as one value.
 
-ghost use Rattle.std.specs.Prelude.{◌≡◌, ◌<◌, ◌≤◌, ◌⊎◌, ◌↔◌, length, map, slice_get, Ok, Err, IfOk, IfErr, IfNone, OnOk, OnErr};
+ghost use Rattle.std.specs.Prelude.{◌≡◌, ◌<◌, ◌≤◌, length, map, slice_get, IfOk, IfErr, IfNone, OnOk, OnErr};
 ghost use Rattle.std.specs.Option.{option_copied};
 ghost use Rattle.std.specs.Vec.{vec_items};
 ghost use Rattle.acc_base.specs.Limits.{IsFromOne};
 ghost use Rattle.acc_base.specs.Queues.{new_queues, queue_at, head_of, put, popped};
-ghost use Rattle.acc_present.specs.Queued.{AreQueues, judge_put, spare_at, AreRoomsKept, IsRoomTaken};
+ghost use Rattle.acc_present.specs.Queued.{AreQueues, spare_at, AreRoomsKept, IsRoomTaken};
 
 use crate::ring::Ring;
 use crate::rings::{copy_rings, make_room, new_rings, pop_from, put_into};
@@ -19,10 +19,10 @@ use std::marker::Model;
 /// most as many as a limit says.
 ///
 /// Contracts see the limit, the transfers of each queue, the next one first, and for how many more each queue has room.
-/// A refused call leaves the transfers as they were. Only `new`, `put`, `reserve`, `copy_queues` and `clone` allocate.
+/// A refused call leaves the transfers as they were. Only `new`, `reserve`, `copy_queues` and `clone` allocate.
 ///
-/// A look-up and a removal take the same time however many transfers wait. So does `put`, unless a queue's room grows:
-/// then that queue's transfers may move.
+/// A look-up, `put_reserved` and a removal take the same time however many transfers wait. Where a queue's room grows, its
+/// transfers may move.
 pub struct Queues {
     cap: u64,
     rings: Vec<Ring>,
@@ -92,35 +92,6 @@ impl Queues {
         ensures spare { length self.now.spare ≡ QUEUE_COUNT }
     {
         let _ = &self.rings;
-    }
-
-    /// Puts a transfer at the end of a queue.
-    ///
-    /// # Errors
-    ///
-    /// [`Fault::NoQueue`] with the number, exactly where it is above 15. Else [`Fault::QueueFull`] with the number,
-    /// exactly where the queue has as many transfers as the limit says. Else [`Fault::Memory`], only where the queue
-    /// had no room for one more. The queues are then as before.
-    pub fn put(&mut self, q: u64, t: Transfer) -> Result<(), Fault>
-        ensures queues { OnOk result (self.new.queues ≡ put q t self.old.queues) }
-        ensures accepted { OnOk result (judge_put self.old.cap q self.old.queues ≡ Ok tt) }
-        ensures cap { self.new.cap ≡ self.old.cap }
-
-        // Each error, and what it leaves.
-        ensures no_queue { (result ≡ Err (Fault.NoQueue q)) ↔ (judge_put self.old.cap q self.old.queues ≡ Err (Fault.NoQueue q)) }
-        ensures full { (result ≡ Err (Fault.QueueFull q)) ↔ (judge_put self.old.cap q self.old.queues ≡ Err (Fault.QueueFull q)) }
-        ensures memory { result ≡ Err Fault.Memory → (judge_put self.old.cap q self.old.queues ≡ Ok tt) × (spare_at q self.old.spare ≡ 0) }
-        ensures only { IfErr result (λ fault. (fault ≡ Fault.NoQueue q) ⊎ (fault ≡ Fault.QueueFull q) ⊎ (fault ≡ Fault.Memory)) }
-        ensures unchanged { OnErr result (self.new.queues ≡ self.old.queues) }
-
-        // The room for more.
-        ensures taken { OnOk result (IsRoomTaken q self.old.spare self.new.spare) }
-        ensures kept { OnErr result (AreRoomsKept self.old.spare self.new.spare) }
-    {
-        self.judge_put(q)?;
-        self.reserve(q, 1)?;
-        self.put_reserved(q, t);
-        Ok(())
     }
 
     /// The transfer that a queue makes next. `None` exactly where nothing waits in it, or the number is above 15.
@@ -194,8 +165,8 @@ impl Queues {
         make_room(&mut self.rings, q, count)
     }
 
-    /// As [`Queues::put`], where the queue has fewer transfers than the limit says, and room for one more: it allocates
-    /// nothing and is not refused. It takes at most one from the room of that queue, and none from that of the others.
+    /// Puts a transfer at the end of a queue that has fewer than the limit says, and room for one more. It allocates
+    /// nothing. It takes at most one from the room of that queue, and none from that of the others.
     pub fn put_reserved(&mut self, q: u64, t: Transfer)
         requires known { q < QUEUE_COUNT }
         requires below { length (queue_at q self.old.queues) < self.old.cap }
@@ -205,18 +176,5 @@ impl Queues {
         ensures room { IsRoomTaken q self.old.spare self.new.spare }
     {
         put_into(&mut self.rings, q, t);
-    }
-
-    /// Whether a queue accepts one more transfer, or why not.
-    fn judge_put(&self, q: u64) -> Result<(), Fault>
-        ensures { result ≡ judge_put self.now.cap q self.now.queues }
-    {
-        if q >= QUEUE_COUNT {
-            return Err(Fault::NoQueue { q });
-        }
-        if self.len(q) >= self.cap {
-            return Err(Fault::QueueFull { q });
-        }
-        Ok(())
     }
 }

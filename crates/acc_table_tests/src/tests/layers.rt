@@ -96,12 +96,12 @@ fn check_queues(rt: &(impl Abort + AllocGlobal)) -> Result<(), Fault> {
         section: section((0x1000, 8)),
         out: false,
     };
-    let found = [queues.put(16, transfer), queues.put(3, transfer)];
-    let wanted = [Err(Fault::NoQueue { q: 16 }), Ok(())];
+    queues.reserve(3, 1)?;
+    queues.put_reserved(3, transfer);
     same(
         rt,
-        (found, queues.len(3)),
-        (wanted, 1),
+        (queues.len(3), queues.len(16)),
+        (1, 0),
         "one of sixteen queues",
     );
     Ok(())

@@ -5,9 +5,10 @@ use Rattle.acc_base.specs.declared.mappings.Range.{Range}
 use Rattle.acc_base.specs.Ranges.{range_of, changed_at}
 use Rattle.acc_base.specs.Tasks.{recounted}
 use Rattle.acc_base.proofs.Elements.{found_has}
+use Rattle.acc_base.proofs.Sound.{recounted_keeps}
 use Rattle.acc_present.specs.Present.{PresentState, IsWithinLimit, IsBelowLimit, with_ranges}
 use Rattle.acc_present.specs.Kept.{start_in, ranges_in, mapping_of}
-use Rattle.acc_present.proofs.Limits.{all_recounted, recounted_keeps}
+use Rattle.acc_present.proofs.Limits.{all_recounted}
 use Rattle.acc_present.proofs.Mapping.{IsChangedNow, key_there, written_now}
 use Rattle.acc_present.proofs.presence.Present.recount.Goals as goal
 

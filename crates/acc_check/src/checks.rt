@@ -227,7 +227,7 @@ impl Check {
                 page,
                 names,
                 Origin::line(file, held.line, json),
-                held.section,
+                held.range.section,
             );
             self.count = self.count.saturating_add(1);
         }

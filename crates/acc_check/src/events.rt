@@ -83,7 +83,7 @@ impl Check {
         let Some(told) = self.tracker.account.told(device, block)? else {
             return Ok(Section { len: 0, ..section });
         };
-        let range = told.held.section;
+        let range = told.held.range.section;
         let end = range.start.saturating_add(range.len);
         let part = Section {
             start: section.start,

@@ -8,7 +8,7 @@ use crate::events::behind;
 use crate::findings::{Finding, Kind, Note};
 use crate::histories::{Block, Cause, Deed, Done, History};
 use acc_base::{Fault, Section, Step, Task, Transfer};
-use acc_stale::{Held, ItemDone, Known, Mark, Placed, Run, Watch, has_address};
+use acc_stale::{Held, ItemDone, Known, Mark, Placed, Run, Watch, has_address, number_of};
 use std::alloc::Global;
 
 /// What a check looks at, and what it found.
@@ -152,7 +152,7 @@ impl Looks {
     fn note_drop(&mut self, known: &Known, held: Held) -> Result<(), Fault>
         ensures only { IfErr result (λ fault. fault ≡ Memory) }
     {
-        if self.all && !is_behind(known.stale_device(held.placed, held.section)) {
+        if self.all && !is_behind(known.stale_device(held.placed, held.range.section)) {
             self.drops.push(held)?;
         }
         Ok(())
@@ -161,13 +161,13 @@ impl Looks {
     /// Leaves out mappings that ended of which the host is not behind: their bytes were copied, or written again.
     pub fn sift_drops(&mut self, known: &Known) {
         self.drops
-            .retain(|held| is_behind(known.stale_host(held.section)));
+            .retain(|held| is_behind(known.stale_host(held.range.section)));
     }
 
     /// Leaves out mappings that ended, since the host reads their bytes: that is told.
     pub fn forget_drops(&mut self, section: Section) {
         self.drops
-            .retain(|held| !has_address(held.section, section.start));
+            .retain(|held| !has_address(held.range.section, section.start));
     }
 }
 
@@ -187,7 +187,7 @@ impl Watch for Looks {
             self.block = Block { device, number };
         }
         match ends {
-            Some(held) => self.note_end(task, step, held.section),
+            Some(held) => self.note_end(task, step, held.range.section),
             None => self.note_kept(task, step),
         }
     }
@@ -212,17 +212,6 @@ impl Watch for Looks {
     fn before_copy(&mut self, known: &Known, block: Placed, t: Transfer) -> Result<(), Fault> {
         self.find_overwritten(known, block, t)?;
         self.note_copy(Block::of(block), t, None)
-    }
-}
-
-/// The number of the block of a step, if it has one.
-fn number_of(step: Step) -> Option<u64> {
-    match step {
-        Step::Nothing => None,
-        Step::Counted { block }
-        | Step::Born { block, .. }
-        | Step::Dropped { block, .. }
-        | Step::Moved { block } => Some(block),
     }
 }
 

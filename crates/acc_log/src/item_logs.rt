@@ -2,13 +2,13 @@
 
 ghost use Rattle.std.specs.Prelude.{◌≤◌, length};
 
-use crate::accounts::{Copied, Placed};
 use crate::log_lines::{Tail, put_mark, put_tail};
 use crate::logs::Log;
 use crate::rows::{reach_item, reach_pointer};
-use acc_base::{Aim, Did, Holding, Section, Step, Task};
+use acc_base::{Aim, Did, Holding, Section, Step, Task, Transfer};
 use acc_read::Names;
 use acc_script::Line;
+use acc_stale::Held;
 
 /// An item of a directive, for every directive alike.
 #[derive(Clone, Copy)]
@@ -19,8 +19,38 @@ pub struct LogItem {
     pub task: Task,
     /// What it did.
     pub did: Did,
-    /// The range that its section is inside, where it did nothing. One that a later item mapped is not known yet.
-    pub found: Option<Placed>,
+    /// The block of its step, as the item left it. Where it did nothing, that which has its section, or the pointer of
+    /// `attach` and `detach`. One that a later item mapped is not known yet.
+    pub held: Option<Held>,
+    /// How often its pointer was attached before.
+    pub count: u64,
+    /// What it copied, or put into its queue.
+    pub transfer: Option<Transfer>,
+}
+
+/// A copy between host memory and a device, made or put into a queue.
+#[derive(Clone, Copy)]
+pub struct Copied {
+    /// The section of host memory.
+    pub section: Section,
+    /// The device address of its first byte.
+    pub place: u64,
+    /// True for a copy from the device to host memory, false for one to the device.
+    pub out: bool,
+    /// The queue into which it was put, or `None` where it was made at once.
+    pub queue: Option<u64>,
+}
+
+impl Copied {
+    /// A transfer of a block that lies at a device address.
+    pub fn of(transfer: Transfer, place: u64, queue: Option<u64>) -> Copied {
+        Copied {
+            section: transfer.section,
+            place: place.saturating_add(transfer.offset),
+            out: transfer.out,
+            queue,
+        }
+    }
 }
 
 impl Log {
@@ -57,30 +87,20 @@ impl Log {
 
     /// Puts what an item did to a mapping and to bytes.
     fn tell_step(&mut self, names: &Names, item: &LogItem) {
-        match item.did.step {
-            Step::Nothing => self.tell_nothing(names, item),
-            Step::Born { block, place } => {
-                self.account.map(item.task.section(), block, place);
-                self.tell_left(names, item, block);
+        match (item.did.step, item.held) {
+            (Step::Nothing, _) => self.tell_nothing(names, item),
+            (Step::Moved { .. }, Some(held)) => {
+                reach_item(&mut self.rows, &item.task, "inside");
+                self.tell_copy(names, item, held);
             }
-            Step::Moved { block } => {
-                if let Some(found) = self.account.block(block) {
-                    reach_item(&mut self.rows, &item.task, "inside");
-                    self.tell_copy(names, item, found);
-                }
-            }
-            Step::Counted { block } | Step::Dropped { block, .. } => {
-                self.tell_left(names, item, block)
-            }
+            (_, Some(held)) => self.tell_left(names, item, held),
+            (_, None) => {}
         }
     }
 
     /// Puts the lines of an item's mapping, with the counters that it left, and of its copy.
-    fn tell_left(&mut self, names: &Names, item: &LogItem, block: u64) {
+    fn tell_left(&mut self, names: &Names, item: &LogItem, left: Held) {
         let (task, section) = (&item.task, item.task.section());
-        let Some(left) = self.account.recount(block, task) else {
-            return;
-        };
         reach_item(&mut self.rows, task, way_of(task, item.did.step));
         self.totals.count(item.did.step);
         let nth = Some(item.place);
@@ -97,7 +117,7 @@ impl Log {
             }
             Step::Dropped { ended: true, .. } => {
                 self.tell_copy(names, item, left);
-                let place = Some(left.place);
+                let place = Some(left.placed.place);
                 self.put(names, nth, "ended", left.range.section, place, Tail::None);
             }
             Step::Dropped { .. } => {
@@ -121,9 +141,9 @@ impl Log {
         if section.len == 0 {
             reach_item(&mut self.rows, task, "empty");
             self.put_empty(item.place);
-        } else if let Some(found) = item.found {
+        } else if let Some(held) = item.held {
             reach_item(&mut self.rows, task, "inside, uncounted");
-            self.put_range(names, Some(item.place), "kept", found);
+            self.put_range(names, Some(item.place), "kept", held);
         } else {
             reach_item(&mut self.rows, task, "absent");
             let nth = Some(item.place);
@@ -132,16 +152,9 @@ impl Log {
     }
 
     /// Puts the line of an item's copy, if its step has one: made at once, or put into its queue.
-    fn tell_copy(&mut self, names: &Names, item: &LogItem, placed: Placed) {
-        let section = item.task.section();
-        if item.task.copies(item.did.step) {
-            let copied = Copied {
-                section,
-                device: self.account.device,
-                place: placed.place_of(section.start),
-                out: item.task.goes_out(),
-                queue: item.task.queue(),
-            };
+    fn tell_copy(&mut self, names: &Names, item: &LogItem, held: Held) {
+        if let Some(transfer) = item.transfer {
+            let copied = Copied::of(transfer, held.placed.place, item.task.queue());
             self.put_copy(names, Some(item.place), copied, copied.queue.is_some());
         }
     }
@@ -154,9 +167,7 @@ impl Log {
         copied: Copied,
         is_put: bool,
     ) {
-        if is_put {
-            self.account.put(copied);
-        } else {
+        if !is_put {
             self.totals.copied(copied.out, copied.section.len);
         }
         let (word, tail) = (copy_word(is_put, copied.out), Tail::Queue(copied.queue));
@@ -164,11 +175,11 @@ impl Log {
     }
 
     /// Puts the line of a mapped range with its counters.
-    fn put_range(&mut self, names: &Names, item: Option<usize>, word: &str, placed: Placed)
+    fn put_range(&mut self, names: &Names, item: Option<usize>, word: &str, held: Held)
         requires short { length word.now ≤ 11 }
     {
-        self.texts.note(names, placed);
-        let range = placed.range;
+        self.texts.note(names, held);
+        let Held { placed, range, .. } = held;
         let tail = Tail::Counters(range.structured, range.dynamic);
         self.put(names, item, word, range.section, Some(placed.place), tail);
     }
@@ -197,22 +208,20 @@ impl Log {
         self.page.bytes(line.as_slice());
     }
 
-    /// Puts what an item did to its pointer, and keeps how often that is attached now.
+    /// Puts what an item did to its pointer.
     #[inline(always)]
     fn tell_aim(&mut self, names: &Names, item: &LogItem) {
-        if let Some((pointer, block)) = aimed(item.did.aim) {
-            self.tell_pointer(names, item, pointer, block);
+        if let Some(pointer) = aimed(item.did.aim) {
+            self.tell_pointer(names, item, pointer);
         } else if item.task.names_pointer() {
             self.tell_no_aim(names, item);
         }
     }
 
-    fn tell_pointer(&mut self, names: &Names, item: &LogItem, pointer: u64, block: u64) {
+    fn tell_pointer(&mut self, names: &Names, item: &LogItem, pointer: u64) {
         let aim = item.did.aim;
-        let was = self.account.attached(block, pointer);
-        let (count, way) = left_by(aim, was);
+        let (count, way) = left_by(aim, item.count);
         reach_pointer(&mut self.rows, &item.task, way);
-        self.account.attach(block, pointer, count);
         let (word, target) = match aim {
             Aim::New { target, .. } => ("attached", Some(target)),
             Aim::Again { .. } => ("attached", None),
@@ -224,16 +233,9 @@ impl Log {
 
     /// Puts the line of a clause that is of pointers alone, where its item did nothing.
     fn tell_no_aim(&mut self, names: &Names, item: &LogItem) {
-        let start = item.task.section().start;
-        if self.rows.is_some() {
-            let is_there = self.account.has(Section { start, len: 8 });
-            reach_pointer(
-                &mut self.rows,
-                &item.task,
-                way_unaimed(&item.task, is_there),
-            );
-        }
-        let aimed = (start, None, None);
+        let way = way_unaimed(&item.task, item.held.is_some());
+        reach_pointer(&mut self.rows, &item.task, way);
+        let aimed = (item.task.section().start, None, None);
         self.put_pointer(names, item.place, "unattached", aimed);
     }
 }
@@ -274,15 +276,15 @@ fn way_unaimed(task: &Task, is_there: bool) -> &'static str {
     }
 }
 
-/// The pointer that an item attached or detached, and its block.
+/// The pointer that an item attached or detached.
 #[inline(always)]
-fn aimed(aim: Aim) -> Option<(u64, u64)> {
+fn aimed(aim: Aim) -> Option<u64> {
     match aim {
         Aim::None => None,
-        Aim::New { pointer, block, .. }
-        | Aim::Again { pointer, block }
-        | Aim::Less { pointer, block }
-        | Aim::Cleared { pointer, block } => Some((pointer, block)),
+        Aim::New { pointer, .. }
+        | Aim::Again { pointer, .. }
+        | Aim::Less { pointer, .. }
+        | Aim::Cleared { pointer, .. } => Some(pointer),
     }
 }
 

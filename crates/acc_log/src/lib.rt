@@ -2,7 +2,6 @@
 //! these were.
 #![tactic(auto)]
 
-mod accounts;
 mod item_logs;
 mod log_lines;
 mod logs;

@@ -2,11 +2,11 @@
 
 ghost use Rattle.std.specs.Prelude.{◌≡◌, ◌+◌, ◌≤◌, [], length};
 
-use crate::accounts::Placed;
 use crate::logs::Log;
 use acc_base::{Fault, Section};
 use acc_read::Names;
 use acc_script::Line;
+use acc_stale::Held;
 
 /// What each line of a log begins with.
 pub const MARK: &str = "lamwiest: ";
@@ -274,9 +274,10 @@ impl Texts {
 
     /// Notes that a line is about to name a range.
     #[inline(always)]
-    pub fn note(&mut self, names: &Names, placed: Placed) {
-        if self.section != placed.range.section || self.place != placed.place {
-            self.section = placed.range.section;
+    pub fn note(&mut self, names: &Names, held: Held) {
+        let Held { placed, range, .. } = held;
+        if self.section != range.section || self.place != placed.place {
+            self.section = range.section;
             self.place = placed.place;
             self.times = 1;
         } else if self.times < TIMES {

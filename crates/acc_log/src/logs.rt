@@ -1,17 +1,17 @@
 //! The log: each call of a script, and behind it a line for each thing that it did, read from the events of the table.
 //! Bytes are copied in to the device and copied out to host memory, in the words of OpenACC.
 
-use crate::accounts::{Account, Placed};
-use crate::item_logs::LogItem;
+use crate::item_logs::{Copied, LogItem};
 use crate::log_lines::{Tail, Texts};
 use crate::objects::LogForm;
 use crate::rows::{RowCounts, has_readonly, reach, reach_item};
 use crate::totals::{REFUSED, Totals, WAITING};
-use acc_base::{Did, Event, Fault, Found, Section, Step, Task};
+use acc_base::{Did, Event, Fault, Found, QUEUE_COUNT, Section, Task};
 use acc_read::{Names, Page, Statement};
 use acc_script::Effect;
+use acc_stale::{Account, Held, NextTold, number_of};
 use acc_table::Table;
-use std::alloc::Global;
+use std::alloc::{AllocError, Global};
 
 /// The log of a script. Its lines gather in a page until they are written.
 pub struct Log {
@@ -23,7 +23,7 @@ pub struct Log {
     pub(crate) form: LogForm,
     /// The number of the line of the last statement in it.
     pub(crate) line: u64,
-    /// What the events in the log say of ranges, pointers, queues and regions.
+    /// What the events in the log say of blocks, pointers, queues and regions.
     pub(crate) account: Account,
     /// The texts of the range that its lines name.
     pub(crate) texts: Texts,
@@ -73,8 +73,8 @@ impl Log {
     ///
     /// # Errors
     ///
-    /// [`Fault::Memory`] alone, where the account of events found none. For the log's own text, [`Page::whole`] returns
-    /// it.
+    /// [`Fault::Memory`] alone, where the account of events found none. The log is not to be told more then. For the
+    /// log's own text, [`Page::whole`] returns it.
     pub fn tell(
         &mut self,
         names: &Names,
@@ -89,11 +89,8 @@ impl Log {
         if self.told < table.trace().len() || is_outcome(effect) {
             self.line = number;
             self.tell_call(text, table);
-            self.tell_events(names, table);
+            self.tell_events(names, table)?;
             self.put_outcome(effect);
-        }
-        if self.account.wants() {
-            return Err(Fault::Memory);
         }
         Ok(())
     }
@@ -149,14 +146,13 @@ impl Log {
         }
     }
 
-    fn tell_events(&mut self, names: &Names, table: &Table) {
+    fn tell_events(&mut self, names: &Names, table: &Table) -> Result<(), AllocError> {
         let trace = table.trace();
-        for at in self.told..trace.len() {
-            if let Some(event) = trace.get(at) {
-                self.tell_event(names, table, at, event);
-            }
+        for event in trace.get(self.told..).unwrap_or(&[]) {
+            self.tell_event(names, table, event)?;
         }
         self.told = trace.len();
+        Ok(())
     }
 
     fn put_outcome(&mut self, effect: Effect) {
@@ -173,22 +169,37 @@ impl Log {
         }
     }
 
-    fn tell_event(&mut self, names: &Names, table: &Table, at: usize, event: &Event) {
-        self.account.device = event.device();
+    fn tell_event(
+        &mut self,
+        names: &Names,
+        table: &Table,
+        event: &Event,
+    ) -> Result<(), AllocError> {
         match event {
-            Event::Entered { number, .. } => {
-                self.tell_items(names, table, event);
-                self.account.open(at);
+            Event::Entered { device, number, .. } => {
+                self.tell_items(names, table, event)?;
+                self.account.open(*device, *number, event)?;
                 self.put_region("entered", *number);
             }
-            Event::Left { number, .. } => {
-                self.tell_exit(names, table, event.did());
+            Event::Left {
+                device,
+                number,
+                did,
+            } => {
+                self.tell_exit(names, table, *device, *number, did.as_slice())?;
                 self.put_region("exited", *number);
             }
-            Event::Waited { queue, count, .. } => self.tell_waited(names, *queue, *count),
-            Event::Stepped { queue, .. } => {
+            Event::Waited {
+                device,
+                queue,
+                count,
+            } => {
+                self.count_waited(*queue, *count);
+                self.tell_waited(names, *device, *queue)?;
+            }
+            Event::Stepped { device, queue, .. } => {
                 reach(&mut self.rows, "step", "some");
-                self.tell_next(names, Some(*queue));
+                self.tell_next(names, *device, *queue)?;
             }
             Event::HostWritten { addr, len, .. } => {
                 let section = Section {
@@ -198,67 +209,94 @@ impl Log {
                 self.put(names, None, "wrote", section, None, Tail::None);
             }
             Event::Lent {
+                device,
                 section,
                 block,
                 serial,
                 ..
-            } => self.tell_lent(names, *section, *block, *serial),
+            } => self.tell_lent(names, *device, *section, *block, *serial),
             Event::Gathered { serial, .. } => self.tell_gathered(names, *serial),
-            _ => self.tell_items(names, table, event),
+            _ => self.tell_items(names, table, event)?,
         }
+        Ok(())
     }
 
     /// Puts the lines of the items that an event names.
-    fn tell_items(&mut self, names: &Names, table: &Table, event: &Event) {
-        let did = event.did();
-        for place in 0..did.len() {
-            self.tell_task(names, table, place, event.task(place), did.get(place));
+    fn tell_items(
+        &mut self,
+        names: &Names,
+        table: &Table,
+        event: &Event,
+    ) -> Result<(), AllocError> {
+        let device = event.device();
+        for (place, did) in event.did().iter().enumerate() {
+            if let Some(task) = event.task(place) {
+                self.tell_task(names, table, device, place, task, *did)?;
+            }
         }
+        Ok(())
     }
 
     /// Puts the lines of the items of `end data`, the last one first.
-    fn tell_exit(&mut self, names: &Names, table: &Table, did: &[Did]) {
-        let at = self.account.close().unwrap_or(usize::MAX);
-        if let Some(entry) = table.trace().get(at) {
-            for back in 1..=did.len() {
-                let place = did.len().saturating_sub(back);
-                self.tell_task(names, table, place, entry.exit_task(place), did.get(place));
-            }
+    fn tell_exit(
+        &mut self,
+        names: &Names,
+        table: &Table,
+        device: u64,
+        number: u64,
+        did: &[Did],
+    ) -> Result<(), AllocError> {
+        let Some(tasks) = self.account.close(device, number) else {
+            return Ok(());
+        };
+        for (place, (task, did)) in tasks.iter().zip(did).enumerate().rev() {
+            self.tell_task(names, table, device, place, *task, *did)?;
         }
+        Ok(())
     }
 
     fn tell_task(
         &mut self,
         names: &Names,
         table: &Table,
+        device: u64,
         place: usize,
-        task: Option<Task>,
-        did: Option<&Did>,
-    ) {
-        if let (Some(task), Some(did)) = (task, did) {
-            let item = LogItem {
-                place,
-                task,
-                did: *did,
-                found: self.found(table, task.section(), did.step),
-            };
-            self.tell_item(names, &item);
-        }
+        task: Task,
+        did: Did,
+    ) -> Result<(), AllocError> {
+        let told = self.account.item(device, task, did, self.line)?;
+        let held = match number_of(did.step) {
+            Some(block) => self.account.block(device, block),
+            None => self.found(table, device, task),
+        };
+        let item = LogItem {
+            place,
+            task,
+            did,
+            held,
+            count: told.item.holder.map_or(0, |holder| holder.count),
+            transfer: told.transfer,
+        };
+        self.tell_item(names, &item);
+        Ok(())
     }
 
-    /// The range that the section of an item is inside, where its step is nothing.
-    fn found(&self, table: &Table, section: Section, step: Step) -> Option<Placed> {
-        if !matches!(step, Step::Nothing) {
-            return None;
-        }
-        match table.find(self.account.device, section) {
-            Found::Inside { block, .. } => self.account.block(block),
+    /// The block that has the section of an item, or the pointer that it names alone.
+    fn found(&self, table: &Table, device: u64, task: Task) -> Option<Held> {
+        let section = task.section();
+        let asked = if task.names_pointer() {
+            Section { len: 8, ..section }
+        } else {
+            section
+        };
+        match table.find(device, asked) {
+            Found::Inside { block, .. } => self.account.block(device, block),
             _ => None,
         }
     }
 
-    /// Puts the copies that a `wait` made: those of a queue, or of all queues from the first on.
-    fn tell_waited(&mut self, names: &Names, queue: Option<u64>, count: u64) {
+    /// Counts the row of a `wait`, and puts that no copy waited, if none did.
+    fn count_waited(&mut self, queue: Option<u64>, count: u64) {
         let directive = match queue {
             Some(_) => "wait queue",
             None => "wait",
@@ -268,23 +306,49 @@ impl Log {
         if count == 0 {
             self.put_idle();
         }
-        for _ in 0..count {
-            self.tell_next(names, queue);
-        }
     }
 
-    /// Puts the next copy of a queue, or of the first one in which copies wait.
-    fn tell_next(&mut self, names: &Names, queue: Option<u64>) {
-        if let Some(queue) = queue.or(self.account.first_queue()) {
-            if let Some(copied) = self.account.take(queue) {
-                self.put_copy(names, None, copied, false);
-            }
+    /// Puts the copies that a `wait` made: those of a queue, or of all queues from the first on.
+    fn tell_waited(
+        &mut self,
+        names: &Names,
+        device: u64,
+        queue: Option<u64>,
+    ) -> Result<(), AllocError> {
+        let queues = match queue {
+            Some(queue) => queue..queue.saturating_add(1),
+            None => 0..QUEUE_COUNT,
+        };
+        for queue in queues {
+            while self.tell_next(names, device, queue)? {}
         }
+        Ok(())
     }
 
-    fn tell_lent(&mut self, names: &Names, section: Section, block: u64, serial: u64) {
-        if let Some(found) = self.account.block(block) {
-            let place = Some(found.place_of(section.start));
+    /// Puts the next copy of a queue. False where none waits in it.
+    fn tell_next(&mut self, names: &Names, device: u64, queue: u64) -> Result<bool, AllocError> {
+        let Some(NextTold {
+            block, transfer, ..
+        }) = self.account.next(device, queue)?
+        else {
+            return Ok(false);
+        };
+        let copied = Copied::of(transfer, block.place, Some(queue));
+        self.put_copy(names, None, copied, false);
+        Ok(true)
+    }
+
+    fn tell_lent(
+        &mut self,
+        names: &Names,
+        device: u64,
+        section: Section,
+        block: u64,
+        serial: u64,
+    ) {
+        if let Some(Held { placed, .. }) = self.account.block(device, block) {
+            let offset = section.start.saturating_sub(placed.start);
+            let place = Some(placed.place.saturating_add(offset));
             self.lent = Some((section, place));
             reach(&mut self.rows, "kernel", "inside");
             self.put(names, None, "lent", section, place, Tail::Serial(serial));

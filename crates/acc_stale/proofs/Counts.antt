@@ -1,5 +1,5 @@
 -- An account after each change: what it says of a block, and of a pointer.
-use Rattle.std.proofs.Common.{Vec, Global, Option, ◌≡◌, ◌≢◌, ℕ, suc, ◌<◌, ◌≤◌, ◌+◌, Bool, true, false, ◌&&◌, ◌==◌, not, cond, List, [], ◌∷◌, map, length, get_or, Some, None, unwrap_or, option_map, refl, sym, ap, ap₂, subst, ◌∙◌, arith}
+use Rattle.std.proofs.Common.{Vec, Global, Option, ◌≡◌, ◌≢◌, ℕ, suc, ◌<◌, ◌≤◌, ◌+◌, ◌^◌, Bool, true, false, ◌&&◌, ◌==◌, not, cond, List, [], ◌∷◌, map, length, get_or, Some, None, unwrap_or, option_map, refl, sym, ap, ap₂, subst, ◌∙◌, arith}
 use Rattle.std.specs.Prelude.{nat_lt}
 use Rattle.std.specs.List.{find, position, position_or_len, remove, slice_get, AllByRecursion}
 use Rattle.std.specs.List.Sorted.{IsStrictlySortedBy}
@@ -10,15 +10,18 @@ use Rattle.std.specs.declared.cmp.Ordering.TheVariants.{Less, Equal, Greater}
 use Rattle.std.specs.Ordering.{nat_cmp, ordering_then, is_eq, match_ordering}
 use Rattle.std.proofs.lemmas.Bool.Decides.{nat_tests}
 use Rattle.std.proofs.lemmas.Map.Lookups.{exact_unsigned}
-use Rattle.std.proofs.lemmas.Option.{slice_get_past, slice_get-get_or}
+use Rattle.std.proofs.lemmas.Option.{same_Some, slice_get_past, slice_get-get_or}
 use Rattle.std.proofs.lemmas.List.Folds.{find_at}
 use Rattle.acc_base.specs.declared.attachments.Attachment.{Attachment}
 use Rattle.acc_base.specs.Attachments.{is_of, is_before, count_at, with_attachment, without_attachment}
+use Rattle.acc_base.specs.declared.mappings.Range.{Range}
 use Rattle.acc_base.specs.declared.tasks.Task.{Task}
+use Rattle.acc_base.specs.Ranges.{bare_range}
+use Rattle.acc_base.specs.Tasks.{recounted as recounted_by}
 use Rattle.acc_stale.specs.declared.accounts.Block.{Block}
 use Rattle.acc_stale.specs.declared.accounts.Waiting.{Waiting}
 use Rattle.acc_stale.specs.declared.accounts.Account.{Account}
-use Rattle.acc_stale.specs.Accounts.{ToldBlock, by_number, counted, told_of, attached_at, IsChanged, recounted, IsRecounted, without_first, IsRegionChanged}
+use Rattle.acc_stale.specs.Accounts.{ToldBlock, by_number, counted, told_of, told_at, attached_at, IsChanged, IsCountKept, CanCount, with_range_told, recounted, IsRecounted, without_first, IsRegionChanged}
 
 -- ---- a block
 
@@ -57,6 +60,31 @@ pub rewritten_block : (d block pointer count : ℕ) (old new : Account) (was now
     → told_of block now ≡ recounted block pointer count (told_of block was) → IsRecounted d block pointer count old new
 rewritten_block d block pointer count old new was now there updates waiting is =
     subst (λ t. IsChanged d block t old new) (ap Some is ∙ sym (ap (λ o. option_map (recounted block pointer count) (option_map (told_of block) o)) there)) (written d block old new now updates waiting)
+
+-- with other counters of its range
+pub counted_block : (d block : ℕ) (task : Task) (old new : Account) (was : Block) (range : Range) → get by_number old.blocks (d, block) ≡ Some was → UpdatesBy by_number (by_number (d, block)) old.blocks new.blocks (Some (record { held = record was.held { range = range }; pointers = was.pointers })) → new.waiting ≡ old.waiting
+    → (was.held.range.structured + 1 < 2 ^ 64 → was.held.range.dynamic + 1 < 2 ^ 64 → range ≡ recounted_by task was.held.range) → IsCountKept d block task old new
+counted_block d block task old new was range there updates waiting is = record {
+  range = range;
+  here = ap (option_map (told_of block)) updates.1 ∙ sym (ap (λ o. option_map (with_range_told range) (option_map (told_of block) o)) there);
+  counted = λ t e can.
+      let same : told_of block was ≡ t = same_Some _ _ (sym (ap (option_map (told_of block)) there) ∙ e) in
+      subst (λ (x : ToldBlock). CanCount x.held.range → range ≡ recounted_by task x.held.range) same (λ h. is h.0 h.1) can;
+  others = λ e b other. ap (option_map (told_of b)) (updates.2 (e, b) (apart d block e b other));
+  waiting = waiting;
+}
+
+-- there is no such block
+pub counted_none : (d block : ℕ) (task : Task) (old new : Account) → get by_number old.blocks (d, block) ≡ None → new.blocks ≡ old.blocks → new.waiting ≡ old.waiting → IsCountKept d block task old new
+counted_none d block task old new none same waiting =
+    let gone : told_at d block old ≡ None = ap (option_map (told_of block)) none in
+    record {
+      range = bare_range (record { start = 0; len = 0 }) block;
+      here = ap (λ m. option_map (told_of block) (get by_number m (d, block))) same ∙ gone ∙ sym (ap (option_map (with_range_told (bare_range (record { start = 0; len = 0 }) block))) gone);
+      counted = λ t e can. cc;
+      others = λ e b other. ap (λ m. option_map (told_of b) (get by_number m (e, b))) same;
+      waiting = waiting;
+    }
 
 -- ---- its pointers
 
@@ -227,3 +255,7 @@ region_written d number old new now updates blocks waiting = record {
   blocks = λ e b. ap (λ m. option_map (told_of b) (get by_number m (e, b))) blocks;
   waiting = waiting;
 }
+
+-- one that was entered
+pub region_opened : (d number : ℕ) (old new : Account) (tasks : Vec Task Global) (asks : List Task) → tasks.items ≡ asks → UpdatesBy by_number (by_number (d, number)) old.regions new.regions (Some tasks) → new.blocks ≡ old.blocks → new.waiting ≡ old.waiting → IsRegionChanged d number (Some asks) old new
+region_opened d number old new tasks asks is updates blocks waiting = subst (λ (ts : List Task). IsRegionChanged d number (Some ts) old new) is (region_written d number old new (Some tasks) updates blocks waiting)

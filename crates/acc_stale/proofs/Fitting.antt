@@ -22,8 +22,10 @@ use Rattle.acc_base.specs.Bytes.{step_state}
 use Rattle.acc_base.specs.Pointers.{aimed}
 use Rattle.acc_base.specs.Acting.{judge_task, act_state}
 use Rattle.acc_base.specs.History.{IsAttachLegal}
-use Rattle.acc_base.specs.Accounts.{AreRecordsSound}
+use Rattle.acc_base.specs.Accounts.{AreRecordsSound, IsCounted}
 use Rattle.acc_base.proofs.Results.{equal}
+use Rattle.acc_base.proofs.Elements.{found_has}
+use Rattle.acc_stale.specs.Accounts.{CanCount}
 use Rattle.acc_base.proofs.Judged.{inside_mapped, IsJudgedTo, step_judged, task_says}
 use Rattle.acc_base.proofs.Aimed.{leave_sound, exit_sound, move_sound, says_aimed}
 use Rattle.acc_base.proofs.Legality.{IsJudgedItem, item_judged}
@@ -43,15 +45,20 @@ some_range k ranges mapped = go (range_of k ranges) refl
 ends_some : (f : Range → Range) (k : ℕ) (ranges : List Range) → true ≡ ends_by f k ranges → IsSome (range_of k ranges)
 ends_some f k ranges e = some_range k ranges (λ none. let bad : true ≡ false = e ∙ ap (λ (o : Option Range). unwrap_or (option_map (λ r. is_unused (f r)) o) false) none in cc)
 
-pub step_fit : (l : Limits) (task : Task) (step : Step) (w : Records) → IsJudgedTo l task step w → IsStepFit step w
-step_fit l task Nothing w says = tt
-step_fit l task (Counted k) w says = tt
-step_fit l task (Dropped k false) w says = tt
-step_fit l (Enter counter item queue) (Born k p) w says = says.number
-step_fit l (ExitRegion holding) (Dropped k true) w says = ends_some (recounted (ExitRegion holding)) k w.ranges says.1
-step_fit l (ExitData finalize item queue) (Dropped k true) w says = some_range k w.ranges says.range.mapped
-step_fit l (Move if_present item queue) (Moved k) w says = some_range k w.ranges says.mapped
-step_fit l _ _ w says = absurd says
+can_count : (l : Limits) (k : ℕ) (r : Range) (w : Records) → IsWithinBounds l → AreRecordsSound l w → range_of k w.ranges ≡ Some r → CanCount r
+can_count l k r w bounds sound e =
+    let counted : IsCounted l r = (found_has (IsCounted l) (λ x. x.block == k) w.ranges r sound.counted e).0 in
+    (omega (arith, counted.structured, bounds.counter_max.1), omega (arith, counted.dynamic, bounds.counter_max.1))
+
+pub step_fit : (l : Limits) (task : Task) (step : Step) (w : Records) → IsWithinBounds l → AreRecordsSound l w → IsJudgedTo l task step w → IsStepFit step w
+step_fit l task Nothing w bounds sound says = tt
+step_fit l task (Counted k) w bounds sound says = λ r e. can_count l k r w bounds sound e
+step_fit l task (Dropped k false) w bounds sound says = λ r e. can_count l k r w bounds sound e
+step_fit l (Enter counter item queue) (Born k p) w bounds sound says = says.number
+step_fit l (ExitRegion holding) (Dropped k true) w bounds sound says = ends_some (recounted (ExitRegion holding)) k w.ranges says.1
+step_fit l (ExitData finalize item queue) (Dropped k true) w bounds sound says = some_range k w.ranges says.range.mapped
+step_fit l (Move if_present item queue) (Moved k) w bounds sound says = some_range k w.ranges says.mapped
+step_fit l _ _ w bounds sound says = absurd says
 
 -- ---- its pointer
 
@@ -116,7 +123,7 @@ entry_fit l n (Enter counter item queue) did s e bounds sound judged =
     let legal : IsJudgedItem l n (Enter counter item queue) did s.records = item_judged l n (Enter counter item queue) did s judged in
     let says : IsJudgedTo l (Enter counter item queue) did.step s.records = task_says l n (Enter counter item queue) s.records did.step legal.step in
     record {
-      step = step_fit l (Enter counter item queue) did.step s.records says;
+      step = step_fit l (Enter counter item queue) did.step s.records bounds sound says;
       records = refl;
       sound = acted_sound l (Enter counter item queue) did.step s.records bounds says (step_judged l n (Enter counter item queue) s.records did.step legal.step).free sound;
       aim = attach_fit l (pointer_aimed (Enter counter item queue) did.step) did.aim (act_step (Enter counter item queue) did.step s.records) bounds legal.aim;
@@ -148,7 +155,7 @@ exit_fit l n (ExitRegion holding) did s e bounds sound judged =
       aim = subst (λ a. IsAimFit a s.records) (sym legal.aim) (release_fit holding.aim s.records);
       records = refl;
       sound = leave_sound l holding did s.records sound legal.aim;
-      step = step_fit l (ExitRegion holding) did.step (records_aimed did.aim s.records) (says_aimed l (ExitRegion holding) did.step did.aim s.records says);
+      step = step_fit l (ExitRegion holding) did.step (records_aimed did.aim s.records) bounds (leave_sound l holding did s.records sound legal.aim) (says_aimed l (ExitRegion holding) did.step did.aim s.records says);
       before_step_is = refl;
       before_aim_is = refl;
       left = refl;
@@ -160,7 +167,7 @@ exit_fit l n (ExitData finalize item queue) did s e bounds sound judged =
       aim = subst (λ a. IsAimFit a s.records) (sym legal.aim) (detach_if_fit finalize (pointer_aimed (ExitData finalize item queue) did.step) s.records);
       records = refl;
       sound = exit_sound l finalize item queue did s.records sound legal.aim;
-      step = step_fit l (ExitData finalize item queue) did.step (records_aimed did.aim s.records) (says_aimed l (ExitData finalize item queue) did.step did.aim s.records says);
+      step = step_fit l (ExitData finalize item queue) did.step (records_aimed did.aim s.records) bounds (exit_sound l finalize item queue did s.records sound legal.aim) (says_aimed l (ExitData finalize item queue) did.step did.aim s.records says);
       before_step_is = refl;
       before_aim_is = refl;
       left = refl;
@@ -172,7 +179,7 @@ exit_fit l n (Move if_present item queue) did s e bounds sound judged =
       aim = subst (λ a. IsAimFit a s.records) (sym legal.aim) tt;
       records = refl;
       sound = move_sound l if_present item queue did s.records sound legal.aim;
-      step = step_fit l (Move if_present item queue) did.step (records_aimed did.aim s.records) (says_aimed l (Move if_present item queue) did.step did.aim s.records says);
+      step = step_fit l (Move if_present item queue) did.step (records_aimed did.aim s.records) bounds (move_sound l if_present item queue did s.records sound legal.aim) (says_aimed l (Move if_present item queue) did.step did.aim s.records says);
       before_step_is = refl;
       before_aim_is = refl;
       left = refl;

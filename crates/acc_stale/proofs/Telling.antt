@@ -29,10 +29,10 @@ use Rattle.acc_stale.specs.declared.accounts.Waiting.{Waiting}
 use Rattle.acc_stale.specs.declared.known.Placed.{Placed}
 use Rattle.acc_stale.specs.Events.{placed_in, pointers_of}
 use Rattle.acc_stale.specs.Told.{IsThere, StartsIn, IsStepTold}
-use Rattle.acc_stale.specs.Accounts.{ToldBlock, told_at, attached_at, HasSameBlocks, IsChanged, is_in, waiting_in}
+use Rattle.acc_stale.specs.Accounts.{ToldBlock, CanCount, told_at, attached_at, HasSameBlocks, IsChanged, IsCountKept, is_in, waiting_in}
 use Rattle.acc_stale.specs.Follows.{IsBlockTold, IsRangeTold, AreBlocksTold, FollowsDevice, IsStepFit}
 use Rattle.acc_stale.specs.Tells.{placed_at, held_new, placed_by, IsStepKept, attached_by, waiting_after, LeavesOthers}
-use Rattle.acc_stale.proofs.Followed.{AreKept, still_told, same_kept, recount_kept, ended_kept, born_told}
+use Rattle.acc_stale.proofs.Followed.{AreKept, still_told, same_kept, ended_kept, recount_told, born_told}
 
 -- ---- a block that is mapped
 
@@ -115,34 +115,35 @@ told_same d told now w same h = record {
 pub other_here : (d k j : ℕ) → (j == k) ≡ false → (d == d && j == k) ≡ false
 other_here d k j e = rw (equal_self d) e
 
-blocks_born : (l : Limits) (d line k place : ℕ) (task : Task) (a b : Account) (w : Records) → IsChanged d k (Some (record { held = held_new d (section_of task) line k place; attached = [] })) a b → k ≡ w.births + 1 → AreRecordsSound l w → AreBlocksTold d (λ j. told_at d j a) w
+blocks_born : (l : Limits) (d line k place : ℕ) (task : Task) (a b : Account) (w : Records) → IsChanged d k (Some (record { held = held_new d task line k place; attached = [] })) a b → k ≡ w.births + 1 → AreRecordsSound l w → AreBlocksTold d (λ j. told_at d j a) w
     → AreBlocksTold d (λ j. told_at d j b) (records_after_birth (recounted task (bare_range (section_of task) k)) place w)
 blocks_born l d line k place task a b w kept number sound h =
     let new : Range = recounted task (bare_range (section_of task) k) in
     let block : new.block ≡ k = (recounted_keeps task).block (bare_range (section_of task) k) in
     let section : new.section ≡ section_of task = (recounted_keeps task).section (bare_range (section_of task) k) in
-    born_told l d (λ j. told_at d j a) (λ j. told_at d j b) new place (record { held = held_new d (section_of task) line k place; attached = [] }) w sound (block ∙ number) (ap (λ j. told_at d j b) block ∙ kept.here)
-    (λ j e. kept.others d j (other_here d k j (subst (λ (x : ℕ). (j == x) ≡ false) block e))) refl (sym block) refl (sym (ap (λ (x : Section). x.start) section)) (sym section) refl h
+    born_told l d (λ j. told_at d j a) (λ j. told_at d j b) new place (record { held = held_new d task line k place; attached = [] }) w sound (block ∙ number) (ap (λ j. told_at d j b) block ∙ kept.here)
+    (λ j e. kept.others d j (other_here d k j (subst (λ (x : ℕ). (j == x) ≡ false) block e))) refl (sym block) refl (sym (ap (λ (x : Section). x.start) section)) refl refl h
 
 born_kept : (new : Range) (place : ℕ) (task : Task) (step : Step) (w : Records) → AreKept (records_after_birth new place w) (records_after_birth new place (with_put task step w))
 unfolding records_after_birth
 born_kept new place task step w = same_kept (records_after_birth new place w) (records_after_birth new place (with_put task step w)) refl refl refl
 
-blocks_acted : (l : Limits) (d line : ℕ) (task : Task) (step : Step) (a b : Account) (w : Records) → IsStepKept d (section_of task) line step a b → IsStepFit step w → AreRecordsSound l w → AreBlocksTold d (λ j. told_at d j a) w → AreBlocksTold d (λ j. told_at d j b) (act_step task step w)
+blocks_counted : (d k : ℕ) (task : Task) (step : Step) (a b : Account) (w : Records) → IsCountKept d k task a b → ((r : Range) → range_of k w.ranges ≡ Some r → CanCount r) → AreBlocksTold d (λ j. told_at d j a) w → AreBlocksTold d (λ j. told_at d j b) (with_range_changed k (recounted task) (with_put task step w))
+blocks_counted d k task step a b w kept fit h =
+    let put_told = still_told d (λ j. told_at d j a) w (with_put task step w) (same_kept w (with_put task step w) refl refl refl) h in
+    recount_told d k task (λ j. told_at d j a) (λ j. told_at d j b) kept.range (with_put task step w) kept.here (λ j e. kept.others d j (other_here d k j e)) kept.counted fit put_told
+
+blocks_acted : (l : Limits) (d line : ℕ) (task : Task) (step : Step) (a b : Account) (w : Records) → IsStepKept d task line step a b → IsStepFit step w → AreRecordsSound l w → AreBlocksTold d (λ j. told_at d j a) w → AreBlocksTold d (λ j. told_at d j b) (act_step task step w)
 unfolding act_step act_row
 blocks_acted l d line task Nothing a b w kept fit sound h = told_same d _ _ _ (kept.0 d) (still_told d _ w (with_put task Nothing w) (same_kept w (with_put task Nothing w) refl refl refl) h)
-blocks_acted l d line task (Counted k) a b w kept fit sound h =
-    let put_told = still_told d (λ j. told_at d j a) w (with_put task (Counted k) w) (same_kept w (with_put task (Counted k) w) refl refl refl) h in
-    told_same d _ _ _ (kept.0 d) (still_told d _ _ _ (recount_kept k (recounted task) (with_put task (Counted k) w) (recounted_keeps task)) put_told)
+blocks_acted l d line task (Counted k) a b w kept fit sound h = blocks_counted d k task (Counted k) a b w kept fit h
 blocks_acted l d line task (Born k place) a b w kept fit sound h =
     let new : Range = recounted task (bare_range (section_of task) k) in
     still_told d _ (records_after_birth new place w) (records_after_birth new place (with_put task (Born k place) w)) (born_kept new place task (Born k place) w) (blocks_born l d line k place task a b w kept fit sound h)
 blocks_acted l d line task (Dropped k true) a b w kept fit sound h =
     let put_told = still_told d (λ j. told_at d j a) w (with_put task (Dropped k true) w) (same_kept w (with_put task (Dropped k true) w) refl refl refl) h in
     told_same d _ _ _ (kept.0 d) (still_told d _ _ _ (ended_kept k (with_put task (Dropped k true) w)) put_told)
-blocks_acted l d line task (Dropped k false) a b w kept fit sound h =
-    let put_told = still_told d (λ j. told_at d j a) w (with_put task (Dropped k false) w) (same_kept w (with_put task (Dropped k false) w) refl refl refl) h in
-    told_same d _ _ _ (kept.0 d) (still_told d _ _ _ (recount_kept k (recounted task) (with_put task (Dropped k false) w) (recounted_keeps task)) put_told)
+blocks_acted l d line task (Dropped k false) a b w kept fit sound h = blocks_counted d k task (Dropped k false) a b w kept fit h
 blocks_acted l d line task (Moved k) a b w kept fit sound h = told_same d _ _ _ (kept.0 d) (still_told d _ w (with_put task (Moved k) w) (same_kept w (with_put task (Moved k) w) refl refl refl) h)
 
 -- ---- its queue
@@ -175,7 +176,7 @@ queue_after d q (Some p) (Some t) ws queues there is = one_more d q ws (record {
         let other : q ≢ p = grind (arith, nat_tests, e) in
         append-nil (waiting_in d q ws) ∙ is ∙ sym (get_or-set_other queues p q (queue_at p queues ++ t ∷ []) [] other)
 
-pub step_follows : (l : Limits) (d line : ℕ) (task : Task) (step : Step) (a b c : Account) (t : Option Transfer) (s : State) → IsStepKept d (section_of task) line step a b → b.waiting ≡ a.waiting → HasSameBlocks b c → c.waiting.items ≡ waiting_after d (queue_of task) t b.waiting.items → t ≡ transfer_of task step s.records.ranges
+pub step_follows : (l : Limits) (d line : ℕ) (task : Task) (step : Step) (a b c : Account) (t : Option Transfer) (s : State) → IsStepKept d task line step a b → b.waiting ≡ a.waiting → HasSameBlocks b c → c.waiting.items ≡ waiting_after d (queue_of task) t b.waiting.items → t ≡ transfer_of task step s.records.ranges
     → FollowsDevice d a s.records → AreRecordsSound l s.records → IsStepFit step s.records → FollowsDevice d c (act_step task step s.records)
 step_follows l d line task step a b c t s kept waiting same put_in is follows sound fit = record {
   told = told_same d (λ j. told_at d j b) (λ j. told_at d j c) (act_step task step s.records) (same d) (blocks_acted l d line task step a b s.records kept fit sound follows.told);
@@ -187,12 +188,13 @@ step_follows l d line task step a b c t s kept waiting same put_in is follows so
 }
 
 -- a step keeps what waits
-pub step_waits : (d line : ℕ) (section : Section) (step : Step) (a b : Account) → IsStepKept d section line step a b → b.waiting ≡ a.waiting
-step_waits d line section Nothing a b kept = kept.1
-step_waits d line section (Counted k) a b kept = kept.1
-step_waits d line section (Born k place) a b kept = kept.waiting
-step_waits d line section (Dropped k ended) a b kept = kept.1
-step_waits d line section (Moved k) a b kept = kept.1
+pub step_waits : (d line : ℕ) (task : Task) (step : Step) (a b : Account) → IsStepKept d task line step a b → b.waiting ≡ a.waiting
+step_waits d line task Nothing a b kept = kept.1
+step_waits d line task (Counted k) a b kept = kept.waiting
+step_waits d line task (Born k place) a b kept = kept.waiting
+step_waits d line task (Dropped k true) a b kept = kept.1
+step_waits d line task (Dropped k false) a b kept = kept.waiting
+step_waits d line task (Moved k) a b kept = kept.1
 
 -- ---- other devices
 
@@ -203,15 +205,16 @@ other_in d e q (Some p) (Some t) ws other =
     let swapped : (d == e) ≡ false = grind (arith, nat_tests, other) in
     one_more e q ws (record { device = d; queue = p; transfer = t }) ∙ rw swapped (append-nil (waiting_in e q ws))
 
-step_others_told : (d e line : ℕ) (section : Section) (step : Step) (a b : Account) → IsStepKept d section line step a b → (e == d) ≡ false → (j : ℕ) → told_at e j b ≡ told_at e j a
-step_others_told d e line section Nothing a b kept other j = kept.0 e j
-step_others_told d e line section (Counted k) a b kept other j = kept.0 e j
-step_others_told d e line section (Born k place) a b kept other j = kept.others e j (rw other refl)
-step_others_told d e line section (Dropped k ended) a b kept other j = kept.0 e j
-step_others_told d e line section (Moved k) a b kept other j = kept.0 e j
+step_others_told : (d e line : ℕ) (task : Task) (step : Step) (a b : Account) → IsStepKept d task line step a b → (e == d) ≡ false → (j : ℕ) → told_at e j b ≡ told_at e j a
+step_others_told d e line task Nothing a b kept other j = kept.0 e j
+step_others_told d e line task (Counted k) a b kept other j = kept.others e j (rw other refl)
+step_others_told d e line task (Born k place) a b kept other j = kept.others e j (rw other refl)
+step_others_told d e line task (Dropped k true) a b kept other j = kept.0 e j
+step_others_told d e line task (Dropped k false) a b kept other j = kept.others e j (rw other refl)
+step_others_told d e line task (Moved k) a b kept other j = kept.0 e j
 
-pub step_others : (d line : ℕ) (task : Task) (step : Step) (a b c : Account) (t : Option Transfer) → IsStepKept d (section_of task) line step a b → b.waiting ≡ a.waiting → HasSameBlocks b c → c.waiting.items ≡ waiting_after d (queue_of task) t b.waiting.items → LeavesOthers d a c
+pub step_others : (d line : ℕ) (task : Task) (step : Step) (a b c : Account) (t : Option Transfer) → IsStepKept d task line step a b → b.waiting ≡ a.waiting → HasSameBlocks b c → c.waiting.items ≡ waiting_after d (queue_of task) t b.waiting.items → LeavesOthers d a c
 step_others d line task step a b c t kept waiting same put_in e w other follows = record {
-  told = told_same e (λ j. told_at e j a) (λ j. told_at e j c) w (λ j. same e j ∙ step_others_told d e line (section_of task) step a b kept other j) follows.told;
+  told = told_same e (λ j. told_at e j a) (λ j. told_at e j c) w (λ j. same e j ∙ step_others_told d e line task step a b kept other j) follows.told;
   queues = λ q low. ap (waiting_in e q) (put_in ∙ ap (λ (x : _). waiting_after d (queue_of task) t x.items) waiting) ∙ other_in d e q (queue_of task) t a.waiting.items other ∙ follows.queues q low;
 }

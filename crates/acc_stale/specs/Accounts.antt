@@ -1,12 +1,14 @@
 -- What an account says of blocks, their attached pointers, the transfers that wait, and the open regions.
-use Rattle.std.specs.Prelude.{ℕ, ◌≡◌, Bool, false, ◌&&◌, ◌==◌, if◌then◌else◌, List, [], ◌∷◌, map, filter, Option, unwrap_or, option_map}
+use Rattle.std.specs.Prelude.{ℕ, ◌≡◌, ◌<◌, ◌+◌, ◌^◌, Bool, false, ◌&&◌, ◌==◌, if◌then◌else◌, List, [], ◌∷◌, map, filter, Option, Some, unwrap_or, option_map}
 use Rattle.std.specs.BTreeMap.{get}
 use Rattle.std.specs.declared.cmp.Ordering.{Ordering}
 use Rattle.std.specs.Ordering.{nat_cmp, ordering_then}
 use Rattle.acc_base.specs.declared.attachments.Attachment.{Attachment}
+use Rattle.acc_base.specs.declared.mappings.Range.{Range}
 use Rattle.acc_base.specs.declared.tasks.Task.{Task}
 use Rattle.acc_base.specs.declared.transfers.Transfer.{Transfer}
 use Rattle.acc_base.specs.Attachments.{with_count}
+use Rattle.acc_base.specs.Tasks.{recounted as recounted_by}
 use Rattle.acc_stale.specs.declared.accounts.Held.{Held}
 use Rattle.acc_stale.specs.declared.accounts.Told.{Told}
 use Rattle.acc_stale.specs.declared.accounts.Waiting.{Waiting}
@@ -57,6 +59,22 @@ pub record IsChanged (d block : ℕ) (now : Option ToldBlock) (old new : Account
 -- with the counter of a pointer set to a number
 abbrev pub recounted : ℕ → ℕ → ℕ → ToldBlock → ToldBlock
 recounted block pointer count t = record { held = t.held; attached = with_count block pointer count t.attached }
+
+-- the same, with another range told
+abbrev pub with_range_told : Range → ToldBlock → ToldBlock
+with_range_told range t = record { held = record t.held { range = range }; attached = t.attached }
+
+-- both counters of a range can rise
+abbrev pub CanCount : Range → Type 0
+CanCount r = (r.structured + 1 < 2 ^ 64) × (r.dynamic + 1 < 2 ^ 64)
+
+-- an account says of the range of a block what a task leaves of it, and of all others what it did
+pub record IsCountKept (d block : ℕ) (task : Task) (old new : Account) : Type 0 where
+  pub range : Range
+  pub here : told_at d block new ≡ option_map (with_range_told range) (told_at d block old)
+  pub counted : (t : ToldBlock) → told_at d block old ≡ Some t → CanCount t.held.range → range ≡ recounted_by task t.held.range
+  pub others : (e b : ℕ) → (e == d && b == block) ≡ false → told_at e b new ≡ told_at e b old
+  pub waiting : new.waiting ≡ old.waiting
 
 abbrev pub IsRecounted : ℕ → ℕ → ℕ → ℕ → Account → Account → Type 0
 IsRecounted d block pointer count old new = IsChanged d block (option_map (recounted block pointer count) (told_at d block old)) old new

@@ -1,11 +1,11 @@
 -- When an account says of a device what the model has: where blocks lie, how often their pointers are attached, which
 -- transfers wait, and what the exits from open regions ask.
-use Rattle.std.specs.Prelude.{ℕ, ◌≡◌, ◌<◌, ◌+◌, ◌^◌, true, ⊤, Option, Some, IsSome, List, map, length}
+use Rattle.std.specs.Prelude.{ℕ, ◌≡◌, ◌<◌, ◌+◌, ◌^◌, true, false, ⊤, Option, Some, IsSome, List, map, length}
 use Rattle.std.specs.Option.{IsSomeAnd}
 use Rattle.acc_base.specs.declared.attachments.Aim.{Aim}
 use Rattle.acc_base.specs.declared.attachments.Aim.TheVariants as aims
 use Rattle.acc_base.specs.declared.events.Step.{Step}
-use Rattle.acc_base.specs.declared.events.Step.TheVariants.{Born, Dropped, Moved}
+use Rattle.acc_base.specs.declared.events.Step.TheVariants.{Counted, Born, Dropped, Moved}
 use Rattle.acc_base.specs.declared.mappings.Range.{Range}
 use Rattle.acc_base.specs.declared.transfers.TheConstants.{QUEUE_COUNT}
 use Rattle.acc_base.specs.Ranges.{range_of}
@@ -23,7 +23,7 @@ use Rattle.acc_base.specs.History.{NamesRight}
 use Rattle.acc_base.specs.Accounts.{AreRecordsSound, IsRegisterSound, IsMadeIn}
 use Rattle.acc_stale.specs.declared.accounts.Account.{Account}
 use Rattle.acc_stale.specs.Events.{pointers_of}
-use Rattle.acc_stale.specs.Accounts.{ToldBlock, told_at, waiting_in, undone_at}
+use Rattle.acc_stale.specs.Accounts.{ToldBlock, CanCount, told_at, waiting_in, undone_at}
 
 -- a block lies where it is told, and these are its attached pointers
 pub record IsBlockTold (d block : ℕ) (w : Records) (t : ToldBlock) : Type 0 where
@@ -32,10 +32,10 @@ pub record IsBlockTold (d block : ℕ) (w : Records) (t : ToldBlock) : Type 0 wh
   pub place : t.held.placed.place ≡ place_of block w.blocks
   pub attached : t.attached ≡ pointers_of block w.attached
 
--- its range is what is told
+-- its range is what is told, with its counters
 pub record IsRangeTold (r : Range) (t : ToldBlock) : Type 0 where
   pub start : t.held.placed.start ≡ r.section.start
-  pub section : t.held.section ≡ r.section
+  pub range : t.held.range ≡ r
 
 -- each block that is there is told, and each range
 pub record AreBlocksTold (d : ℕ) (told : ℕ → Option ToldBlock) (w : Records) : Type 0 where
@@ -77,9 +77,11 @@ pub record IsEventOf (l : Limits) (e : Event) (w : Whole) : Type 0 where
 
 -- ---- what an item has to be, so that an account tells it
 
--- the block of a step is mapped, and a new one has the next number
+-- the block of a step is mapped, its counters can rise, and a new one has the next number
 abbrev pub IsStepFit : Step → Records → Type 0
+IsStepFit (Counted block) w = (r : Range) → range_of block w.ranges ≡ Some r → CanCount r
 IsStepFit (Born block place) w = block ≡ w.births + 1
+IsStepFit (Dropped block false) w = (r : Range) → range_of block w.ranges ≡ Some r → CanCount r
 IsStepFit (Dropped block true) w = IsSome (range_of block w.ranges)
 IsStepFit (Moved block) w = IsSome (range_of block w.ranges)
 IsStepFit _ w = ⊤

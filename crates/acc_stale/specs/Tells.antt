@@ -6,11 +6,13 @@ use Rattle.acc_base.specs.declared.attachments.Aim.TheVariants as aims
 use Rattle.acc_base.specs.declared.events.Did.{Did}
 use Rattle.acc_base.specs.declared.events.Event.{Event}
 use Rattle.acc_base.specs.declared.events.Step.{Step}
-use Rattle.acc_base.specs.declared.events.Step.TheVariants.{Born, Dropped, Moved}
+use Rattle.acc_base.specs.declared.events.Step.TheVariants.{Counted, Born, Dropped, Moved}
 use Rattle.acc_base.specs.declared.items.Section.{Section}
 use Rattle.acc_base.specs.declared.tasks.Task.{Task}
 use Rattle.acc_base.specs.declared.transfers.Transfer.{Transfer}
 use Rattle.acc_base.specs.Queues.{head_of}
+use Rattle.acc_base.specs.Ranges.{bare_range}
+use Rattle.acc_base.specs.Tasks.{section_of, recounted}
 use Rattle.acc_base.specs.Records.{Records, State}
 use Rattle.acc_base.specs.Waits.{drained}
 use Rattle.acc_base.specs.Acting.{act_all_state}
@@ -19,7 +21,7 @@ use Rattle.acc_stale.specs.declared.accounts.Account.{Account}
 use Rattle.acc_stale.specs.declared.accounts.Held.{Held}
 use Rattle.acc_stale.specs.declared.accounts.Waiting.{Waiting}
 use Rattle.acc_stale.specs.declared.known.Placed.{Placed}
-use Rattle.acc_stale.specs.Accounts.{told_at, attached_at, HasSameBlocks, IsChanged}
+use Rattle.acc_stale.specs.Accounts.{told_at, attached_at, HasSameBlocks, IsChanged, IsCountKept}
 use Rattle.acc_stale.specs.declared.tellings.NextTold.{NextTold}
 use Rattle.acc_stale.specs.declared.trackers.Tracker.{Tracker}
 use Rattle.acc_stale.specs.Events.{known_all, known_drained, known_written, known_after}
@@ -32,9 +34,9 @@ use Rattle.acc_stale.specs.Follows.{FollowsDevice, FollowsWhole}
 abbrev pub placed_at : ℕ → ℕ → Account → Option Placed
 placed_at d block a = option_map (λ t. t.held.placed) (told_at d block a)
 
--- the block of a step that is new, with the section that it is made for
-abbrev pub held_new : ℕ → Section → ℕ → ℕ → ℕ → Held
-held_new d section line block place = record { placed = record { device = d; block = block; start = section.start; place = place }; section = section; line = line }
+-- the block of a step that is new, with the range that the task makes
+abbrev pub held_new : ℕ → Task → ℕ → ℕ → ℕ → Held
+held_new d task line block place = record { placed = record { device = d; block = block; start = (section_of task).start; place = place }; range = recounted task (bare_range (section_of task) block); line = line }
 
 -- where the block of a step lies
 abbrev pub placed_by : ℕ → Section → Step → Account → Option Placed
@@ -48,10 +50,12 @@ abbrev pub ended_at : ℕ → Step → Account → Option Held
 ended_at d (Dropped block true) a = option_map (λ t. t.held) (told_at d block a)
 ended_at d _ a = None
 
--- a new block is kept
-abbrev pub IsStepKept : ℕ → Section → ℕ → Step → Account → Account → Type 0
-IsStepKept d section line (Born block place) old new = IsChanged d block (Some (record { held = held_new d section line block place; attached = [] })) old new
-IsStepKept d section line _ old new = HasSameBlocks old new × (new.waiting ≡ old.waiting)
+-- a new block is kept, and the counters of one that is counted
+abbrev pub IsStepKept : ℕ → Task → ℕ → Step → Account → Account → Type 0
+IsStepKept d task line (Counted block) old new = IsCountKept d block task old new
+IsStepKept d task line (Born block place) old new = IsChanged d block (Some (record { held = held_new d task line block place; attached = [] })) old new
+IsStepKept d task line (Dropped block false) old new = IsCountKept d block task old new
+IsStepKept d task line _ old new = HasSameBlocks old new × (new.waiting ≡ old.waiting)
 
 -- the attached pointers of the block of a step; a new one has none
 abbrev pub attached_by : ℕ → Step → Account → List Attachment

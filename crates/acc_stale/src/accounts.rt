@@ -4,11 +4,12 @@ ghost use Rattle.std.specs.Prelude.{◌≡◌, ℕ, ◌&&◌, ◌==◌, ◌++◌
 ghost use Rattle.std.specs.List.{find, position};
 ghost use Rattle.acc_base.specs.Attachments.{count_at};
 ghost use Rattle.acc_base.specs.Devices.{new_whole};
+ghost use Rattle.acc_base.specs.Items.{tasks_undone};
 ghost use Rattle.acc_stale.specs.Follows.{FollowsWhole};
-ghost use Rattle.acc_stale.specs.Accounts.{is_in, without_first, counted, told_block, told_at, attached_at, IsChanged, IsRecounted, HasSameBlocks, undone_at, IsRegionChanged};
+ghost use Rattle.acc_stale.specs.Accounts.{is_in, without_first, counted, told_block, told_at, attached_at, IsChanged, IsCountKept, IsRecounted, HasSameBlocks, undone_at, IsRegionChanged};
 
 use crate::known::Placed;
-use acc_base::{Attachment, Section, Task, Transfer};
+use acc_base::{Attachment, Event, Range, Section, Task, Transfer};
 use std::alloc::{AllocError, Global};
 use std::collections::{BTreeMap, VecDeque};
 
@@ -17,8 +18,8 @@ use std::collections::{BTreeMap, VecDeque};
 pub struct Held {
     /// Where it lies.
     pub placed: Placed,
-    /// The section that was mapped to it.
-    pub section: Section,
+    /// The range that is mapped to it. Where the mapping has ended it has the counters right before.
+    pub range: Range,
     /// The number of the line.
     pub line: u64,
 }
@@ -96,6 +97,16 @@ impl Account {
         let pointers = BTreeMap::new(self.alloc);
         self.blocks.insert(key, Block { held, pointers })?;
         Ok(())
+    }
+
+    /// Keeps what a task leaves of the counters of a block's range.
+    pub(crate) fn recount(&mut self, device: u64, block: u64, task: Task)
+        ensures counted { IsCountKept device block task self.old self.new }
+        ensures regions { self.new.regions ≡ self.old.regions }
+    {
+        if let Some(found) = self.blocks.get_mut(&(device, block)) {
+            found.held.range = task.recounted(found.held.range);
+        }
     }
 
     /// The block of a number on a device.
@@ -214,6 +225,13 @@ impl Account {
             .count()
     }
 
+    /// How many transfers wait, in all queues.
+    pub fn waiting(&self) -> usize
+        ensures { result ≡ length self.now.waiting.items }
+    {
+        self.waiting.len()
+    }
+
     /// The queue in which a transfer waits that copies an address, to host memory or to a device.
     pub fn queue_with(&self, address: u64, out: bool) -> Option<u64> {
         let waiting = self.waiting.iter().find(|w| w.transfer.out == out
@@ -223,26 +241,39 @@ impl Account {
 
     // ---- regions
 
-    /// Keeps what the exit from a region asks (OpenACC 3.3, section 2.6.5).
-    pub(crate) fn open(
-        &mut self,
-        device: u64,
-        number: u64,
-        tasks: Vec<Task>,
-    ) -> Result<(), AllocError>
-        ensures ok { OnOk result (IsRegionChanged device number (Some tasks.items) self.old self.new) }
+    /// Keeps what the exit from a region asks that an event entered (OpenACC 3.3, section 2.6.5).
+    ///
+    /// # Errors
+    ///
+    /// `AllocError` alone.
+    pub fn open(&mut self, device: u64, number: u64, entry: &Event) -> Result<(), AllocError>
+        ensures ok { OnOk result (IsRegionChanged device number (Some (tasks_undone entry.now)) self.old self.new) }
     {
+        let tasks = undone(self.alloc, entry)?;
         self.regions.insert((device, number), tasks)?;
         Ok(())
     }
 
-    /// Drops a region, and returns what the exit from it asks.
-    pub(crate) fn close(&mut self, device: u64, number: u64) -> Option<Vec<Task>>
+    /// Drops a region, and returns what the exit from it asks, of the first item first.
+    pub fn close(&mut self, device: u64, number: u64) -> Option<Vec<Task>>
         ensures undone { option_map (λ tasks. tasks.items) result ≡ undone_at device number self.old }
         ensures closed { IsRegionChanged device number None self.old self.new }
     {
         self.regions.remove(&(device, number))
     }
+}
+
+/// What the exit from a region asks that an event entered, of the first item first.
+fn undone(alloc: Global, entry: &Event) -> Result<Vec<Task>, AllocError>
+    ensures { IfOk result (λ tasks. tasks.items ≡ tasks_undone entry.now) }
+{
+    let mut tasks = Vec::new(alloc);
+    for place in 0..entry.did().len() {
+        if let Some(task) = entry.exit_task(place) {
+            tasks.push(task)?;
+        }
+    }
+    Ok(tasks)
 }
 
 /// The attached pointers of a block, by rising address.

@@ -18,7 +18,6 @@ ghost use Rattle.acc_stale.specs.Tells.{LeavesOthers, AreActed, IsEventTold};
 use crate::items::Watch;
 use crate::trackers::Tracker;
 use acc_base::{Did, Event, Fault, Task};
-use std::alloc::{AllocError, Global};
 
 impl Tracker {
     /// An event was made, in a line of this number. Of a write of the host, and of a lease that is back, what follows
@@ -89,8 +88,7 @@ impl Tracker {
         ensures only { IfErr result (λ fault. fault ≡ Memory) }
     {
         self.asked(event, line, watch)?;
-        let tasks = undone(self.account.alloc(), event)?;
-        self.account.open(device, number, tasks)?;
+        self.account.open(device, number, event)?;
         Ok(())
     }
 
@@ -135,17 +133,4 @@ impl Tracker {
         }
         Ok(())
     }
-}
-
-/// What the exit from a region asks that an event entered, of the first item first.
-fn undone(alloc: Global, entry: &Event) -> Result<Vec<Task>, AllocError>
-    ensures { IfOk result (λ tasks. tasks.items ≡ tasks_undone entry.now) }
-{
-    let mut tasks = Vec::new(alloc);
-    for place in 0..entry.did().len() {
-        if let Some(task) = entry.exit_task(place) {
-            tasks.push(task)?;
-        }
-    }
-    Ok(tasks)
 }

@@ -1,4 +1,5 @@
-//! Which bytes are stale: those of which another memory has had a newer one, and those that nothing ever filled.
+//! Which bytes are stale: those of which another memory has had a newer one, and those that nothing ever filled. And an
+//! account, which tells what each item of an event did, and what it left of blocks, counters, pointers and queues.
 #![tactic(auto)]
 
 mod accounts;
@@ -16,5 +17,7 @@ pub use accounts::{Account, Held, Told, has_address};
 pub use items::{Holder, ItemDone, Watch};
 pub use known::{Known, Placed};
 pub use marks::{Mark, Run};
+pub use tasks::number_of;
+pub use tellings::{ItemTold, NextTold};
 pub use trackers::Tracker;
 pub use writes::Part;

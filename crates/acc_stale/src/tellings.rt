@@ -9,17 +9,18 @@ ghost use Rattle.acc_base.specs.Records.{State};
 ghost use Rattle.acc_base.specs.Accounts.{AreRecordsSound};
 ghost use Rattle.acc_base.specs.Acting.{judge_task, act_state};
 ghost use Rattle.acc_base.specs.Steps.{act_step, records_aimed};
+ghost use Rattle.acc_base.specs.Tasks.{section_of};
 ghost use Rattle.acc_base.specs.Transfers.{transfer_of};
 ghost use Rattle.acc_stale.specs.Accounts.{HasSameBlocks, attached_at};
 ghost use Rattle.acc_stale.specs.Follows.{FollowsDevice, IsStepFit, IsAimFit};
 ghost use Rattle.acc_stale.specs.Told.{before_step, IsStepTold, IsAimTold, IsItemTold};
-ghost use Rattle.acc_stale.specs.Tells.{placed_by, IsStepKept, attached_by, waiting_after, pointer_held, count_left, placed_at, ended_at, IsMadeTold, LeavesOthers};
+ghost use Rattle.acc_stale.specs.Tells.{held_new, placed_by, IsStepKept, attached_by, waiting_after, pointer_held, count_left, placed_at, ended_at, IsMadeTold, LeavesOthers};
 
 use crate::accounts::{Account, Held, Waiting};
 use crate::items::{Holder, ItemDone, enters};
 use crate::known::Placed;
 use crate::tasks::transfer_in;
-use acc_base::{Aim, Attachment, Did, Section, Step, Task, Transfer};
+use acc_base::{Aim, Attachment, Did, Range, Step, Task, Transfer};
 use std::alloc::AllocError;
 
 /// What is told of the step of an item.
@@ -35,7 +36,7 @@ pub(crate) struct StepTold {
 
 /// What is told of an item.
 #[derive(Drop)]
-pub(crate) struct ItemTold {
+pub struct ItemTold {
     /// What it did, and where the blocks lie whose bytes it touched.
     pub item: ItemDone,
     /// The attached pointers of the block of its step, right before the step.
@@ -46,7 +47,7 @@ pub(crate) struct ItemTold {
 
 /// What is told of a queued transfer.
 #[derive(Drop)]
-pub(crate) struct NextTold {
+pub struct NextTold {
     /// Where its block lies.
     pub block: Placed,
     /// The attached pointers of that block.
@@ -58,7 +59,11 @@ pub(crate) struct NextTold {
 impl Account {
     /// Tells of an item, and keeps what it did. An item that enters attaches its pointer after its step, and others
     /// detach it before.
-    pub(crate) fn item(
+    ///
+    /// # Errors
+    ///
+    /// `AllocError` alone. The account is not to be asked any more then.
+    pub fn item(
         &mut self,
         device: u64,
         task: Task,
@@ -99,7 +104,7 @@ impl Account {
         ensures others { OnOk result (LeavesOthers device self.old self.new) }
         ensures regions { self.new.regions ≡ self.old.regions }
     {
-        let (block, attached) = self.place(device, task.section(), step, line)?;
+        let (block, attached) = self.place(device, task, step, line)?;
         let transfer = transfer_in(block, task, step);
         self.keep(device, task.queue(), transfer)?;
         Ok(StepTold {
@@ -119,38 +124,39 @@ impl Account {
         }
     }
 
-    /// Where the block lies whose bytes a step touches, and its attached pointers. A new one is kept, which is mapped for
-    /// this section.
+    /// Where the block lies whose bytes a step touches, and its attached pointers. What the step makes or counts is kept.
     fn place(
         &mut self,
         device: u64,
-        section: Section,
+        task: Task,
         step: Step,
         line: u64,
     ) -> Result<(Option<Placed>, Vec<Attachment>), AllocError>
-        ensures told { IfOk result (λ told. told.0 ≡ placed_by device section step self.old) }
+        ensures told { IfOk result (λ told. told.0 ≡ placed_by device (section_of task) step self.old) }
         ensures attached { IfOk result (λ told. told.1.items ≡ attached_by device step self.old) }
-        ensures kept { OnOk result (IsStepKept device section line step self.old self.new) }
+        ensures kept { OnOk result (IsStepKept device task line step self.old self.new) }
         ensures regions { self.new.regions ≡ self.old.regions }
     {
         match step {
             Step::Born { block, place } => {
-                let placed = Placed {
-                    device,
-                    block,
-                    start: section.start,
-                    place,
-                };
-                self.born(Held {
-                    placed,
-                    section,
-                    line,
-                })?;
-                Ok((Some(placed), Vec::new(self.alloc())))
+                let held = held_new(device, task, line, block, place);
+                self.born(held)?;
+                Ok((Some(held.placed), Vec::new(self.alloc())))
+            }
+            Step::Counted { block } => {
+                self.recount(device, block, task);
+                Ok((None, Vec::new(self.alloc())))
+            }
+            Step::Dropped {
+                block,
+                ended: false,
+            } => {
+                self.recount(device, block, task);
+                Ok((None, Vec::new(self.alloc())))
             }
             Step::Dropped { block, ended: true } => self.there(device, block),
             Step::Moved { block } => self.there(device, block),
-            _ => Ok((None, Vec::new(self.alloc()))),
+            Step::Nothing => Ok((None, Vec::new(self.alloc()))),
         }
     }
 
@@ -225,7 +231,11 @@ impl Account {
     // ---- a queue
 
     /// Takes the first transfer out of a queue, and tells of it (OpenACC 3.3, section 2.16).
-    pub(crate) fn next(&mut self, device: u64, queue: u64) -> Result<Option<NextTold>, AllocError>
+    ///
+    /// # Errors
+    ///
+    /// `AllocError` alone. The account is not to be asked any more then.
+    pub fn next(&mut self, device: u64, queue: u64) -> Result<Option<NextTold>, AllocError>
         ensures told { IfOk result (λ next. (l : Limits) (s : State) → FollowsDevice device self.old s.records → AreRecordsSound l s.records → queue < QUEUE_COUNT → IsMadeTold device queue next s) }
         ensures follows { OnOk result ((l : Limits) (s : State) → FollowsDevice device self.old s.records → AreRecordsSound l s.records → queue < QUEUE_COUNT → FollowsDevice device self.new (stepped queue s).records) }
         ensures others { OnOk result (LeavesOthers device self.old self.new) }
@@ -262,6 +272,30 @@ fn told_by(device: u64, task: Task, did: Did, step: StepTold, holder: Option<Hol
         },
         attached: step.attached,
         transfer: step.transfer,
+    }
+}
+
+/// A block that a task made, with the range that it maps.
+fn held_new(device: u64, task: Task, line: u64, block: u64, place: u64) -> Held
+    ensures { result ≡ held_new device task line block place }
+{
+    let section = task.section();
+    let placed = Placed {
+        device,
+        block,
+        start: section.start,
+        place,
+    };
+    let range = task.recounted(Range {
+        section,
+        block,
+        structured: 0,
+        dynamic: 0,
+    });
+    Held {
+        placed,
+        range,
+        line,
     }
 }
 

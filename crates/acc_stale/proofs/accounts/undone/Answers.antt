@@ -3,8 +3,8 @@ use Rattle.std.specs.List.{slice_get}
 use Rattle.acc_base.specs.declared.events.Did.{Did}
 use Rattle.acc_base.specs.Items.{tasks_undone}
 use Rattle.acc_stale.proofs.Turning.{take_some, take_none, undone_whole}
-use Rattle.acc_stale.proofs.events.undone.Goals as goal
-use Rattle.acc_stale.proofs.events.undone.Goals.{in-Some+in_ok-push, in_default}
+use Rattle.acc_stale.proofs.accounts.undone.Goals as goal
+use Rattle.acc_stale.proofs.accounts.undone.Goals.{in-Some+in_ok-push, in_default}
 
 pub loop-place-preserved : goal.loop-place-preserved
 loop-place-preserved c =

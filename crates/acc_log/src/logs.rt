@@ -327,9 +327,13 @@ impl Log {
 
     /// Puts the next copy of a queue. False where none waits in it.
     fn tell_next(&mut self, names: &Names, device: u64, queue: u64) -> Result<bool, AllocError> {
-        let Some(NextTold {
-            block, transfer, ..
-        }) = self.account.next(device, queue)?
+        let Some(
+            NextTold {
+                block,
+                transfer,
+                ..
+            },
+        ) = self.account.next(device, queue)?
         else {
             return Ok(false);
         };
@@ -338,14 +342,7 @@ impl Log {
         Ok(true)
     }
 
-    fn tell_lent(
-        &mut self,
-        names: &Names,
-        device: u64,
-        section: Section,
-        block: u64,
-        serial: u64,
-    ) {
+    fn tell_lent(&mut self, names: &Names, device: u64, section: Section, block: u64, serial: u64) {
         if let Some(Held { placed, .. }) = self.account.block(device, block) {
             let offset = section.start.saturating_sub(placed.start);
             let place = Some(placed.place.saturating_add(offset));

@@ -4,18 +4,10 @@ use crate::lists::List;
 use crate::places::{LINE_PITCH, MARGIN};
 use crate::shapes::{Point, close_text, open_text};
 use crate::short_names::put_short_name;
-use acc_base::{Did, Event, QUEUE_COUNT, Section};
+use acc_base::{QUEUE_COUNT, Transfer};
 use acc_read::{Names, Page};
 use acc_table::Table;
 use std::alloc::Global;
-
-/// A copy that was put into a queue.
-#[derive(Clone, Copy)]
-struct Queued {
-    section: Section,
-    /// From the device to host memory, and not the other way.
-    out: bool,
-}
 
 /// A queue that is not empty.
 #[derive(Drop)]
@@ -23,49 +15,26 @@ pub struct QueueLine {
     number: u64,
     /// How many copies wait.
     len: u64,
-    /// All copies that were put into it since the base of the table; the last of them wait.
-    copies: List<Queued>,
+    /// Those that are named, the next one first.
+    shown: List<Transfer>,
 }
 
 /// How many copies of a queue are named at most.
-const COPY_LIMIT: usize = 3;
+const COPY_LIMIT: u64 = 3;
 
 /// Adds the queues of a device that are not empty, by rising number (OpenACC 3.3, section 2.16).
 pub fn add_queues(alloc: Global, table: &Table, device: u64, queues: &mut List<QueueLine>) {
     for number in 0..QUEUE_COUNT {
         let len = table.queue_len(device, number);
         if len > 0 {
-            let copies = copies_of(alloc, table, device, number);
-            queues.wants |= copies.wants;
-            queues.add(QueueLine {
-                number,
-                len,
-                copies,
-            });
-        }
-    }
-}
-
-fn copies_of(alloc: Global, table: &Table, device: u64, number: u64) -> List<Queued> {
-    let mut copies = List::new(alloc);
-    for event in table.trace() {
-        if event.device() == device {
-            add_copies(event, event.did(), number, &mut copies);
-        }
-    }
-    copies
-}
-
-/// Adds the copies that the items of an event put into a queue.
-fn add_copies(event: &Event, did: &[Did], number: u64, copies: &mut List<Queued>) {
-    for (nth, did) in did.iter().enumerate() {
-        if let Some(task) = event.task(nth) {
-            if task.queue() == Some(number) && task.copies(did.step) {
-                copies.add(Queued {
-                    section: task.section(),
-                    out: task.goes_out(),
-                });
+            let mut shown = List::new(alloc);
+            for place in 0..COPY_LIMIT {
+                if let Some(copy) = table.queued(device, number, place) {
+                    shown.add(copy);
+                }
             }
+            queues.wants |= shown.wants;
+            queues.add(QueueLine { number, len, shown });
         }
     }
 }
@@ -80,14 +49,12 @@ pub fn put_queues(page: &mut Page, alloc: Global, names: &Names, queues: &[Queue
 }
 
 impl QueueLine {
-    /// The next copy stands first.
     fn put(&self, page: &mut Page, alloc: Global, names: &Names, y: u64) {
         open_text(page, "name", Point { x: MARGIN, y });
         page.text("queue ");
         page.number(self.number);
         page.text(" waits to copy ");
-        let waiting = self.waiting();
-        let shown = waiting.get(..COPY_LIMIT).unwrap_or(waiting);
+        let shown = &self.shown.all;
         put_copies(page, alloc, names, shown);
         self.put_rest(page, shown.len() as u64);
         close_text(page);
@@ -101,26 +68,14 @@ impl QueueLine {
             page.text(" more");
         }
     }
-
-    fn waiting(&self) -> &[Queued] {
-        let len = usize::try_from(self.len).unwrap_or(usize::MAX);
-        let made = self.copies.all.len().saturating_sub(len);
-        self.copies.all.get(made..).unwrap_or(&[])
-    }
 }
 
-impl Queued {
-    fn put(self, page: &mut Page, alloc: Global, names: &Names) {
-        put_short_name(page, alloc, names, self.section);
-        page.text(if self.out { " to host" } else { " to device" });
-    }
-}
-
-fn put_copies(page: &mut Page, alloc: Global, names: &Names, copies: &[Queued]) {
+fn put_copies(page: &mut Page, alloc: Global, names: &Names, copies: &[Transfer]) {
     let mut before = "";
     for copy in copies {
         page.text(before);
-        copy.put(page, alloc, names);
+        put_short_name(page, alloc, names, copy.section);
+        page.text(if copy.out { " to host" } else { " to device" });
         before = ", ";
     }
 }

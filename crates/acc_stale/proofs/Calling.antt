@@ -1,10 +1,10 @@
 -- What a table makes of a call that it accepts is an event that an account can be told.
-use Rattle.std.proofs.Common.{◌≡◌, ℕ, ◌<◌, Bool, true, List, length, Ok, sym, ap, subst, ◌∙◌, arith}
+use Rattle.std.proofs.Common.{◌≡◌, ◌<◌, Bool, true, Ok, sym, ap, subst, ◌∙◌, arith}
 use Rattle.acc_base.specs.declared.calls.Call.{Call}
 use Rattle.acc_base.specs.declared.events.Event.{Event}
 use Rattle.acc_base.specs.Limits.{limits_on, IsWithinBounds}
 use Rattle.acc_base.specs.Loans.{Leased}
-use Rattle.acc_base.specs.Devices.{Whole, device_in, view, after_told, after_on}
+use Rattle.acc_base.specs.Devices.{Whole, device_in, after_told, after_on}
 use Rattle.acc_base.specs.Calls.{World, bytes_brought, judge, world_after}
 use Rattle.acc_base.specs.Judge.{Makes}
 use Rattle.acc_base.specs.Accounts.{IsAccounted, IsAccountedOn}

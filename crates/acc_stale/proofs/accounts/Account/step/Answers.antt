@@ -1,7 +1,7 @@
-use Rattle.std.proofs.Common.{◌≡◌, ◌∙◌, ap}
+use Rattle.std.proofs.Common.{◌≡◌}
 use Rattle.acc_base.specs.Transfers.{transfer_of}
 use Rattle.acc_base.specs.Tasks.{section_of}
-use Rattle.acc_stale.specs.Tells.{placed_by, IsStepKept}
+use Rattle.acc_stale.specs.Tells.{IsStepKept}
 use Rattle.acc_stale.proofs.Telling.{step_told, starts_told, step_follows, step_waits, step_others}
 use Rattle.acc_stale.proofs.accounts.Account.step.Goals as goal
 

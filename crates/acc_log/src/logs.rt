@@ -175,18 +175,14 @@ impl Log {
         table: &Table,
         event: &Event,
     ) -> Result<(), AllocError> {
+        self.tell_items(names, table, event)?;
         match event {
             Event::Entered { device, number, .. } => {
-                self.tell_items(names, table, event)?;
                 self.account.open(*device, *number, event)?;
                 self.put_region("entered", *number);
             }
-            Event::Left {
-                device,
-                number,
-                did,
-            } => {
-                self.tell_exit(names, table, *device, *number, did.as_slice())?;
+            Event::Left { device, number, .. } => {
+                self.account.close(*device, *number);
                 self.put_region("exited", *number);
             }
             Event::Waited {
@@ -216,41 +212,27 @@ impl Log {
                 ..
             } => self.tell_lent(names, *device, *section, *block, *serial),
             Event::Gathered { serial, .. } => self.tell_gathered(names, *serial),
-            _ => self.tell_items(names, table, event)?,
+            _ => {}
         }
         Ok(())
     }
 
-    /// Puts the lines of the items that an event names.
+    /// Puts the lines of the items of an event, in the order in which they acted.
     fn tell_items(
         &mut self,
         names: &Names,
         table: &Table,
         event: &Event,
     ) -> Result<(), AllocError> {
-        let device = event.device();
-        for (place, did) in event.did().iter().enumerate() {
-            if let Some(task) = event.task(place) {
-                self.tell_task(names, table, device, place, task, *did)?;
+        let count = event.did().len();
+        for nth in 0..count {
+            if let Some((task, did)) = self.account.act(event, nth) {
+                let place = match task {
+                    Task::ExitRegion { .. } => count.saturating_sub(nth).saturating_sub(1),
+                    _ => nth,
+                };
+                self.tell_task(names, table, event.device(), place, task, did)?;
             }
-        }
-        Ok(())
-    }
-
-    /// Puts the lines of the items of `end data`, the last one first.
-    fn tell_exit(
-        &mut self,
-        names: &Names,
-        table: &Table,
-        device: u64,
-        number: u64,
-        did: &[Did],
-    ) -> Result<(), AllocError> {
-        let Some(tasks) = self.account.close(device, number) else {
-            return Ok(());
-        };
-        for (place, (task, did)) in tasks.iter().zip(did).enumerate().rev() {
-            self.tell_task(names, table, device, place, *task, *did)?;
         }
         Ok(())
     }

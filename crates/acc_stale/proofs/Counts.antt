@@ -1,5 +1,5 @@
 -- An account after each change: what it says of a block, and of a pointer.
-use Rattle.std.proofs.Common.{Vec, Global, Option, ◌≡◌, ◌≢◌, ℕ, suc, ◌<◌, ◌≤◌, ◌+◌, ◌^◌, Bool, true, false, ◌&&◌, ◌==◌, not, cond, List, [], ◌∷◌, map, length, get_or, Some, None, unwrap_or, option_map, refl, sym, ap, ap₂, subst, ◌∙◌, arith}
+use Rattle.std.proofs.Common.{Vec, Global, Option, ◌≡◌, ◌≢◌, ℕ, suc, ◌<◌, ◌≤◌, ◌+◌, ◌^◌, Bool, true, false, ◌&&◌, ◌==◌, not, cond, List, [], ◌∷◌, map, length, reverse, get_or, Some, None, unwrap_or, option_map, refl, sym, ap, ap₂, subst, ◌∙◌, arith}
 use Rattle.std.specs.Prelude.{nat_lt}
 use Rattle.std.specs.List.{find, position, position_or_len, remove, slice_get, AllByRecursion}
 use Rattle.std.specs.List.Sorted.{IsStrictlySortedBy}
@@ -14,6 +14,9 @@ use Rattle.std.proofs.lemmas.Option.{same_Some, slice_get_past, slice_get-get_or
 use Rattle.std.proofs.lemmas.List.Folds.{find_at}
 use Rattle.acc_base.specs.declared.attachments.Attachment.{Attachment}
 use Rattle.acc_base.specs.Attachments.{is_of, is_before, count_at, with_attachment, without_attachment}
+use Rattle.acc_base.specs.declared.events.Did.{Did}
+use Rattle.acc_base.specs.declared.events.Event.{Event}
+use Rattle.acc_base.specs.declared.events.Event.TheVariants.{Left}
 use Rattle.acc_base.specs.declared.mappings.Range.{Range}
 use Rattle.acc_base.specs.declared.tasks.Task.{Task}
 use Rattle.acc_base.specs.Ranges.{bare_range}
@@ -21,7 +24,7 @@ use Rattle.acc_base.specs.Tasks.{recounted as recounted_by}
 use Rattle.acc_stale.specs.declared.accounts.Block.{Block}
 use Rattle.acc_stale.specs.declared.accounts.Waiting.{Waiting}
 use Rattle.acc_stale.specs.declared.accounts.Account.{Account}
-use Rattle.acc_stale.specs.Accounts.{ToldBlock, by_number, counted, told_of, told_at, attached_at, IsChanged, IsCountKept, CanCount, with_range_told, recounted, IsRecounted, without_first, IsRegionChanged}
+use Rattle.acc_stale.specs.Accounts.{ToldBlock, asked_by, by_number, counted, told_of, told_at, attached_at, IsChanged, IsCountKept, CanCount, with_range_told, recounted, IsRecounted, without_first, IsRegionChanged}
 
 -- ---- a block
 
@@ -259,3 +262,7 @@ region_written d number old new now updates blocks waiting = record {
 -- one that was entered
 pub region_opened : (d number : ℕ) (old new : Account) (tasks : Vec Task Global) (asks : List Task) → tasks.items ≡ asks → UpdatesBy by_number (by_number (d, number)) old.regions new.regions (Some tasks) → new.blocks ≡ old.blocks → new.waiting ≡ old.waiting → IsRegionChanged d number (Some asks) old new
 region_opened d number old new tasks asks is updates blocks waiting = subst (λ (ts : List Task). IsRegionChanged d number (Some ts) old new) is (region_written d number old new (Some tasks) updates blocks waiting)
+
+-- what the exit from it asks
+pub asked_there : (e : Event) (d number : ℕ) (did : List Did) (a : Account) (tasks : Vec Task Global) → e ≡ Left d number did → get by_number a.regions (d, number) ≡ Some tasks → asked_by e a ≡ reverse tasks.items
+asked_there e d number did a tasks is there = subst (λ (v : Event). asked_by v a ≡ reverse tasks.items) (sym is) (ap (λ (o : Option (Vec Task Global)). reverse (unwrap_or (option_map (λ (ts : Vec Task Global). ts.items) o) [])) there)

@@ -2,10 +2,10 @@
 use Rattle.std.proofs.Common.{Vec, Global, ◌≡◌, ℕ, ◌<◌, Bool, true, false, ◌==◌, List, [], ◌∷◌, ◌++◌, map, length, reverse, Option, Some, None, unwrap_or, option_map, Ok, refl, sym, ap, subst, ◌∙◌, arith}
 use Rattle.std.specs.Prelude.{IsSome, nat_lt, Result, Err, OnOk, ⊤}
 use Rattle.std.proofs.lemmas.Bool.Decides.{nat_tests}
-use Rattle.std.proofs.lemmas.List.{map-append, reverse-append}
+use Rattle.std.proofs.lemmas.List.{map-append, reverse-append, length-reverse}
 use Rattle.acc_base.specs.declared.events.Did.{Did}
 use Rattle.acc_base.specs.declared.events.Event.{Event}
-use Rattle.acc_base.specs.declared.events.Event.TheVariants.{Entered, Left, EnteredData, ExitedData, Updated, Waited, Stepped, HostWritten, Lent, Gathered}
+use Rattle.acc_base.specs.declared.events.Event.TheVariants.{Entered, Left, EnteredData, ExitedData, Updated, Waited, Stepped, Lent, Gathered}
 use Rattle.acc_base.specs.declared.faults.Fault.{Fault}
 use Rattle.acc_base.specs.declared.items.Item.{Item}
 use Rattle.acc_base.specs.declared.items.RegionClause.{RegionClause}
@@ -15,7 +15,7 @@ use Rattle.acc_base.proofs.Queued.{head_there}
 use Rattle.acc_base.specs.declared.regions.Holding.{Holding}
 use Rattle.acc_base.specs.declared.tasks.Task.{Task}
 use Rattle.acc_base.specs.declared.tasks.Task.TheVariants.{ExitRegion}
-use Rattle.acc_base.specs.Limits.{Limits, IsWithinBounds}
+use Rattle.acc_base.specs.Limits.{Limits}
 use Rattle.acc_base.specs.Register.{Region, Register, holdings_at, region_at, with_region, without_region, opened, closed}
 use Rattle.acc_base.specs.Records.{Records, State}
 use Rattle.acc_base.specs.Items.{tasks_named, tasks_undone}
@@ -35,34 +35,48 @@ use Rattle.acc_stale.specs.declared.accounts.Account.{Account}
 use Rattle.acc_stale.specs.declared.trackers.Tracker.{Tracker}
 use Rattle.acc_stale.specs.Events.{known_all, known_drained, known_written, known_after}
 use Rattle.std.specs.BTreeMap.{get}
-use Rattle.acc_stale.specs.Accounts.{by_number, told_at, undone_at, waiting_in, IsRegionChanged, IsRegionOpened}
+use Rattle.acc_stale.specs.Accounts.{by_number, told_at, undone_at, asked_by, waiting_in, IsRegionChanged, IsRegionOpened}
 use Rattle.acc_stale.specs.Follows.{FollowsDevice, AreRegionsTold, FollowsState, FollowsWhole, IsEventIn}
 use Rattle.acc_stale.specs.Tells.{LeavesOthers, IsDrained, AreActed, IsEventTold}
 use Rattle.acc_stale.proofs.Followed.{still_told, same_kept}
 use Rattle.acc_stale.proofs.Telling.{told_same}
+use Rattle.acc_stale.proofs.Draining.{others_then}
 
--- ---- an exit
-
--- what it asks is told
-pub left_told : (d number : ℕ) (a : Account) (s : State) (holdings : List Holding) → holdings_at number s.register.regions ≡ Some holdings → FollowsState d a s → undone_at d number a ≡ Some (map ExitRegion holdings)
-left_told d number a s holdings found follows = follows.regions number holdings found
-
-pub left_lost : (d number : ℕ) (a : Account) (s : State) (holdings : List Holding) (r : Option (Vec Task Global)) → option_map (λ tasks. tasks.items) r ≡ undone_at d number a → r ≡ None → holdings_at number s.register.regions ≡ Some holdings → FollowsState d a s → ⊥
-left_lost d number a s holdings r undone none found follows =
-    let told : undone_at d number a ≡ Some (map ExitRegion holdings) = left_told d number a s holdings found follows in
-    let bad : None ≡ Some (map ExitRegion holdings) = sym (ap (option_map (λ (tasks : Vec Task Global). tasks.items)) none) ∙ undone ∙ told in
-    cc
+-- ---- what the items of an event ask and did
 
 reverse-map : {X Y : Type 0} (f : X → Y) (xs : List X) → reverse (map f xs) ≡ map f (reverse xs)
 reverse-map f [] = refl
 reverse-map f (x ∷ xs) = reverse-append (f x ∷ []) (map f xs) ∙ ap (λ ys. ys ++ f x ∷ []) (reverse-map f xs) ∙ sym (map-append f (reverse xs) (x ∷ [])) ∙ sym (ap (map f) (reverse-append (x ∷ []) xs))
 
-pub left_asks : (d number : ℕ) (a : Account) (s : State) (holdings : List Holding) (tasks : Vec Task Global) (r : Option (Vec Task Global)) → option_map (λ x. x.items) r ≡ undone_at d number a → r ≡ Some tasks → holdings_at number s.register.regions ≡ Some holdings → FollowsState d a s → reverse tasks.items ≡ leave_tasks holdings
-left_asks d number a s holdings tasks r undone is found follows =
-    let told : undone_at d number a ≡ Some (map ExitRegion holdings) = left_told d number a s holdings found follows in
-    let same : Some tasks.items ≡ Some (map ExitRegion holdings) = sym (ap (option_map (λ (x : Vec Task Global). x.items)) is) ∙ undone ∙ told in
-    let items : tasks.items ≡ map ExitRegion holdings = cc in
-    ap (λ (ts : List Task). reverse ts) items ∙ reverse-map ExitRegion holdings
+-- an account that follows says what they ask
+pub asks : (l : Limits) (e : Event) (s : State) (a : Account) → IsEventIn l e s → FollowsState (device_in e) a s → asked_by e a ≡ asked_in e s.register
+asks l (Left device number did) s a ev follows = go (holdings_at number s.register.regions) refl ev.names
+  where
+    go : (o : Option (List Holding)) → holdings_at number s.register.regions ≡ o → IsSome o → reverse (unwrap_or (undone_at device number a) []) ≡ leave_tasks (unwrap_or (holdings_at number s.register.regions) [])
+    go None e some = absurd (let bad : false ≡ true = some in cc)
+    go (Some holdings) e some =
+        ap (λ (o : Option (List Task)). reverse (unwrap_or o [])) (follows.regions number holdings e)
+        ∙ reverse-map ExitRegion holdings
+        ∙ sym (ap (λ (o : Option (List Holding)). leave_tasks (unwrap_or o [])) e)
+asks l _ s a ev follows = refl
+
+pub asks_kept : (e : Event) (a b : Account) → b.regions ≡ a.regions → asked_by e b ≡ asked_by e a
+asks_kept (Left device number did) a b same = ap (λ m. reverse (unwrap_or (option_map (λ (tasks : Vec Task Global). tasks.items) (get by_number m (device, number))) [])) same
+asks_kept _ a b same = refl
+
+-- they were judged to do what they did
+pub all_made : (l : Limits) (e : Event) (s : State) → IsEventIn l e s → judge_all l 0 (asked_in e s.register) s ≡ Ok (done_in e)
+unfolding judge_all
+all_made l (Entered device number items did) s ev = ev.made
+all_made l (Left device number did) s ev = ev.made
+all_made l (EnteredData device items queue did) s ev = ev.made
+all_made l (ExitedData device items finalize queue did) s ev = ev.made
+all_made l (Updated device items if_present queue did) s ev = ev.made
+all_made l _ s ev = refl
+
+pub as_many_done : (e : Event) → length (done_in e) ≡ length (did_in e)
+as_many_done (Left device number did) = length-reverse did
+as_many_done _ = refl
 
 -- a region that is kept or dropped leaves blocks and queues
 pub closed_device : (d number : ℕ) (now : Option (List Task)) (a b : Account) (e : ℕ) (w : Records) → IsRegionChanged d number now a b → FollowsDevice e a w → FollowsDevice e b w
@@ -70,12 +84,6 @@ closed_device d number now a b e w changed follows = record {
   told = told_same e (λ j. told_at e j a) (λ j. told_at e j b) w (changed.blocks e) follows.told;
   queues = λ q low. ap (λ (x : _). waiting_in e q x.items) changed.waiting ∙ follows.queues q low;
 }
-
-pub closed_acted : (d : ℕ) (x : Tracker) (b : Account) (z : Tracker) (tasks : List Task) (dids : List Did) (s : State) → AreActed d tasks dids s (record { known = x.known; account = b }) z → AreActed d tasks dids s x z
-closed_acted d x b z tasks dids s h = record { known = h.known; follows = h.follows }
-
-pub closed_others : (d number : ℕ) (now : Option (List Task)) (a b c : Account) → IsRegionChanged d number now a b → LeavesOthers d b c → LeavesOthers d a c
-closed_others d number now a b c changed others e w other follows = others e w other (closed_device d number now a b e w changed follows)
 
 -- ---- open regions
 
@@ -169,95 +177,77 @@ pub on_ok_two : {P Q R : Type 0} (r : Result ⊤ Fault) → (P → Q → R) → 
 on_ok_two (Ok x) f p q = f p q
 on_ok_two (Err e) f p q = tt
 
-pub on_ok_three : {P Q R S : Type 0} (r : Result ⊤ Fault) → (P → Q → R → S) → OnOk r P → OnOk r Q → OnOk r R → OnOk r S
-on_ok_three (Ok x) f p q t = f p q t
-on_ok_three (Err e) f p q t = tt
-
--- it names items, and opens no region
-abbrev pub names_items : Event → Bool
-names_items (EnteredData device items queue did) = true
-names_items (ExitedData device items finalize queue did) = true
-names_items (Updated device items if_present queue did) = true
-names_items _ = false
-
--- its items were told
-abbrev pub IsAsked : Event → Tracker → Tracker → Type 0
-IsAsked e x y = (l : Limits) (s : State) → IsWithinBounds l → AreRecordsSound l s.records → judge_all l 0 (tasks_named e) s ≡ Ok (did_in e) → FollowsDevice (device_in e) x.account s.records → AreActed (device_in e) (tasks_named e) (did_in e) s x y
+-- all its items acted
+abbrev pub AreItemsActed : Event → Tracker → Tracker → Type 0
+AreItemsActed e x y = (l : Limits) (s : State) → IsEventIn l e s → FollowsState (device_in e) x.account s → AreActed (device_in e) (asked_in e s.register) (done_in e) s x y
 
 region_kept : (a b : Account) → b.regions ≡ a.regions → (k n : ℕ) → undone_at k n b ≡ undone_at k n a
 region_kept a b same k n = ap (λ m. option_map (λ (tasks : Vec Task Global). tasks.items) (get by_number m (k, n))) same
 
-pub named_told : (l : Limits) (e : Event) (s : State) (x y : Tracker) → names_items e ≡ true → IsEventIn l e s → FollowsState (device_in e) x.account s → IsAsked e x y → LeavesOthers (device_in e) x.account y.account → y.account.regions ≡ x.account.regions → IsToldIn e s x y
-unfolding drained known_drained
-named_told l (EnteredData device items queue did) s x y is ev follows asked others same =
-    let acted : AreActed device (tasks_named (EnteredData device items queue did)) did s x y = asked l s ev.bounds ev.sound ev.made follows.device in
-    record { known = acted.known; device = acted.follows; regions = regions_same device x.account y.account s.register same follows.regions; others = others; apart = λ k n other. region_kept x.account y.account same k n }
-named_told l (ExitedData device items finalize queue did) s x y is ev follows asked others same =
-    let acted : AreActed device (tasks_named (ExitedData device items finalize queue did)) did s x y = asked l s ev.bounds ev.sound ev.made follows.device in
-    record { known = acted.known; device = acted.follows; regions = regions_same device x.account y.account s.register same follows.regions; others = others; apart = λ k n other. region_kept x.account y.account same k n }
-named_told l (Updated device items if_present queue did) s x y is ev follows asked others same =
-    let acted : AreActed device (tasks_named (Updated device items if_present queue did)) did s x y = asked l s ev.bounds ev.sound ev.made follows.device in
-    record { known = acted.known; device = acted.follows; regions = regions_same device x.account y.account s.register same follows.regions; others = others; apart = λ k n other. region_kept x.account y.account same k n }
-named_told l (Entered device number items did) s x y is ev follows asked others same = cc
-named_told l (Left device number did) s x y is ev follows asked others same = cc
-named_told l (Waited device queue count) s x y is ev follows asked others same = cc
-named_told l (Stepped device queue block) s x y is ev follows asked others same = cc
-named_told l (HostWritten addr len bytes) s x y is ev follows asked others same = cc
-named_told l (Lent device region section block serial) s x y is ev follows asked others same = cc
-named_told l (Gathered device serial block bytes) s x y is ev follows asked others same = cc
+-- a region is opened or closed behind them
+region_told : (d number : ℕ) (now : Option (List Task)) (a b c : Account) → b.regions ≡ a.regions → IsRegionChanged d number now b c → IsRegionOpened d number now a c
+region_told d number now a b c same is = record { here = is.here; others = λ e n other. is.others e n other ∙ region_kept a b same e n }
 
 region_apart : (d number : ℕ) (now : Option (List Task)) (a b : Account) → IsRegionOpened d number now a b → (k n : ℕ) → (k == d) ≡ false → undone_at k n b ≡ undone_at k n a
 region_apart d number now a b is k n other = is.others k n (rw other refl)
 
-entered_in : (l : Limits) (device number : ℕ) (items : List (Item RegionClause)) (did : List Did) (s : State) (x y : Tracker) → IsEventIn l (Entered device number items did) s → FollowsState device x.account s → IsAsked (Entered device number items did) x y → LeavesOthers device x.account y.account
-    → IsRegionOpened device number (Some (tasks_undone (Entered device number items did))) x.account y.account → IsToldIn (Entered device number items did) s x y
+others_changed : (d number : ℕ) (now : Option (List Task)) (a b c : Account) → IsRegionChanged d number now b c → LeavesOthers d a b → LeavesOthers d a c
+others_changed d number now a b c changed others e w other follows = closed_device d number now b c e w changed (others e w other follows)
+
+pub entered_told : (l : Limits) (e : Event) (device number : ℕ) (items : List (Item RegionClause)) (did : List Did) (s : State) (x y z : Tracker) → e ≡ Entered device number items did → IsEventIn l e s → FollowsState (device_in e) x.account s → AreItemsActed e x y → LeavesOthers (device_in e) x.account y.account → y.account.regions ≡ x.account.regions
+    → z.known ≡ y.known → IsRegionChanged device number (Some (tasks_undone e)) y.account z.account → IsToldIn e s x z
 unfolding drained known_drained
-entered_in l device number items did s x y ev follows asked others is =
-    let acted : AreActed device (tasks_named (Entered device number items did)) did s x y = asked l s ev.bounds ev.sound ev.made follows.device in
-    record { known = acted.known; device = acted.follows; regions = regions_opened device number (holdings_of items did) x.account y.account s.register is ev.names ev.register follows.regions; others = others; apart = region_apart device number _ x.account y.account is }
-
-pub entered_told : (l : Limits) (e : Event) (device number : ℕ) (items : List (Item RegionClause)) (did : List Did) (s : State) (x y : Tracker) → e ≡ Entered device number items did → IsEventIn l e s → FollowsState (device_in e) x.account s → IsAsked e x y → LeavesOthers (device_in e) x.account y.account
-    → IsRegionOpened device number (Some (tasks_undone e)) x.account y.account → IsToldIn e s x y
-entered_told l e device number items did s x y is = subst (λ (v : Event). IsEventIn l v s → FollowsState (device_in v) x.account s → IsAsked v x y → LeavesOthers (device_in v) x.account y.account → IsRegionOpened device number (Some (tasks_undone v)) x.account y.account → IsToldIn v s x y) (sym is)
-    (λ ev follows asked others opened. entered_in l device number items did s x y ev follows asked others opened)
-
--- its items were undone
-abbrev pub IsUndone : ℕ → ℕ → List Did → Tracker → Tracker → Type 0
-IsUndone device number dids x y = (l : Limits) (s : State) (holdings : List Holding) → IsWithinBounds l → AreRecordsSound l s.records → holdings_at number s.register.regions ≡ Some holdings → judge_all l 0 (leave_tasks holdings) s ≡ Ok (reverse dids) → FollowsState device x.account s → AreActed device (leave_tasks holdings) (reverse dids) s x y
-
-left_in : (l : Limits) (device number : ℕ) (did : List Did) (s : State) (x y : Tracker) → IsEventIn l (Left device number did) s → FollowsState device x.account s → IsUndone device number did x y → LeavesOthers device x.account y.account → IsRegionOpened device number None x.account y.account → IsToldIn (Left device number did) s x y
-unfolding drained known_drained
-left_in l device number did s x y ev follows undone others is = go (holdings_at number s.register.regions) refl ev.names
+entered_told l e device number items did s x y z is = subst (λ (v : Event). IsEventIn l v s → FollowsState (device_in v) x.account s → AreItemsActed v x y → LeavesOthers (device_in v) x.account y.account → y.account.regions ≡ x.account.regions → z.known ≡ y.known → IsRegionChanged device number (Some (tasks_undone v)) y.account z.account → IsToldIn v s x z) (sym is) go
   where
-    go : (o : Option (List Holding)) → holdings_at number s.register.regions ≡ o → IsSome o → IsToldIn (Left device number did) s x y
-    go None e some = absurd (let bad : false ≡ true = some in cc)
-    go (Some holdings) e some =
-        let these : unwrap_or (holdings_at number s.register.regions) [] ≡ holdings = ap (λ (o : Option (List Holding)). unwrap_or o []) e in
-        let acted : AreActed device (leave_tasks holdings) (reverse did) s x y = undone l s holdings ev.bounds ev.sound e (subst (λ (hs : List Holding). judge_all l 0 (leave_tasks hs) s ≡ Ok (reverse did)) these ev.made) follows in
-        let told : AreActed device (leave_tasks (unwrap_or (holdings_at number s.register.regions) [])) (reverse did) s x y = subst (λ (hs : List Holding). AreActed device (leave_tasks hs) (reverse did) s x y) (sym these) acted in
-        record { known = told.known; device = told.follows; regions = regions_closed device number x.account y.account s.register is follows.regions; others = others; apart = region_apart device number None x.account y.account is }
+    go : IsEventIn l (Entered device number items did) s → FollowsState device x.account s → AreItemsActed (Entered device number items did) x y → LeavesOthers device x.account y.account → y.account.regions ≡ x.account.regions → z.known ≡ y.known → IsRegionChanged device number (Some (tasks_undone (Entered device number items did))) y.account z.account → IsToldIn (Entered device number items did) s x z
+    go ev follows items_acted others same known changed =
+        let acted : AreActed device (tasks_named (Entered device number items did)) did s x y = items_acted l s ev follows in
+        let opened_now : IsRegionOpened device number (Some (tasks_undone (Entered device number items did))) x.account z.account = region_told device number _ x.account y.account z.account same changed in
+        record {
+          known = known ∙ acted.known;
+          device = closed_device device number _ y.account z.account device _ changed acted.follows;
+          regions = regions_opened device number (holdings_of items did) x.account z.account s.register opened_now ev.names ev.register follows.regions;
+          others = others_changed device number _ x.account y.account z.account changed others;
+          apart = region_apart device number _ x.account z.account opened_now;
+        }
 
-pub left_told_in : (l : Limits) (e : Event) (device number : ℕ) (did : List Did) (s : State) (x y : Tracker) → e ≡ Left device number did → IsEventIn l e s → FollowsState (device_in e) x.account s → IsUndone device number did x y → LeavesOthers device x.account y.account → IsRegionOpened device number None x.account y.account → IsToldIn e s x y
-left_told_in l e device number did s x y is = subst (λ (v : Event). IsEventIn l v s → FollowsState (device_in v) x.account s → IsUndone device number did x y → LeavesOthers device x.account y.account → IsRegionOpened device number None x.account y.account → IsToldIn v s x y) (sym is)
-    (λ ev follows undone others opened. left_in l device number did s x y ev follows undone others opened)
+pub left_told : (l : Limits) (e : Event) (device number : ℕ) (did : List Did) (s : State) (x y z : Tracker) → e ≡ Left device number did → IsEventIn l e s → FollowsState (device_in e) x.account s → AreItemsActed e x y → LeavesOthers (device_in e) x.account y.account → y.account.regions ≡ x.account.regions
+    → z.known ≡ y.known → IsRegionChanged device number None y.account z.account → IsToldIn e s x z
+unfolding drained known_drained
+left_told l e device number did s x y z is = subst (λ (v : Event). IsEventIn l v s → FollowsState (device_in v) x.account s → AreItemsActed v x y → LeavesOthers (device_in v) x.account y.account → y.account.regions ≡ x.account.regions → z.known ≡ y.known → IsRegionChanged device number None y.account z.account → IsToldIn v s x z) (sym is) go
+  where
+    go : IsEventIn l (Left device number did) s → FollowsState device x.account s → AreItemsActed (Left device number did) x y → LeavesOthers device x.account y.account → y.account.regions ≡ x.account.regions → z.known ≡ y.known → IsRegionChanged device number None y.account z.account → IsToldIn (Left device number did) s x z
+    go ev follows items_acted others same known changed =
+        let acted : AreActed device (leave_tasks (unwrap_or (holdings_at number s.register.regions) [])) (reverse did) s x y = items_acted l s ev follows in
+        let closed_now : IsRegionOpened device number None x.account z.account = region_told device number None x.account y.account z.account same changed in
+        record {
+          known = known ∙ acted.known;
+          device = closed_device device number None y.account z.account device _ changed acted.follows;
+          regions = regions_closed device number x.account z.account s.register closed_now follows.regions;
+          others = others_changed device number None x.account y.account z.account changed others;
+          apart = region_apart device number None x.account z.account closed_now;
+        }
 
--- ---- queues
-
-waited_in : (l : Limits) (device count : ℕ) (queue : Option ℕ) (s : State) (x y : Tracker) → IsEventIn l (Waited device queue count) s → FollowsState device x.account s → IsDrained device (steps_of queue s.records.queues) s x y → LeavesOthers device x.account y.account → y.account.regions ≡ x.account.regions → IsToldIn (Waited device queue count) s x y
-unfolding act_all_state known_all
-waited_in l device count queue s x y ev follows made others same = record { known = made.known; device = made.follows; regions = regions_same device x.account y.account s.register same follows.regions; others = others; apart = λ k n other. region_kept x.account y.account same k n }
-
--- all transfers of a queue or of all were made
+-- transfers of queues are made
 abbrev pub IsWaited : ℕ → Option ℕ → Tracker → Tracker → Type 0
-IsWaited device queue x y = (l : Limits) (s : State) → FollowsDevice device x.account s.records → AreRecordsSound l s.records → queue_named queue ≡ Ok tt → IsDrained device (steps_of queue s.records.queues) s x y
+IsWaited device queue y z = (l : Limits) (s : State) → FollowsDevice device y.account s.records → AreRecordsSound l s.records → queue_named queue ≡ Ok tt → IsDrained device (steps_of queue s.records.queues) s y z
 
-pub waited_told : (l : Limits) (e : Event) (device count : ℕ) (queue : Option ℕ) (s : State) (x y : Tracker) → e ≡ Waited device queue count → IsEventIn l e s → FollowsState (device_in e) x.account s → IsWaited device queue x y → LeavesOthers device x.account y.account → y.account.regions ≡ x.account.regions → IsToldIn e s x y
-waited_told l e device count queue s x y is = subst (λ (v : Event). IsEventIn l v s → FollowsState (device_in v) x.account s → IsWaited device queue x y → LeavesOthers device x.account y.account → y.account.regions ≡ x.account.regions → IsToldIn v s x y) (sym is)
-    (λ ev follows made others same. waited_in l device count queue s x y ev follows (made l s follows.device ev.sound ev.names.0) others same)
-
-stepped_in_state : (l : Limits) (device queue block : ℕ) (s : State) (x y : Tracker) → IsEventIn l (Stepped device queue block) s → FollowsState device x.account s → IsDrained device (queue ∷ []) s x y → LeavesOthers device x.account y.account → y.account.regions ≡ x.account.regions → IsToldIn (Stepped device queue block) s x y
+pub waited_told : (l : Limits) (e : Event) (device count : ℕ) (queue : Option ℕ) (s : State) (x y z : Tracker) → e ≡ Waited device queue count → IsEventIn l e s → FollowsState (device_in e) x.account s → AreItemsActed e x y → LeavesOthers (device_in e) x.account y.account → y.account.regions ≡ x.account.regions
+    → IsWaited device queue y z → LeavesOthers device y.account z.account → z.account.regions ≡ y.account.regions → IsToldIn e s x z
 unfolding act_all_state known_all
-stepped_in_state l device queue block s x y ev follows made others same = record { known = made.known; device = made.follows; regions = regions_same device x.account y.account s.register same follows.regions; others = others; apart = λ k n other. region_kept x.account y.account same k n }
+waited_told l e device count queue s x y z is = subst (λ (v : Event). IsEventIn l v s → FollowsState (device_in v) x.account s → AreItemsActed v x y → LeavesOthers (device_in v) x.account y.account → y.account.regions ≡ x.account.regions → IsWaited device queue y z → LeavesOthers device y.account z.account → z.account.regions ≡ y.account.regions → IsToldIn v s x z) (sym is) go
+  where
+    go : IsEventIn l (Waited device queue count) s → FollowsState device x.account s → AreItemsActed (Waited device queue count) x y → LeavesOthers device x.account y.account → y.account.regions ≡ x.account.regions → IsWaited device queue y z → LeavesOthers device y.account z.account → z.account.regions ≡ y.account.regions → IsToldIn (Waited device queue count) s x z
+    go ev follows items_acted others same waited others_made same_made =
+        let acted : AreActed device [] [] s x y = items_acted l s ev follows in
+        let made : IsDrained device (steps_of queue s.records.queues) s y z = waited l s acted.follows ev.sound ev.names.0 in
+        record {
+          known = made.known ∙ ap (known_drained device (steps_of queue s.records.queues) s) acted.known;
+          device = made.follows;
+          regions = regions_same device x.account z.account s.register (same_made ∙ same) follows.regions;
+          others = others_then device x.account y.account z.account others others_made;
+          apart = λ k n other. region_kept x.account z.account (same_made ∙ same) k n;
+        }
 
 queue_there : (l : Limits) (q block : ℕ) (s : State) → AreRecordsSound l s.records → option_map (λ (t : Transfer). t.block) (head_of q s.records.queues) ≡ Some block → q < QUEUE_COUNT
 queue_there l q block s sound named = go (head_of q s.records.queues) refl named
@@ -266,32 +256,49 @@ queue_there l q block s sound named = go (head_of q s.records.queues) refl named
     go None e h = cc
     go (Some t) e h = let there : q < length s.records.queues = head_there q t s.records.queues e in omega (arith, there, sound.queues.all)
 
--- the first transfer of a queue was made
+-- the first transfer of one is made
 abbrev pub IsStepMade : ℕ → ℕ → Tracker → Tracker → Type 0
-IsStepMade device queue x y = (l : Limits) (s : State) → FollowsDevice device x.account s.records → AreRecordsSound l s.records → queue < QUEUE_COUNT → IsDrained device (queue ∷ []) s x y
+IsStepMade device queue y z = (l : Limits) (s : State) → FollowsDevice device y.account s.records → AreRecordsSound l s.records → queue < QUEUE_COUNT → IsDrained device (queue ∷ []) s y z
 
-pub stepped_told_in : (l : Limits) (e : Event) (device queue block : ℕ) (s : State) (x y : Tracker) → e ≡ Stepped device queue block → IsEventIn l e s → FollowsState (device_in e) x.account s → IsStepMade device queue x y → LeavesOthers device x.account y.account → y.account.regions ≡ x.account.regions → IsToldIn e s x y
-stepped_told_in l e device queue block s x y is = subst (λ (v : Event). IsEventIn l v s → FollowsState (device_in v) x.account s → IsStepMade device queue x y → LeavesOthers device x.account y.account → y.account.regions ≡ x.account.regions → IsToldIn v s x y) (sym is)
-    (λ ev follows made others same. stepped_in_state l device queue block s x y ev follows (made l s follows.device ev.sound (queue_there l queue block s ev.sound ev.names.0)) others same)
+pub stepped_told : (l : Limits) (e : Event) (device queue block : ℕ) (s : State) (x y z : Tracker) → e ≡ Stepped device queue block → IsEventIn l e s → FollowsState (device_in e) x.account s → AreItemsActed e x y → LeavesOthers (device_in e) x.account y.account → y.account.regions ≡ x.account.regions
+    → IsStepMade device queue y z → LeavesOthers device y.account z.account → z.account.regions ≡ y.account.regions → IsToldIn e s x z
+unfolding act_all_state known_all
+stepped_told l e device queue block s x y z is = subst (λ (v : Event). IsEventIn l v s → FollowsState (device_in v) x.account s → AreItemsActed v x y → LeavesOthers (device_in v) x.account y.account → y.account.regions ≡ x.account.regions → IsStepMade device queue y z → LeavesOthers device y.account z.account → z.account.regions ≡ y.account.regions → IsToldIn v s x z) (sym is) go
+  where
+    go : IsEventIn l (Stepped device queue block) s → FollowsState device x.account s → AreItemsActed (Stepped device queue block) x y → LeavesOthers device x.account y.account → y.account.regions ≡ x.account.regions → IsStepMade device queue y z → LeavesOthers device y.account z.account → z.account.regions ≡ y.account.regions → IsToldIn (Stepped device queue block) s x z
+    go ev follows items_acted others same stepped others_made same_made =
+        let acted : AreActed device [] [] s x y = items_acted l s ev follows in
+        let made : IsDrained device (queue ∷ []) s y z = stepped l s acted.follows ev.sound (queue_there l queue block s ev.sound ev.names.0) in
+        record {
+          known = made.known ∙ ap (known_drained device (queue ∷ []) s) acted.known;
+          device = made.follows;
+          regions = regions_same device x.account z.account s.register (same_made ∙ same) follows.regions;
+          others = others_then device x.account y.account z.account others others_made;
+          apart = λ k n other. region_kept x.account z.account (same_made ∙ same) k n;
+        }
 
--- ---- bytes
+-- nothing is done behind them
+abbrev pub is_plain : Event → Bool
+is_plain (Entered device number items did) = false
+is_plain (Left device number did) = false
+is_plain (Waited device queue count) = false
+is_plain (Stepped device queue block) = false
+is_plain _ = true
 
--- it has no items, makes no transfer, and opens or leaves no region
-abbrev pub is_of_bytes : Event → Bool
-is_of_bytes (HostWritten addr len bytes) = true
-is_of_bytes (Lent device region section block serial) = true
-is_of_bytes (Gathered device serial block bytes) = true
-is_of_bytes _ = false
+pub plain_told : (l : Limits) (e : Event) (s : State) (x y : Tracker) → is_plain e ≡ true → IsEventIn l e s → FollowsState (device_in e) x.account s → AreItemsActed e x y → LeavesOthers (device_in e) x.account y.account → y.account.regions ≡ x.account.regions → IsToldIn e s x y
+unfolding drained known_drained
+plain_told l (Entered device number items did) s x y is ev follows items_acted others same = cc
+plain_told l (Left device number did) s x y is ev follows items_acted others same = cc
+plain_told l (Waited device queue count) s x y is ev follows items_acted others same = cc
+plain_told l (Stepped device queue block) s x y is ev follows items_acted others same = cc
+plain_told l e s x y is ev follows items_acted others same =
+    let acted : AreActed (device_in e) (asked_in e s.register) (done_in e) s x y = items_acted l s ev follows in
+    record { known = acted.known; device = acted.follows; regions = regions_same (device_in e) x.account y.account s.register same follows.regions; others = others; apart = λ k n other. region_kept x.account y.account same k n }
 
-pub bytes_told_in : (l : Limits) (e : Event) (s : State) (x : Tracker) → is_of_bytes e ≡ true → IsEventIn l e s → FollowsState (device_in e) x.account s → IsToldIn e s x x
-unfolding act_all_state known_all drained known_drained
-bytes_told_in l (HostWritten addr len bytes) s x is ev follows = record { known = refl; device = follows.device; regions = follows.regions; others = λ e w other h. h; apart = λ k n other. refl }
-bytes_told_in l (Lent device region section block serial) s x is ev follows = record { known = refl; device = follows.device; regions = follows.regions; others = λ e w other h. h; apart = λ k n other. refl }
-bytes_told_in l (Gathered device serial block bytes) s x is ev follows = record { known = refl; device = follows.device; regions = follows.regions; others = λ e w other h. h; apart = λ k n other. refl }
-bytes_told_in l (Entered device number items did) s x is ev follows = cc
-bytes_told_in l (Left device number did) s x is ev follows = cc
-bytes_told_in l (EnteredData device items queue did) s x is ev follows = cc
-bytes_told_in l (ExitedData device items finalize queue did) s x is ev follows = cc
-bytes_told_in l (Updated device items if_present queue did) s x is ev follows = cc
-bytes_told_in l (Waited device queue count) s x is ev follows = cc
-bytes_told_in l (Stepped device queue block) s x is ev follows = cc
+pub plain_of : (e : Event) → ((device number : ℕ) (items : List (Item RegionClause)) (did : List Did) → e ≡ Entered device number items did → ⊥) → ((device number : ℕ) (did : List Did) → e ≡ Left device number did → ⊥) → ((device : ℕ) (queue : Option ℕ) (count : ℕ) → e ≡ Waited device queue count → ⊥)
+    → ((device queue block : ℕ) → e ≡ Stepped device queue block → ⊥) → is_plain e ≡ true
+plain_of (Entered device number items did) entered left waited stepped = absurd (entered device number items did refl)
+plain_of (Left device number did) entered left waited stepped = absurd (left device number did refl)
+plain_of (Waited device queue count) entered left waited stepped = absurd (waited device queue count refl)
+plain_of (Stepped device queue block) entered left waited stepped = absurd (stepped device queue block refl)
+plain_of _ entered left waited stepped = refl

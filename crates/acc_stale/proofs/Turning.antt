@@ -1,9 +1,10 @@
 -- Items of an event that are told one after the other.
-use Rattle.std.proofs.Common.{◌≡◌, ℕ, suc, zero, ◌<◌, ◌≤◌, ◌+◌, ◌-◌, min, List, [], ◌∷◌, ◌++◌, length, take, get_or, reverse, Option, Some, None, unwrap_or, Ok, refl, sym, ap, ap₂, subst, ◌∙◌, arith}
+use Rattle.std.proofs.Common.{◌≡◌, ℕ, suc, zero, ◌<◌, ◌≤◌, ◌+◌, List, [], ◌∷◌, ◌++◌, length, take, get_or, Option, Some, None, unwrap_or, Ok, refl, sym, ap, ap₂, subst, ◌∙◌, arith}
 use Rattle.std.specs.List.{slice_get}
 use Rattle.std.proofs.lemmas.Grind.{common_steps}
-use Rattle.std.proofs.lemmas.List.{get_or-reverse, length-reverse, length-map}
-use Rattle.std.proofs.lemmas.Option.{slice_get-get_or, slice_get_within, unwrap_or-slice_get}
+use Rattle.std.proofs.lemmas.List.{length-map}
+use Rattle.std.proofs.lemmas.Option.{same_Some, get_or_from_slice_get, slice_get-get_or, slice_get_within, unwrap_or-slice_get}
+use Rattle.std.specs.Prelude.{option_map, option_and_then}
 use Rattle.std.proofs.Math.Seq.{take-suc}
 use Rattle.acc_base.specs.declared.events.Did.{Did}
 use Rattle.acc_base.specs.declared.events.Event.{Event}
@@ -25,6 +26,7 @@ use Rattle.acc_base.proofs.Judged.{step_judged, task_says}
 use Rattle.acc_base.proofs.Legality.{IsJudgedItem, item_judged}
 use Rattle.acc_base.proofs.Walked.{records-act_state}
 use Rattle.acc_stale.specs.declared.trackers.Tracker.{Tracker}
+use Rattle.acc_stale.specs.Accounts.{act_at}
 use Rattle.acc_stale.specs.Known.{Known}
 use Rattle.acc_stale.specs.Events.{known_acted, known_all}
 use Rattle.acc_stale.specs.Follows.{FollowsDevice}
@@ -140,63 +142,39 @@ all_acted l d i tasks dids s x y judged end h =
     let all_dids : take i dids ≡ dids = grind (arith, common_steps, end) in
     subst (λ ts. AreActed d ts dids s x y) all_tasks (subst (λ ds. AreActed d (take i tasks) ds s x y) all_dids h)
 
--- an item is there at each place at which something was done
-pub no_item : (l : Limits) (i : ℕ) (tasks : List Task) (dids : List Did) (s : State) → judge_all l 0 tasks s ≡ Ok dids → i < length dids → slice_get tasks i ≡ None → ⊥
-no_item l i [] dids s judged low none = let long : 0 ≡ length dids = as_long l 0 [] dids s judged in omega (arith, low, long)
-no_item l i (task ∷ tasks) dids s judged low none =
-    let long : length (task ∷ tasks) ≡ length dids = as_long l 0 (task ∷ tasks) dids s judged in
-    let there : slice_get (task ∷ tasks) i ≡ Some (get_or (task ∷ tasks) i task) = slice_get-get_or (task ∷ tasks) i task (omega (arith, low, long)) in
+-- the one that acts at a place
+abbrev both : Option Task → Option Did → Option (Task × Did)
+both a b = option_and_then (λ task. option_map (λ did. (task, did)) b) a
+
+act_there : (i : ℕ) (tasks : List Task) (dids : List Did) (task : Task) (did : Did) → act_at i tasks dids ≡ Some (task, did) → (slice_get tasks i ≡ Some task) × (slice_get dids i ≡ Some did)
+act_there i tasks dids task did e = go (slice_get tasks i) (slice_get dids i) e
+  where
+    go : (a : Option Task) (b : Option Did) → both a b ≡ Some (task, did) → (a ≡ Some task) × (b ≡ Some did)
+    go None b h = cc
+    go (Some t) None h = cc
+    go (Some t) (Some d) h = let same : (t, d) ≡ (task, did) = same_Some _ _ h in (ap (λ (x : Task × Did). Some x.0) same, ap (λ (x : Task × Did). Some x.1) same)
+
+-- one is there at each place at which something was done
+pub no_act : (l : Limits) (i : ℕ) (tasks : List Task) (dids : List Did) (s : State) → judge_all l 0 tasks s ≡ Ok dids → i < length dids → act_at i tasks dids ≡ None → ⊥
+no_act l i tasks [] s judged low none = omega (arith, low)
+no_act l i [] (did ∷ dids) s judged low none = let long : 0 ≡ length (did ∷ dids) = as_long l 0 [] (did ∷ dids) s judged in omega (arith, long)
+no_act l i (task ∷ tasks) (did ∷ dids) s judged low none =
+    let long : length (task ∷ tasks) ≡ length (did ∷ dids) = as_long l 0 (task ∷ tasks) (did ∷ dids) s judged in
+    let one : slice_get (task ∷ tasks) i ≡ Some (get_or (task ∷ tasks) i task) = slice_get-get_or (task ∷ tasks) i task (omega (arith, low, long)) in
+    let other : slice_get (did ∷ dids) i ≡ Some (get_or (did ∷ dids) i did) = slice_get-get_or (did ∷ dids) i did low in
+    let bad : None ≡ both (Some (get_or (task ∷ tasks) i task)) (Some (get_or (did ∷ dids) i did)) = sym none ∙ ap₂ both one other in
     cc
-
--- the one that is there
-pub the_item : (tasks : List Task) (i : ℕ) (task : Task) → slice_get tasks i ≡ Some task → task ≡ get_or tasks i task
-the_item tasks i task e = ap (λ (o : Option Task). unwrap_or o task) (sym e) ∙ unwrap_or-slice_get tasks i task
-
--- from the last to the first
-pub from_last : {X : Type 0} (xs : List X) (i : ℕ) (x : X) → i < length xs → x ≡ get_or xs (length xs - 1 - i) x → x ≡ get_or (reverse xs) i x
-from_last xs i x low is = is ∙ sym (get_or-reverse xs i x low)
-
--- whatever stands for one that is not there
-pub default_free : {X : Type 0} (xs : List X) (i : ℕ) (d e : X) → i < length xs → get_or xs i d ≡ get_or xs i e
-default_free [] i d e low = absurd (omega (arith, low))
-default_free (x ∷ xs) zero d e low = refl
-default_free (x ∷ xs) (suc i) d e low = default_free xs i d e (omega (arith, low))
 
 next_place : (n : ℕ) → suc n ≡ n + 1
 next_place n = omega arith
 
--- the same turn, by the place behind it
-pub named_turn : (l : Limits) (d i : ℕ) (task : Task) (other : Did) (tasks : List Task) (dids : List Did) (s : State) (x y z : Tracker) → IsWithinBounds l → AreRecordsSound l s.records → judge_all l 0 tasks s ≡ Ok dids → i < length dids → slice_get tasks i ≡ Some task
-    → AreActed d (take i tasks) (take i dids) s x y → IsOneActed d task (get_or dids i other) y z → AreActed d (take (i + 1) tasks) (take (i + 1) dids) s x z
-named_turn l d i task other tasks dids s x y z bounds sound judged low is before one =
+-- its turn, by the place behind it
+pub act_turn : (l : Limits) (d i : ℕ) (task : Task) (did : Did) (tasks : List Task) (dids : List Did) (s : State) (x y z : Tracker) → IsWithinBounds l → AreRecordsSound l s.records → judge_all l 0 tasks s ≡ Ok dids → act_at i tasks dids ≡ Some (task, did)
+    → AreActed d (take i tasks) (take i dids) s x y → IsOneActed d task did y z → AreActed d (take (i + 1) tasks) (take (i + 1) dids) s x z
+act_turn l d i task did tasks dids s x y z bounds sound judged is before one =
+    let there : (slice_get tasks i ≡ Some task) × (slice_get dids i ≡ Some did) = act_there i tasks dids task did is in
     subst (λ (n : ℕ). AreActed d (take n tasks) (take n dids) s x z) (next_place i)
-    (turn_acted l d i task (get_or dids i other) tasks dids s x y z bounds sound judged low (the_item tasks i task is) (default_free dids i other (get_or dids i other) low) before one)
-
--- a turn from the last to the first
-pub undone_turn : (l : Limits) (d i count : ℕ) (t : Task) (e : Did) (tasks : List Task) (dids : List Did) (s : State) (x y z : Tracker) → IsWithinBounds l → AreRecordsSound l s.records → judge_all l 0 (reverse tasks) s ≡ Ok (reverse dids) → count ≡ min (length tasks) (length dids) → i < count
-    → AreActed d (take i (reverse tasks)) (take i (reverse dids)) s x y → IsOneActed d (get_or tasks (count - 1 - i) t) (get_or dids (count - 1 - i) e) y z → AreActed d (take (i + 1) (reverse tasks)) (take (i + 1) (reverse dids)) s x z
-undone_turn l d i count t e tasks dids s x y z bounds sound judged is low before one =
-    let long : length (reverse tasks) ≡ length (reverse dids) = as_long l 0 (reverse tasks) (reverse dids) s judged in
-    let few : length tasks ≡ length dids = sym (length-reverse tasks) ∙ long ∙ length-reverse dids in
-    let all_tasks : count ≡ length tasks = omega (arith, is, few) in
-    let all_dids : count ≡ length dids = omega (arith, is, few) in
-    let there : i < length (reverse dids) = omega (arith, low, all_dids, length-reverse dids) in
-    let low_tasks : i < length tasks = omega (arith, low, all_tasks) in
-    let low_dids : i < length dids = omega (arith, low, all_dids) in
-    let place_tasks : count - 1 - i < length tasks = omega (arith, low, all_tasks) in
-    let place_dids : count - 1 - i < length dids = omega (arith, low, all_dids) in
-    let task : Task = get_or tasks (count - 1 - i) t in
-    let did : Did = get_or dids (count - 1 - i) e in
-    let is_task : get_or tasks (count - 1 - i) t ≡ get_or (reverse tasks) i (get_or tasks (count - 1 - i) t) = from_last tasks i (get_or tasks (count - 1 - i) t) low_tasks (default_free tasks (count - 1 - i) t (get_or tasks (count - 1 - i) t) place_tasks ∙ ap (λ (n : ℕ). get_or tasks (n - 1 - i) (get_or tasks (count - 1 - i) t)) all_tasks) in
-    let is_did : get_or dids (count - 1 - i) e ≡ get_or (reverse dids) i (get_or dids (count - 1 - i) e) = from_last dids i (get_or dids (count - 1 - i) e) low_dids (default_free dids (count - 1 - i) e (get_or dids (count - 1 - i) e) place_dids ∙ ap (λ (n : ℕ). get_or dids (n - 1 - i) (get_or dids (count - 1 - i) e)) all_dids) in
-    subst (λ (n : ℕ). AreActed d (take n (reverse tasks)) (take n (reverse dids)) s x z) (next_place i)
-    (turn_acted l d i (get_or tasks (count - 1 - i) t) (get_or dids (count - 1 - i) e) (reverse tasks) (reverse dids) s x y z bounds sound judged there is_task is_did before one)
-
-pub undone_all : (l : Limits) (d i count : ℕ) (tasks : List Task) (dids : List Did) (s : State) (x y : Tracker) → judge_all l 0 (reverse tasks) s ≡ Ok (reverse dids) → count ≡ min (length tasks) (length dids) → i ≡ count → AreActed d (take i (reverse tasks)) (take i (reverse dids)) s x y → AreActed d (reverse tasks) (reverse dids) s x y
-undone_all l d i count tasks dids s x y judged is end h =
-    let long : length (reverse tasks) ≡ length (reverse dids) = as_long l 0 (reverse tasks) (reverse dids) s judged in
-    let few : length tasks ≡ length dids = sym (length-reverse tasks) ∙ long ∙ length-reverse dids in
-    all_acted l d i (reverse tasks) (reverse dids) s x y judged (omega (arith, is, few, end, length-reverse dids)) h
+    (turn_acted l d i task did tasks dids s x y z bounds sound judged (slice_get_within dids i did there.1) (sym (get_or_from_slice_get tasks i task task there.0)) (sym (get_or_from_slice_get dids i did did there.1)) before one)
 
 -- ---- what an exit is to undo
 

@@ -1,11 +1,16 @@
 -- What an account says of blocks, their attached pointers, the transfers that wait, and the open regions.
-use Rattle.std.specs.Prelude.{ℕ, ◌≡◌, ◌<◌, ◌+◌, ◌^◌, Bool, false, ◌&&◌, ◌==◌, if◌then◌else◌, List, [], ◌∷◌, map, filter, Option, Some, unwrap_or, option_map}
+use Rattle.std.specs.Prelude.{ℕ, ◌≡◌, ◌<◌, ◌+◌, ◌^◌, Bool, false, ◌&&◌, ◌==◌, if◌then◌else◌, List, [], ◌∷◌, map, filter, reverse, Option, Some, unwrap_or, option_map, option_and_then}
 use Rattle.std.specs.BTreeMap.{get}
+use Rattle.std.specs.List.{slice_get}
 use Rattle.std.specs.declared.cmp.Ordering.{Ordering}
 use Rattle.std.specs.Ordering.{nat_cmp, ordering_then}
 use Rattle.acc_base.specs.declared.attachments.Attachment.{Attachment}
 use Rattle.acc_base.specs.declared.mappings.Range.{Range}
+use Rattle.acc_base.specs.declared.events.Did.{Did}
+use Rattle.acc_base.specs.declared.events.Event.{Event}
+use Rattle.acc_base.specs.declared.events.Event.TheVariants.{Left}
 use Rattle.acc_base.specs.declared.tasks.Task.{Task}
+use Rattle.acc_base.specs.Items.{tasks_named}
 use Rattle.acc_base.specs.declared.transfers.Transfer.{Transfer}
 use Rattle.acc_base.specs.Attachments.{with_count}
 use Rattle.acc_base.specs.Tasks.{recounted as recounted_by}
@@ -99,6 +104,15 @@ waiting_in d q waiting = map (λ w. w.transfer) (filter (is_in d q) waiting)
 -- what the exit from an open region asks, of the first item first
 abbrev pub undone_at : ℕ → ℕ → Account → Option (List Task)
 undone_at d number a = option_map (λ tasks. tasks.items) (get by_number a.regions (d, number))
+
+-- what the items of an event ask, in the order in which they act, as an account says it of an exit
+abbrev pub asked_by : Event → Account → List Task
+asked_by (Left device number did) a = reverse (unwrap_or (undone_at device number a) [])
+asked_by e a = tasks_named e
+
+-- what the item asks and did that acts as the nth
+abbrev pub act_at : ℕ → List Task → List Did → Option (Task × Did)
+act_at nth tasks dids = option_and_then (λ task. option_map (λ did. (task, did)) (slice_get dids nth)) (slice_get tasks nth)
 
 -- an account says this of one region now, and of all else what it did
 pub record IsRegionChanged (d number : ℕ) (now : Option (List Task)) (old new : Account) : Type 0 where

@@ -1,15 +1,16 @@
 //! What the events of a table say of its blocks, pointers, queues and regions, as far as the marks have to be told it.
 
-ghost use Rattle.std.specs.Prelude.{◌≡◌, ℕ, ◌&&◌, ◌==◌, ◌++◌, ◌∷◌, [], Option, Some, None, OnOk, IfOk, option_map, length, filter, map};
-ghost use Rattle.std.specs.List.{find, position};
+ghost use Rattle.std.specs.Prelude.{◌≡◌, ℕ, ◌&&◌, ◌==◌, ◌++◌, ◌∷◌, [], Option, Some, None, OnOk, IfOk, option_map, length, filter, map, reverse};
+ghost use Rattle.std.specs.List.{find, position, slice_get};
 ghost use Rattle.acc_base.specs.Attachments.{count_at};
 ghost use Rattle.acc_base.specs.Devices.{new_whole};
 ghost use Rattle.acc_base.specs.Items.{tasks_undone};
+ghost use Rattle.acc_base.specs.Walk.{done_in};
 ghost use Rattle.acc_stale.specs.Follows.{FollowsWhole};
-ghost use Rattle.acc_stale.specs.Accounts.{is_in, without_first, counted, told_block, told_at, attached_at, IsChanged, IsCountKept, IsRecounted, HasSameBlocks, undone_at, IsRegionChanged};
+ghost use Rattle.acc_stale.specs.Accounts.{is_in, without_first, counted, told_block, told_at, attached_at, IsChanged, IsCountKept, IsRecounted, HasSameBlocks, asked_by, act_at, IsRegionChanged};
 
 use crate::known::Placed;
-use acc_base::{Attachment, Event, Range, Section, Task, Transfer};
+use acc_base::{Attachment, Did, Event, Range, Section, Task, Transfer};
 use std::alloc::{AllocError, Global};
 use std::collections::{BTreeMap, VecDeque};
 
@@ -254,12 +255,31 @@ impl Account {
         Ok(())
     }
 
-    /// Drops a region, and returns what the exit from it asks, of the first item first.
-    pub fn close(&mut self, device: u64, number: u64) -> Option<Vec<Task>>
-        ensures undone { option_map (λ tasks. tasks.items) result ≡ undone_at device number self.old }
+    /// Drops a region that was left.
+    pub fn close(&mut self, device: u64, number: u64)
         ensures closed { IsRegionChanged device number None self.old self.new }
     {
-        self.regions.remove(&(device, number))
+        let _ = self.regions.remove(&(device, number));
+    }
+
+    /// What the item of an event asked and did that acts as the nth, from 0 on. The last item of a region's entry is the
+    /// first that its exit undoes.
+    pub fn act(&self, event: &Event, nth: usize) -> Option<(Task, Did)>
+        ensures { result ≡ act_at nth (asked_by event.now self.now) (done_in event.now) }
+    {
+        Some((self.asked(event, nth)?, done(event, nth)?))
+    }
+
+    fn asked(&self, event: &Event, nth: usize) -> Option<Task>
+        ensures { result ≡ slice_get (asked_by event.now self.now) nth }
+    {
+        match event {
+            Event::Left { device, number, .. } => {
+                let tasks = self.regions.get(&(*device, *number))?;
+                from_last(tasks, nth)
+            }
+            _ => event.task(nth),
+        }
     }
 }
 
@@ -274,6 +294,24 @@ fn undone(alloc: Global, entry: &Event) -> Result<Vec<Task>, AllocError>
         }
     }
     Ok(tasks)
+}
+
+/// What the item of an event did that acts as the nth, from 0 on.
+fn done(event: &Event, nth: usize) -> Option<Did>
+    ensures { result ≡ slice_get (done_in event.now) nth }
+{
+    match event {
+        Event::Left { did, .. } => from_last(did.as_slice(), nth),
+        _ => event.did().get(nth).copied(),
+    }
+}
+
+/// An element by its place from the last one on.
+fn from_last<T: Copy>(all: &[T], nth: usize) -> Option<T>
+    ensures { result ≡ slice_get (reverse all.now) nth }
+{
+    let place = all.len().checked_sub(nth)?.checked_sub(1)?;
+    all.get(place).copied()
 }
 
 /// The attached pointers of a block, by rising address.

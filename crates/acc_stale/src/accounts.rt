@@ -214,11 +214,11 @@ impl Account {
             .count()
     }
 
-    /// The queue in which a transfer waits that copies an address, to host memory or to a device.
-    pub fn queue_with(&self, address: u64, out: bool) -> Option<u64> {
-        let waiting = self.waiting.iter().find(|w| w.transfer.out == out
-            && has_address(w.transfer.section, address))?;
-        Some(waiting.queue)
+    /// The transfers that wait, in the order in which they were put.
+    pub fn waiting(&self) -> &VecDeque<Waiting>
+        ensures { result.now ≡ self.now.waiting }
+    {
+        &self.waiting
     }
 
     // ---- regions

@@ -2,6 +2,7 @@
 
 ghost use Rattle.std.specs.Prelude.{◌≤◌, length};
 
+use crate::events::behind;
 use acc_base::Section;
 use acc_stale::{Placed, has_address};
 use std::alloc::{AllocError, Global};
@@ -261,13 +262,31 @@ impl History {
         false
     }
 
-    /// Whether the host wrote a byte of a section since the mapping of a block ended, or its last copy was put into a
-    /// queue.
-    pub fn is_written_since_ended(&self, block: Block, section: Section) -> bool {
+    /// Whether a byte of a section was written elsewhere since a block got its own.
+    pub fn is_outdated(&self, block: Block, section: Section) -> bool {
+        let mut rest = section;
+        for _ in 0..section.len {
+            if rest.len == 0 {
+                break;
+            }
+            if self.is_byte_outdated(block, rest.start) {
+                return true;
+            }
+            rest = behind(rest, self.alike(rest));
+        }
+        false
+    }
+
+    /// Whether a byte was written elsewhere since a block got its own.
+    fn is_byte_outdated(&self, block: Block, address: u64) -> bool {
         for done in self.all.iter().rev() {
+            if !has_address(done.section, address) {
+                continue;
+            }
+            let is_here = done.block == block;
             match done.deed {
-                Deed::Ended | Deed::QueuedOut if done.block == block => return false,
-                Deed::HostWrote if has_common(done.section, section) => return true,
+                Deed::KernelWrote | Deed::CopiedIn | Deed::Created if is_here => return false,
+                Deed::KernelWrote | Deed::HostWrote => return true,
                 _ => {}
             }
         }
@@ -311,13 +330,6 @@ fn count_alike(section: Section, address: u64) -> u64 {
     } else {
         u64::MAX
     }
-}
-
-/// Whether an address is in both of two sections.
-fn has_common(first: Section, second: Section) -> bool {
-    first.len > 0
-        && second.len > 0
-        && (has_address(first, second.start) || has_address(second, first.start))
 }
 
 /// What left a memory without a newer byte, of the deeds from the one on that wrote it. That is the first that lost it, or

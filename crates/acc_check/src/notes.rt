@@ -163,7 +163,7 @@ impl Check {
             _ => history.cause(block, section.start),
         };
         let (note, section) = match (read.block, read.mark) {
-            (Some(placed), mark) => self.note_of_device(table, placed, mark, section),
+            (Some(placed), mark) => self.note_of_device(placed, mark, section),
             (None, Mark::Unfilled) => (Note::None, section),
             (None, _) => self.note_of_host(table, section, cause)?,
         };
@@ -208,7 +208,7 @@ impl Check {
             address: section.start,
             out: true,
         };
-        if let Some(queue) = self.queue_with(table, wanted) {
+        if let Some(queue) = self.queue_with(wanted) {
             Note::Wait { device, queue }
         } else if is_mapped(table, placed, section) {
             Note::UpdateSelf(device)
@@ -218,7 +218,7 @@ impl Check {
     }
 
     /// What to write where a kernel reads bytes of a block that have a mark. The host has to have the newest.
-    fn note_of_device(&self, table: &Table, placed: Placed, mark: Mark, section: Section) -> Noted {
+    fn note_of_device(&self, placed: Placed, mark: Mark, section: Section) -> Noted {
         let Some(section) = before_run(section, self.tracker.known.stale_host(section)) else {
             return (Note::None, section);
         };
@@ -229,7 +229,7 @@ impl Check {
             out: false,
         };
         let history = &self.looks.history;
-        let note = match (self.queue_with(table, wanted), mark) {
+        let note = match (self.queue_with(wanted), mark) {
             (Some(queue), _) => Note::Wait { device, queue },
             (None, Mark::Unfilled) if history.is_kept_since_created(wanted.block, address) => {
                 Note::Copyin
@@ -272,9 +272,9 @@ impl Check {
     // ---- queues
 
     /// The queue that can be waited for, so that a copy is made that waits there.
-    fn queue_with(&self, table: &Table, wanted: Wanted) -> Option<u64> {
+    fn queue_with(&self, wanted: Wanted) -> Option<u64> {
         for queue in 0..QUEUE_COUNT {
-            if self.is_waiting(wanted, queue) && self.can_wait(table, wanted, queue) {
+            if self.is_waiting(wanted, queue) && self.can_wait(wanted, queue) {
                 return Some(queue);
             }
         }
@@ -290,22 +290,23 @@ impl Check {
     }
 
     /// Whether no copy that waits in a queue would take newer bytes, or bring the wanted byte from another block.
-    fn can_wait(&self, table: &Table, wanted: Wanted, queue: u64) -> bool {
+    fn can_wait(&self, wanted: Wanted, queue: u64) -> bool {
         let device = wanted.block.device;
         for waiting in self.tracker.account.waiting().iter() {
             if waiting.device != device || waiting.queue != queue {
                 continue;
             }
             let t = waiting.transfer;
-            if wanted.is_spoiled_by(t) || self.takes_newer(table, device, t) {
+            if wanted.is_spoiled_by(t) || self.takes_newer(device, t) {
                 return false;
             }
         }
         true
     }
 
-    /// Whether a copy would take newer bytes. Of a block whose mapping has ended it is not known that the host wrote.
-    fn takes_newer(&self, table: &Table, device: u64, t: Transfer) -> bool {
+    /// Whether a copy would take newer bytes. Of a block whose mapping has ended, and of another device, no mark says that
+    /// its bytes are older.
+    fn takes_newer(&self, device: u64, t: Transfer) -> bool {
         let block = Block {
             device,
             number: t.block,
@@ -317,9 +318,7 @@ impl Check {
         if !t.out {
             return has_newer(known, None, own, t.section);
         }
-        has_newer(known, own, None, t.section)
-            || (!is_mapped(table, held.placed, t.section)
-                && self.looks.history.is_written_since_ended(block, t.section))
+        has_newer(known, own, None, t.section) || self.looks.history.is_outdated(block, t.section)
     }
 }
 

@@ -1,11 +1,11 @@
 //! The check of a script: what its lines read is told where it is stale.
 
-use crate::findings::{Finding, Kind, Origin, put_drop, put_finding, put_leak, put_needless};
+use crate::findings::{Finding, Origin, put_drop, put_finding, put_leak, put_needless};
 use crate::looks::{Looks, part_of};
-use crate::notes::Read;
+use crate::notes::{Read, stale_in};
 use acc_base::{Config, Directive, Fault, Found, Item, Section, UpdateClause};
 use acc_read::{Names, Page, ScriptKernel, Statement};
-use acc_stale::{Held, Known, Mark, Placed, Run, Tracker};
+use acc_stale::{Held, Known, Placed, Run, Tracker};
 use acc_table::{Place, Table};
 use std::alloc::Global;
 
@@ -186,7 +186,7 @@ impl Check {
             self.see_events(table)?;
         }
         if let Some(section) = shown {
-            self.find_in_host(table, section, 0)?;
+            self.find(table, None, section, 0)?;
         }
         if !self.looks.findings.is_empty() {
             self.put_findings(page, names, line);
@@ -304,75 +304,42 @@ impl Check {
             len: reads,
         };
         if let Some(source) = source {
-            self.find_in_host(table, source, 1)?;
+            self.find(table, None, source, 1)?;
         }
         if let Some(held) = self.tracker.account.block(device, block) {
-            self.find_on_device(table, held.placed, section)?;
+            self.find(table, Some(held.placed), section, 0)?;
         }
         Ok(())
     }
 
-    /// Finds what of a section of host memory is stale; the line names it by its last reference but so many.
-    fn find_in_host(&mut self, table: &Table, section: Section, nth: usize) -> Result<(), Fault> {
-        let mut rest = section;
-        for _ in 0..section.len {
-            let Some(run) = self.tracker.known.stale_host(rest) else {
-                break;
-            };
-            let section = part_of(rest, run);
-            let kind = match run.mark {
-                Mark::Behind => Kind::StaleHost,
-                _ => Kind::Unfilled,
-            };
-            let advice = self.advice(
-                table,
-                Read {
-                    block: None,
-                    mark: run.mark,
-                    section,
-                },
-            )?;
-            self.looks.forget_drops(section);
-            self.looks.findings.push(Finding {
-                kind,
-                section,
-                nth,
-                advice,
-            })?;
-            rest = rest_of(rest, run);
-        }
-        Ok(())
-    }
-
-    /// Finds what of a section is stale as a device has it.
-    fn find_on_device(
+    /// Finds what of a section is stale as a block has it, or host memory. The line names it by its last reference but so
+    /// many.
+    fn find(
         &mut self,
         table: &Table,
-        placed: Placed,
+        block: Option<Placed>,
         section: Section,
+        nth: usize,
     ) -> Result<(), Fault> {
         let mut rest = section;
         for _ in 0..section.len {
-            let Some(run) = self.tracker.known.stale_device(placed, rest) else {
+            let Some(run) = stale_in(&self.tracker.known, block, rest) else {
                 break;
             };
             let section = part_of(rest, run);
-            let kind = match run.mark {
-                Mark::Behind => Kind::StaleDevice,
-                _ => Kind::Unfilled,
-            };
-            let advice = self.advice(
-                table,
-                Read {
-                    block: Some(placed),
-                    mark: run.mark,
-                    section,
-                },
-            )?;
-            self.looks.findings.push(Finding {
-                kind,
+            let read = Read {
+                block,
+                mark: run.mark,
                 section,
-                nth: 0,
+            };
+            let advice = self.advice(table, read)?;
+            if block.is_none() {
+                self.looks.forget_drops(section);
+            }
+            self.looks.findings.push(Finding {
+                kind: read.kind(),
+                section,
+                nth,
                 advice,
             })?;
             rest = rest_of(rest, run);

@@ -3,6 +3,7 @@
 
 use crate::checks::{Check, rest_of};
 use crate::events::behind;
+use crate::findings::Kind;
 use crate::histories::{Block, Cause, Deed};
 use crate::looks::part_of;
 use acc_base::{Fault, Found, QUEUE_COUNT, Section, Transfer};
@@ -74,6 +75,17 @@ pub(crate) struct Read {
     pub mark: Mark,
     /// The bytes.
     pub section: Section,
+}
+
+impl Read {
+    /// What is wrong with it.
+    pub fn kind(self) -> Kind {
+        match (self.mark, self.block) {
+            (Mark::Behind, None) => Kind::StaleHost,
+            (Mark::Behind, Some(_)) => Kind::StaleDevice,
+            _ => Kind::Unfilled,
+        }
+    }
 }
 
 /// Why bytes are stale, and what to write.
@@ -341,7 +353,7 @@ fn before_run(section: Section, run: Option<Run>) -> Option<Section> {
 }
 
 /// The first bytes of a section that are not new, as a block has them, or host memory.
-fn stale_in(known: &Known, block: Option<Placed>, section: Section) -> Option<Run> {
+pub(crate) fn stale_in(known: &Known, block: Option<Placed>, section: Section) -> Option<Run> {
     match block {
         Some(placed) => known.stale_device(placed, section),
         None => known.stale_host(section),

@@ -1,11 +1,11 @@
 //! The check of a script: what its lines read is told where it is stale.
 
-use crate::findings::{Finding, Kind, Note, Origin, put_drop, put_finding, put_leak, put_needless};
-use crate::histories::{Block, Cause, Deed};
+use crate::findings::{Finding, Origin, put_drop, put_finding, put_leak, put_needless};
 use crate::looks::{Looks, part_of};
+use crate::notes::{Read, stale_in};
 use acc_base::{Config, Directive, Fault, Found, Item, Section, UpdateClause};
 use acc_read::{Names, Page, ScriptKernel, Statement};
-use acc_stale::{Held, Known, Mark, Placed, Run, Tracker};
+use acc_stale::{Held, Known, Placed, Run, Tracker};
 use acc_table::{Place, Table};
 use std::alloc::Global;
 
@@ -186,7 +186,7 @@ impl Check {
             self.see_events(table)?;
         }
         if let Some(section) = shown {
-            self.find_in_host(table, section, 0)?;
+            self.find(table, None, section, 0)?;
         }
         if !self.looks.findings.is_empty() {
             self.put_findings(page, names, line);
@@ -304,115 +304,43 @@ impl Check {
             len: reads,
         };
         if let Some(source) = source {
-            self.find_in_host(table, source, 1)?;
+            self.find(table, None, source, 1)?;
         }
         if let Some(held) = self.tracker.account.block(device, block) {
-            self.find_on_device(held.placed, section)?;
+            self.find(table, Some(held.placed), section, 0)?;
         }
         Ok(())
     }
 
-    /// Finds what of a section of host memory is stale; the line names it by its last reference but so many.
-    fn find_in_host(&mut self, table: &Table, section: Section, nth: usize) -> Result<(), Fault> {
+    /// Finds what of a section is stale as a block has it, or host memory. The line names it by its last reference but so
+    /// many.
+    fn find(
+        &mut self,
+        table: &Table,
+        block: Option<Placed>,
+        section: Section,
+        nth: usize,
+    ) -> Result<(), Fault> {
         let mut rest = section;
         for _ in 0..section.len {
-            let Some(run) = self.tracker.known.stale_host(rest) else {
+            let Some(run) = stale_in(&self.tracker.known, block, rest) else {
                 break;
             };
             let section = part_of(rest, run);
-            let cause = self.cause(run.mark, None, section.start);
-            let (kind, note) = match run.mark {
-                Mark::Behind => (Kind::StaleHost, self.note_of_host(table, section, cause)),
-                _ => (Kind::Unfilled, Note::None),
+            let read = Read {
+                block,
+                mark: run.mark,
+                section,
             };
-            self.looks.forget_drops(section);
+            let advice = self.advice(table, read)?;
+            if block.is_none() {
+                self.looks.forget_drops(section);
+            }
             self.looks.findings.push(Finding {
-                kind,
+                kind: read.kind(),
                 section,
                 nth,
-                note,
-                cause,
-            })?;
-            rest = rest_of(rest, run);
-        }
-        Ok(())
-    }
-
-    /// Why a byte of host memory, or of a block, has a mark.
-    fn cause(&self, mark: Mark, block: Option<Block>, address: u64) -> Cause {
-        match mark {
-            Mark::Unfilled => self.looks.history.cause_unfilled(block, address),
-            _ => self.looks.history.cause(block, address),
-        }
-    }
-
-    /// What to write where the host reads a section that is behind for this cause. Where older bytes were copied over the
-    /// newer ones, or each device that has it is behind too, they are lost.
-    fn note_of_host(&self, table: &Table, section: Section, cause: Cause) -> Note {
-        let queue = self.tracker.account.queue_with(section.start, true);
-        match (cause.missed.map(|done| done.deed), queue) {
-            (Some(Deed::Ended), _) => return Note::Copyout,
-            (Some(Deed::CopiedIn | Deed::CopiedOut), _) => return Note::None,
-            (_, Some(queue)) => return Note::Wait(queue),
-            _ => {}
-        }
-        for device in 0..table.config().devices() {
-            if let Some(held) = self.placed(table, device, section) {
-                if self
-                    .tracker
-                    .known
-                    .stale_device(held.placed, section)
-                    .is_none()
-                {
-                    return Note::UpdateSelf;
-                }
-            }
-        }
-        Note::None
-    }
-
-    /// What to write where a kernel reads a section that has a mark for this cause.
-    fn note_of_device(&self, mark: Mark, section: Section, cause: Cause) -> Note {
-        if mark == Mark::Behind && self.is_lacked_by_host(cause, section.start) {
-            return Note::None;
-        }
-        match (self.tracker.account.queue_with(section.start, false), mark) {
-            (Some(queue), _) => Note::Wait(queue),
-            (None, Mark::Behind) => Note::UpdateDevice,
-            (None, _) => Note::Copyin,
-        }
-    }
-
-    /// Whether the host lacks the newer byte too that a device lacks for this cause. A copy of its own does not bring it.
-    fn is_lacked_by_host(&self, cause: Cause, address: u64) -> bool {
-        let byte = Section {
-            start: address,
-            len: 1,
-        };
-        self.tracker.known.stale_host(byte).is_some()
-            && self.looks.history.cause(None, address).line_written() == cause.line_written()
-    }
-
-    /// Finds what of a section is stale as a device has it.
-    fn find_on_device(&mut self, placed: Placed, section: Section) -> Result<(), Fault> {
-        let mut rest = section;
-        for _ in 0..section.len {
-            let Some(run) = self.tracker.known.stale_device(placed, rest) else {
-                break;
-            };
-            let section = part_of(rest, run);
-            let kind = match run.mark {
-                Mark::Behind => Kind::StaleDevice,
-                _ => Kind::Unfilled,
-            };
-            let cause = self.cause(run.mark, Some(Block::of(placed)), section.start);
-            let note = self.note_of_device(run.mark, section, cause);
-            self.looks.findings.push(Finding {
-                kind,
-                section,
-                nth: 0,
-                note,
-                cause,
+                advice,
             })?;
             rest = rest_of(rest, run);
         }
@@ -455,7 +383,7 @@ fn is_equal(table: &Table, device: u64, item: Item<UpdateClause>) -> bool {
 }
 
 /// What of a section lies behind a run in it.
-fn rest_of(section: Section, run: Run) -> Section {
+pub(crate) fn rest_of(section: Section, run: Run) -> Section {
     let done = (run.at as u64).saturating_add(run.len as u64);
     Section {
         start: section.start.saturating_add(done),

@@ -1,7 +1,8 @@
 //! What is found, and how it is told.
 
 use crate::checks::{Line, Needless};
-use crate::histories::{Cause, Done};
+use crate::histories::Done;
+use crate::notes::{Advice, Note};
 use crate::objects::{open_object, put_note_fields, put_section_fields};
 use acc_base::Section;
 use acc_read::{Names, Page, before_comment, is_word_byte};
@@ -31,37 +32,6 @@ impl Kind {
     }
 }
 
-/// What to write, where that is known.
-#[derive(Clone, Copy)]
-pub(crate) enum Note {
-    /// It is not known.
-    None,
-    /// An `update self` before the line.
-    UpdateSelf,
-    /// An `update device` before the line.
-    UpdateDevice,
-    /// A `wait` for the queue of this number before the line.
-    Wait(u64),
-    /// A `copyout` where the mapping ended.
-    Copyout,
-    /// A `copyin` where the block was made.
-    Copyin,
-}
-
-impl Note {
-    /// The word before the parenthesis, and where it is to be written.
-    pub fn words(self) -> Option<(&'static str, &'static str)> {
-        match self {
-            Note::None => None,
-            Note::UpdateSelf => Some(("update self", "before it")),
-            Note::UpdateDevice => Some(("update device", "before it")),
-            Note::Wait(_) => Some(("wait", "before it")),
-            Note::Copyout => Some(("copyout", "where its mapping ends")),
-            Note::Copyin => Some(("copyin", "where it is mapped, or update the device")),
-        }
-    }
-}
-
 /// Bytes that are read and stale.
 #[derive(Clone, Copy)]
 pub(crate) struct Finding {
@@ -71,10 +41,8 @@ pub(crate) struct Finding {
     pub section: Section,
     /// Which reference of the line names them, from the last one on.
     pub nth: usize,
-    /// What to write.
-    pub note: Note,
-    /// Why they are so.
-    pub cause: Cause,
+    /// Why they are so, and what to write.
+    pub advice: Advice,
 }
 
 /// Where a finding is told, and how.
@@ -118,13 +86,13 @@ pub(crate) fn put_finding(
     };
     open(page, names, origin, finding.kind.name(), finding.section);
     if json {
-        put_note_fields(page, names, finding);
+        put_note_fields(page, names, finding.advice);
         return close(page, origin);
     }
     close(page, origin);
-    put_done(page, origin, finding.cause.written);
-    put_done(page, origin, finding.cause.missed);
-    put_note(page, names, origin, finding);
+    put_done(page, origin, finding.advice.cause.written);
+    put_done(page, origin, finding.advice.cause.missed);
+    put_note(page, names, origin, finding.advice);
 }
 
 /// Begins a finding of a kind about some bytes.
@@ -175,30 +143,36 @@ fn put_done(page: &mut Page, origin: Origin<'_>, done: Option<Done>) {
     page.text("\n");
 }
 
-fn put_note(page: &mut Page, names: &Names, origin: Origin<'_>, finding: Finding) {
-    let Some((_, place)) = finding.note.words() else {
+fn put_note(page: &mut Page, names: &Names, origin: Origin<'_>, advice: Advice) {
+    if advice.note == Note::None {
         return;
-    };
+    }
     put_place(page, origin);
     page.text("note: write '");
-    put_clause(page, names, finding);
+    put_clause(page, names, advice);
     page.text("' ");
-    page.text(place);
+    put_where(page, advice);
     page.text("\n");
 }
 
 /// Puts what to write.
-pub(crate) fn put_clause(page: &mut Page, names: &Names, finding: Finding) {
-    let Some((word, _)) = finding.note.words() else {
-        return;
-    };
-    page.text(word);
+pub(crate) fn put_clause(page: &mut Page, names: &Names, advice: Advice) {
+    page.text(advice.note.word());
     page.text("(");
-    match finding.note {
-        Note::Wait(queue) => page.number(queue),
-        _ => put_section(page, names, finding.section),
+    match advice.note {
+        Note::Wait { queue, .. } => page.number(queue),
+        _ => put_section(page, names, advice.section),
     }
     page.text(")");
+}
+
+/// Puts where it is to be written.
+pub(crate) fn put_where(page: &mut Page, advice: Advice) {
+    page.text(advice.note.place());
+    if let Some(device) = advice.device {
+        page.text(", on device ");
+        page.number(device);
+    }
 }
 
 /// Puts a mapping that ended while the device had newer bytes, which nobody read.

@@ -2,6 +2,7 @@
 
 ghost use Rattle.std.specs.Prelude.{◌≤◌, length};
 
+use crate::events::behind;
 use acc_base::Section;
 use acc_stale::{Placed, has_address};
 use std::alloc::{AllocError, Global};
@@ -104,19 +105,12 @@ pub(crate) struct Done {
 }
 
 /// Why a byte is stale, as far as lines are known.
-#[derive(Clone, Copy)]
+#[derive(Clone, Copy, Default)]
 pub(crate) struct Cause {
     /// What wrote the newer byte.
     pub written: Option<Done>,
     /// What came behind that, and lost it, or could have copied it.
     pub missed: Option<Done>,
-}
-
-impl Cause {
-    /// The number of the line that wrote the newer byte.
-    pub fn line_written(self) -> Option<u64> {
-        self.written.map(|done| done.line)
-    }
 }
 
 /// What all lines so far did, in their order.
@@ -229,10 +223,7 @@ impl History {
                 _ => {}
             }
         }
-        Cause {
-            written: None,
-            missed: None,
-        }
+        Cause::default()
     }
 
     /// The cause where the deed at a place wrote the newer byte, and a memory kept the older one up to the place `end`. If
@@ -245,6 +236,61 @@ impl History {
             missed: missed_in(deeds, memory, address).filter(|done| !is_copied
                 || done.deed.lost(memory.is_none())),
         }
+    }
+
+    /// The first bytes of a section to which the same was done.
+    pub fn alike(&self, section: Section) -> Section {
+        let mut len = section.len;
+        for done in self.all.iter() {
+            len = len.min(count_alike(done.section, section.start));
+        }
+        Section { len, ..section }
+    }
+
+    /// Whether the host has had the same byte since a block of it was made with no copy.
+    pub fn is_kept_since_created(&self, block: Block, address: u64) -> bool {
+        for done in self.all.iter().rev() {
+            if !has_address(done.section, address) {
+                continue;
+            }
+            match done.deed {
+                Deed::Created if done.block == block => return true,
+                Deed::HostWrote | Deed::KernelWrote | Deed::CopiedOut => return false,
+                _ => {}
+            }
+        }
+        false
+    }
+
+    /// Whether a byte of a section was written elsewhere since a block got its own.
+    pub fn is_outdated(&self, block: Block, section: Section) -> bool {
+        let mut rest = section;
+        for _ in 0..section.len {
+            if rest.len == 0 {
+                break;
+            }
+            if self.is_byte_outdated(block, rest.start) {
+                return true;
+            }
+            rest = behind(rest, self.alike(rest));
+        }
+        false
+    }
+
+    /// Whether a byte was written elsewhere since a block got its own.
+    fn is_byte_outdated(&self, block: Block, address: u64) -> bool {
+        for done in self.all.iter().rev() {
+            if !has_address(done.section, address) {
+                continue;
+            }
+            let is_here = done.block == block;
+            match done.deed {
+                Deed::KernelWrote | Deed::CopiedIn | Deed::Created if is_here => return false,
+                Deed::KernelWrote | Deed::HostWrote => return true,
+                _ => {}
+            }
+        }
+        false
     }
 
     /// Why nothing ever filled a byte of host memory, or of a block: what made its block, or put its copy into a queue.
@@ -271,6 +317,18 @@ impl History {
             written: None,
             missed,
         }
+    }
+}
+
+/// How many addresses, from one on, all lie in a section or all outside of it.
+fn count_alike(section: Section, address: u64) -> u64 {
+    let end = section.start.saturating_add(section.len);
+    if address < section.start {
+        section.start - address
+    } else if address < end {
+        end - address
+    } else {
+        u64::MAX
     }
 }
 

@@ -7,6 +7,7 @@ mod events;
 mod findings;
 mod histories;
 mod looks;
+mod notes;
 mod objects;
 
 pub use checks::{Check, Line, Telling};

@@ -5,10 +5,13 @@ ghost use Rattle.std.specs.Prelude.{◌≡◌, IfErr};
 ghost use Rattle.acc_base.specs.declared.faults.Fault.TheVariants.{Memory};
 
 use crate::events::behind;
-use crate::findings::{Finding, Kind, Note};
-use crate::histories::{Block, Cause, Deed, Done, History};
-use acc_base::{Fault, Section, Step, Task, Transfer};
-use acc_stale::{Held, ItemDone, Known, Mark, Placed, Run, Watch, has_address, number_of};
+use crate::findings::{Finding, Kind};
+use crate::histories::{Block, Deed, Done, History};
+use crate::notes::Advice;
+use acc_base::{Aim, Fault, Section, Step, Task, Transfer};
+use acc_stale::{
+    Held, ItemDone, Known, Mark, Placed, Run, Watch, has_address, number_of, pointer_at,
+};
 use std::alloc::Global;
 
 /// What a check looks at, and what it found.
@@ -96,6 +99,17 @@ impl Looks {
         }
     }
 
+    /// Keeps that the bytes of a pointer on a device became others: those of its target, or of the host's pointer.
+    fn note_aim(&mut self, item: &ItemDone) -> Result<(), Fault>
+        ensures only { IfErr result (λ fault. fault ≡ Memory) }
+    {
+        let (Some(holder), Some(pointer)) = (item.holder, pointer_written(item)) else {
+            return Ok(());
+        };
+        let block = Block::of(holder.placed);
+        self.note(block, Deed::CopiedIn, pointer_at(pointer))
+    }
+
     /// Keeps that bytes of a block were copied, or that their copy was put into a queue.
     fn note_copy(&mut self, block: Block, t: Transfer, queue: Option<u64>) -> Result<(), Fault>
         ensures only { IfErr result (λ fault. fault ≡ Memory) }
@@ -132,15 +146,12 @@ impl Looks {
         };
         match from {
             Some(run) if run.mark == Mark::Behind && !is_stale_at(over, run) => {
+                let section = part_of(t.section, run);
                 self.findings.push(Finding {
                     kind: Kind::Overwritten,
-                    section: part_of(t.section, run),
+                    section,
                     nth: 0,
-                    note: Note::None,
-                    cause: Cause {
-                        written: None,
-                        missed: None,
-                    },
+                    advice: Advice::none(section),
                 })?;
             }
             _ => {}
@@ -172,27 +183,21 @@ impl Looks {
 }
 
 impl Watch for Looks {
-    fn before_item(
-        &mut self,
-        device: u64,
-        task: Task,
-        step: Step,
-        ends: Option<Held>,
-    ) -> Result<(), Fault> {
-        if self.all {
-            let line = self.line;
-            self.ends = ends.map(|held| Held { line, ..held });
-        }
+    fn before_item(&mut self, device: u64, step: Step, ends: Option<Held>) -> Result<(), Fault> {
+        let line = self.line;
+        self.ends = ends.map(|held| Held { line, ..held });
         if let Some(number) = number_of(step) {
             self.block = Block { device, number };
         }
-        match ends {
-            Some(held) => self.note_end(task, step, held.range.section),
-            None => self.note_kept(task, step),
-        }
+        Ok(())
     }
 
     fn before_step(&mut self, known: &Known, item: &ItemDone) -> Result<(), Fault> {
+        self.note_aim(item)?;
+        match self.ends {
+            Some(held) => self.note_end(item.task, item.did.step, held.range.section)?,
+            None => self.note_kept(item.task, item.did.step)?,
+        }
         if !self.all {
             return Ok(());
         }
@@ -212,6 +217,16 @@ impl Watch for Looks {
     fn before_copy(&mut self, known: &Known, block: Placed, t: Transfer) -> Result<(), Fault> {
         self.find_overwritten(known, block, t)?;
         self.note_copy(Block::of(block), t, None)
+    }
+}
+
+/// The pointer whose bytes on the device an item wrote: it was attached anew, or detached for the last time.
+fn pointer_written(item: &ItemDone) -> Option<u64> {
+    let count = item.holder.map_or(0, |holder| holder.count);
+    match item.did.aim {
+        Aim::New { pointer, .. } | Aim::Cleared { pointer, .. } => Some(pointer),
+        Aim::Less { pointer, .. } if count == 1 => Some(pointer),
+        _ => None,
     }
 }
 

@@ -1,7 +1,8 @@
 //! What is found, as objects of JSON.
 
-use crate::findings::{Finding, Origin, put_clause};
+use crate::findings::{Origin, put_clause, put_where};
 use crate::histories::Done;
+use crate::notes::{Advice, Note};
 use acc_base::Section;
 use acc_read::{Names, Page};
 
@@ -24,18 +25,21 @@ pub(crate) fn put_section_fields(page: &mut Page, names: &Names, section: Sectio
 }
 
 /// Puts what a finding comes from, and what to write.
-pub(crate) fn put_note_fields(page: &mut Page, names: &Names, finding: Finding) {
-    put_done_field(page, "written", finding.cause.written);
-    put_done_field(page, "missed", finding.cause.missed);
-    let Some((_, place)) = finding.note.words() else {
+pub(crate) fn put_note_fields(page: &mut Page, names: &Names, advice: Advice) {
+    put_done_field(page, "written", advice.cause.written);
+    put_done_field(page, "missed", advice.cause.missed);
+    if advice.note == Note::None {
         page.null_field("write");
         return page.null_field("where");
-    };
+    }
     page.name_field("write");
     page.text("\"");
-    put_clause(page, names, finding);
+    put_clause(page, names, advice);
     page.text("\"");
-    page.text_field("where", place.as_bytes());
+    page.name_field("where");
+    page.text("\"");
+    put_where(page, advice);
+    page.text("\"");
 }
 
 /// Puts what a line did, with its number.

@@ -97,7 +97,8 @@ impl Log {
 
     /// Puts the last line: how much was done in all, and how many copies wait still.
     pub fn tell_total(&mut self) {
-        self.totals.add(WAITING, self.account.waiting() as u64);
+        self.totals
+            .add(WAITING, self.account.waiting().len() as u64);
         self.totals.put(&mut self.page, self.form);
     }
 

@@ -226,18 +226,11 @@ impl Account {
             .count()
     }
 
-    /// How many transfers wait, in all queues.
-    pub fn waiting(&self) -> usize
-        ensures { result ≡ length self.now.waiting.items }
+    /// The transfers that wait, in the order in which they were put.
+    pub fn waiting(&self) -> &VecDeque<Waiting>
+        ensures { result.now ≡ self.now.waiting }
     {
-        self.waiting.len()
-    }
-
-    /// The queue in which a transfer waits that copies an address, to host memory or to a device.
-    pub fn queue_with(&self, address: u64, out: bool) -> Option<u64> {
-        let waiting = self.waiting.iter().find(|w| w.transfer.out == out
-            && has_address(w.transfer.section, address))?;
-        Some(waiting.queue)
+        &self.waiting
     }
 
     // ---- regions

@@ -62,13 +62,7 @@ pub trait Watch {
     /// # Errors
     ///
     /// [`Fault::Memory`] alone, as with those that follow.
-    fn before_item(
-        &mut self,
-        device: u64,
-        task: Task,
-        step: Step,
-        ends: Option<Held>,
-    ) -> Result<(), Fault>
+    fn before_item(&mut self, device: u64, step: Step, ends: Option<Held>) -> Result<(), Fault>
         ensures only { IfErr result (λ fault. fault ≡ Memory) };
 
     /// The step of the item is done next, so this is known right before it.

@@ -366,7 +366,7 @@ fn offset_of(section: Section) -> u128
 }
 
 /// The eight bytes of a pointer.
-fn pointer_at(address: u64) -> Section
+pub fn pointer_at(address: u64) -> Section
     ensures { result ≡ pointer_at address }
 {
     Section {

@@ -15,7 +15,7 @@ mod writes;
 
 pub use accounts::{Account, Held, Told, has_address};
 pub use items::{Holder, ItemDone, Watch};
-pub use known::{Known, Placed};
+pub use known::{Known, Placed, pointer_at};
 pub use marks::{Mark, Run};
 pub use tasks::number_of;
 pub use tellings::{ItemTold, NextTold};

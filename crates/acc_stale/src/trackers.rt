@@ -77,7 +77,7 @@ impl Tracker {
         ensures only { IfErr result (λ fault. fault ≡ Memory) }
     {
         let ends = self.account.ended(device, did.step);
-        watch.before_item(device, task, did.step, ends)?;
+        watch.before_item(device, did.step, ends)?;
         let told = self.account.item(device, task, did, line)?;
         self.known.acted(&told.item, &told.attached, watch)?;
         match told.transfer {

@@ -303,26 +303,27 @@ impl Log {
             None => 0..QUEUE_COUNT,
         };
         for queue in queues {
-            while self.tell_next(names, device, queue)? {}
+            for _ in 0..self.account.count_in(device, queue) {
+                self.tell_next(names, device, queue)?;
+            }
         }
         Ok(())
     }
 
-    /// Puts the next copy of a queue. False where none waits in it.
-    fn tell_next(&mut self, names: &Names, device: u64, queue: u64) -> Result<bool, AllocError> {
-        let Some(
+    /// Puts the next copy of a queue, if one waits in it.
+    fn tell_next(&mut self, names: &Names, device: u64, queue: u64) -> Result<(), AllocError> {
+        if let Some(
             NextTold {
                 block,
                 transfer,
                 ..
             },
         ) = self.account.next(device, queue)?
-        else {
-            return Ok(false);
-        };
-        let copied = Copied::of(transfer, block.place, Some(queue));
-        self.put_copy(names, None, copied, false);
-        Ok(true)
+        {
+            let copied = Copied::of(transfer, block.place, Some(queue));
+            self.put_copy(names, None, copied, false);
+        }
+        Ok(())
     }
 
     fn tell_lent(&mut self, names: &Names, device: u64, section: Section, block: u64, serial: u64) {

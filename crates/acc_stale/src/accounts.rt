@@ -217,7 +217,7 @@ impl Account {
     }
 
     /// How many transfers wait in a queue.
-    pub(crate) fn count_in(&self, device: u64, queue: u64) -> usize
+    pub fn count_in(&self, device: u64, queue: u64) -> usize
         ensures { result ≡ length (filter (is_in device queue) self.now.waiting.items) }
     {
         self.waiting

@@ -68,7 +68,7 @@ pub struct Options<'a> {
     pub junit: Option<&'a str>,
     /// The seed of a script by chance, where one is written in place of a run.
     pub random: Option<u64>,
-    /// How many statements that script has.
+    /// How many statements by chance that script has at most.
     pub lines: u64,
     /// The file for a picture of the memories at the end.
     pub svg: Option<&'a str>,
@@ -126,7 +126,7 @@ const OF_COMMANDS: &[Row] = &[
     ("until-refusal", "", "End it with the first refusal"),
     ("rows", "FILE", "Count the rows that scripts reach instead"),
     ("random", "SEED", "Write a random script instead"),
-    ("lines", "N", "How many statements it has"),
+    ("lines", "N", "At most how many come by chance"),
     (
         "drill",
         "ROUNDS",
@@ -669,7 +669,9 @@ fail at the first statement that is refused. With --out each FILE, and what ends
 with .acc in folders, becomes a program in FOLDER. It ends with the first
 refusal, if there is one. A Makefile there runs the programs.
 With --rows the status is 1 where a row is reached by no script. A script of
---random has 40 statements, or 1 to 10000, and is the same on each machine.
+--random has 40 statements by chance, or 1 to 10000, and fewer where the table
+takes no more. Its arrays stand before them, and behind them what ends its
+regions and shows its bytes. It is the same on each machine.
 
 Statements, one to a line, with comments after '#':
   array NAME BYTES         an array in host memory

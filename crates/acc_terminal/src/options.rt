@@ -339,7 +339,7 @@ impl<'a> Options<'a> {
 
     /// How the lines of the script are run. A prompt goes on behind faults, and its answers need no empty lines.
     pub fn manner(self) -> Manner {
-        let asks = self.terminals.input && self.file.is_none() && self.expect.is_none();
+        let asks = self.terminals.input && self.files.is_empty() && self.expect.is_none();
         Manner {
             asks,
             answers: self.line && !asks,
@@ -643,8 +643,8 @@ allowance of regions, the number of events, and both counters of its array.
 The script is FILE, or comes on standard input; for FILE and OUTPUT '-' is
 standard input too. It is read whole before its first line runs, but with --line
 each line is done when it is read: an empty line ends what it prints. So is a
-script that is typed, behind a prompt with the device and the number of open
-regions; behind a line at fault it goes on.
+script that is typed with no FILE and no OUTPUT, behind a prompt with the device
+and the number of open regions; behind a line at fault it goes on.
 
 Each FILE has a table of its own, and the status is that of the worst. If the
 first line of FILE is '# options: ..', it says what the command line leaves

@@ -23,6 +23,7 @@ install-accrun: $(ACCRUN)
 	install -D $(ACCRUN) $(root)/bin/accrun
 	install -d $(root)/share/man/man1
 	$(ACCRUN) --help | awk -f share/man.awk >$(root)/share/man/man1/accrun.1
+	chmod 644 $(root)/share/man/man1/accrun.1
 	install -D -m 644 share/accrun.bash $(root)/share/bash-completion/completions/accrun
 	install -D -m 644 share/accrun.fish $(root)/share/fish/vendor_completions.d/accrun.fish
 	install -D -m 644 share/accrun.zsh $(root)/share/zsh/site-functions/_accrun
@@ -39,6 +40,7 @@ install-c: $(ARCHIVE)
 	$(call fill,$(c_version)) share/lamwiest.pc >$(root)/lib/pkgconfig/lamwiest.pc
 	install -m 644 share/lamwiest-config.cmake $(root)/lib/cmake/lamwiest
 	$(call fill,$(c_version)) share/lamwiest-config-version.cmake >$(root)/lib/cmake/lamwiest/lamwiest-config-version.cmake
+	chmod 644 $(root)/lib/pkgconfig/lamwiest.pc $(root)/lib/cmake/lamwiest/lamwiest-config-version.cmake
 	install -D -m 644 rust/Cargo.toml $(root)/share/lamwiest/rust/Cargo.toml
 	install -m 644 rust/build.rs $(root)/share/lamwiest/rust
 	install -D -m 644 -t $(root)/share/lamwiest/rust/src rust/src/lib.rs rust/src/raw.rs
@@ -47,6 +49,7 @@ install-acc: $(SHARED)
 	install -D $(SHARED) $(root)/lib/liblamwiest_acc.so
 	install -d $(root)/lib/pkgconfig
 	$(call fill,$(version)) share/lamwiest_acc.pc >$(root)/lib/pkgconfig/lamwiest_acc.pc
+	chmod 644 $(root)/lib/pkgconfig/lamwiest_acc.pc
 
 $(ACCRUN) $(ARCHIVE) $(SHARED):
 	@echo "$@ is not there: .ci/run builds it" >&2 && false

@@ -290,14 +290,15 @@ static size_t items_for(const lw_stored_event *asked)
     }
 }
 
-/* An array that is NULL is not moved on, not even by 0. */
+/* A handle without a table is refused with no event too. An array that is NULL is not moved on, not even by 0. */
 uint32_t lw_run(lw_table *table, const lw_stored_event *asked, size_t count, const lw_item *items, const void *bytes,
                 uint64_t *done, lw_fault *fault)
 {
     lw_fault *told = PLACE(fault);
     const uint8_t *written = bytes;
+    uint64_t events;
 
-    *told = (lw_fault){.status = LW_DONE};
+    *told = (lw_fault){.status = lw_events(table, &events)};
     for (*done = 0; *done < count; ++*done, asked++) {
         const size_t named = items_for(asked);
         const size_t len = asked->kind == LW_WRITTEN ? asked->len : 0;

@@ -110,8 +110,10 @@ public:
         return array;
     }
 
-    template <class T> void write(Span<T> to, const T *elements)
+    // As many elements as the span has, from the first on. What stands in braces is no pointer, as {} or {0} would be.
+    template <class T, class Element> void write(Span<T> to, const Element *elements)
     {
+        static_assert(std::is_same<Element, T>::value, "the elements are not those of the span");
         lw_fault fault;
         must(lw_host_write(&table, to.start, elements, to.len(), &fault), fault);
     }
@@ -200,10 +202,17 @@ public:
         return number;
     }
 
-    // Makes what events tell, as lw_run. done: how many were made, also where one is refused. These stay.
+    // Makes what events tell, as lw_run. done: how many were made, also where one is refused. These stay. Where events
+    // tell of more items or bytes than there are, it throws with LW_BAD_LENGTH, and none is made.
     void run(const std::vector<lw_stored_event> &asked, const Items &items, const std::vector<uint8_t> &bytes,
              uint64_t &done)
     {
+        uint64_t named = 0, written = 0;
+        done = 0;
+        for (const lw_stored_event &event : asked) {
+            add(named, has_items(event.kind) ? event.count : 0, items.size());
+            add(written, event.kind == LW_WRITTEN ? event.len : 0, bytes.size());
+        }
         lw_fault fault;
         must(lw_run(&table, asked.data(), asked.size(), items.data(), bytes.data(), &done, &fault), fault);
     }
@@ -256,6 +265,22 @@ public:
     }
 
 private:
+    // Whether lw_run takes items for an event of this kind.
+    static bool has_items(uint32_t kind)
+    {
+        return kind == LW_ENTERED || kind == LW_ENTERED_DATA || kind == LW_EXITED_DATA || kind == LW_UPDATED;
+    }
+
+    // Adds to what is wanted, and throws where there is not as much.
+    static void add(uint64_t &wanted, uint64_t more, uint64_t there)
+    {
+        if (more > there - wanted) {
+            lw_fault fault = {LW_BAD_LENGTH, 0, more <= UINT64_MAX - wanted ? wanted + more : UINT64_MAX};
+            throw Refused(fault);
+        }
+        wanted += more;
+    }
+
     void begin(const lw_limits *limits)
     {
         lw_fault fault;

@@ -1365,8 +1365,8 @@ static void check_wrong_runs(const scene *scene, const recording *right)
     check_stops(scene, &wrong_one, 1, (lw_fault){.status = LW_OUT_OF_HOST});
     check(lw_run(&none, right->events, 1, NULL, right->bytes, &done, &fault) == LW_ENDED && fault.status == LW_ENDED &&
               done == 0, "run", "without a table");
-    check(lw_run(&none, NULL, 0, NULL, NULL, &done, &fault) == LW_DONE && fault.status == LW_DONE && done == 0, "run",
-          "without events");
+    check(lw_run(&none, NULL, 0, NULL, NULL, &done, &fault) == LW_ENDED && fault.status == LW_ENDED && done == 0, "run",
+          "without a table and events");
 }
 
 /* ---- Copies ---- */

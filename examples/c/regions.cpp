@@ -121,6 +121,37 @@ void run_scripts()
     }
 }
 
+// What stands in braces is elements, also where it could be a null pointer.
+void write_in_braces(lamwiest::Table &table)
+{
+    const double plain[] = {7, 8, 9};
+    Doubles few = table.array<double>(3);
+
+    table.write(few, plain);
+    table.write(few, {});
+    show("none in braces", table.read(few));
+    table.write(few, {0});
+    show("a zero in braces", table.read(few));
+    table.write(few, {1});
+    show("a one in braces", table.read(few));
+}
+
+// Events that tell of more items, or of more bytes, than there are: none is made.
+void run_too_few(lamwiest::Table &table, lw_stored_event update, Doubles b)
+{
+    lw_stored_event written = {};
+    uint64_t made = 1;
+
+    written.kind = LW_WRITTEN;
+    written.start = b.start;
+    written.len = 4;
+    show_refusal([&] { table.run({update, written, update}, {lamwiest::self(b)}, {1, 2, 3, 4}, made); });
+    show_refusal([&] { table.run({update, written, written}, {lamwiest::self(b)}, {1, 2, 3, 4, 5, 6, 7}, made); });
+    written.len = UINT64_MAX;
+    show_refusal([&] { table.run({update, written}, {lamwiest::self(b)}, {1, 2, 3, 4}, made); });
+    std::cout << "made " << made << '\n';
+}
+
 void run()
 {
     lamwiest::Table table;
@@ -160,6 +191,7 @@ void run()
     } catch (const lamwiest::Refused &refused) {
         std::cout << "made " << made << ", then " << refused.what() << '\n';
     }
+    run_too_few(table, update, b);
     table.exit_data({lamwiest::copyout(b)});
     show("b", table.read(b));
     std::cout << table.report();
@@ -173,6 +205,7 @@ void run()
         reach_too_far(table, region, odd);
     }
     show("odd", table.read(odd));
+    write_in_braces(table);
 }
 
 } // namespace

@@ -103,22 +103,34 @@ fn language_of(options: Options<'_>) -> Language {
     options.emit.unwrap_or(Language::C)
 }
 
-/// The name of the program of a script: `FOLDER/life.c` for `tests/life.acc`. It has `_` for each letter that make or a
-/// shell might take for another thing than a part of a name.
+/// The name of the program of a script: `FOLDER/life.c` for `tests/life.acc`. It has `_` for each letter that make, a
+/// compiler or a shell might take for another thing than a part of a name.
 fn program_name(
     alloc: Global,
     folder: &str,
     script: &str,
     language: Language,
 ) -> Result<String, Fault> {
-    let name = file_name(script);
     let mut path = path_into(alloc, folder)?;
-    for letter in name.strip_suffix(".acc").unwrap_or(name).chars() {
+    let mut is_first = true;
+    for letter in stem_of(script).chars() {
         let is_plain = letter.is_ascii_alphanumeric() || matches!(letter, '.' | '_' | '-');
-        path.push(if is_plain { letter } else { '_' })?;
+        // No `*.c` finds a name with a dot in front, and a compiler takes one with a dash for an option.
+        let is_apart = is_first && matches!(letter, '.' | '-');
+        path.push(if is_plain && !is_apart { letter } else { '_' })?;
+        is_first = false;
     }
     path.push_str(language.suffix())?;
     Ok(path)
+}
+
+/// The name of a script without its folders and its `.acc`, unless nothing is left then.
+fn stem_of(script: &str) -> &str {
+    let name = file_name(script);
+    match name.strip_suffix(".acc") {
+        None | Some("") => name,
+        Some(stem) => stem,
+    }
 }
 
 /// The path of a folder, with a slash behind it.

@@ -9,7 +9,7 @@ use acc_script::{MemorySink, Sink, Status, write_all};
 use acc_terminal::Options;
 use acc_trials::{
     BAIL_OUT, FileFault, FileStore, Played, Report, Trial, blessed, compared, expectation,
-    lines_of, output_name,
+    lines_of, output_name, told_name,
 };
 use std::alloc::AllocError;
 use std::sync::Wait;
@@ -160,7 +160,14 @@ impl<'a, R: Threads + Wait + Sync + AllocGlobal, D: FileStore + Sync> Tester<'a,
     fn try_script(&self, name: &str, script: &[u8]) -> Result<Trial, Fault> {
         let alloc = self.rt.alloc();
         let mut told = Told::new(alloc);
-        match options_for(alloc, self.options, Some(name), script, &mut told.reason) {
+        let file = told_name(alloc, name)?;
+        match options_for(
+            alloc,
+            self.options,
+            Some(file.as_str()),
+            script,
+            &mut told.reason,
+        ) {
             Ok(options) => self.try_warned(options, name, script, &mut told),
             Err(Mishap::Fault(fault)) => Err(fault),
             Err(_) => Trial::noted(alloc, &[], told.reason),
@@ -177,7 +184,8 @@ impl<'a, R: Threads + Wait + Sync + AllocGlobal, D: FileStore + Sync> Tester<'a,
     ) -> Result<Trial, Fault> {
         let mut trial = self.try_with(options, name, script, told)?;
         if !options.views().explain {
-            trial.warnings = warnings_of(self.rt.alloc(), Some(name), script)?;
+            let file = told_name(self.rt.alloc(), name)?;
+            trial.warnings = warnings_of(self.rt.alloc(), Some(file.as_str()), script)?;
         }
         Ok(trial)
     }

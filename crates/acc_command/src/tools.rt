@@ -35,8 +35,8 @@ pub const FAULTED: u8 = 2;
 ///
 /// `words` begins with the program's name. A script comes from `reader`, or from a file, whose first line may have more
 /// options. Several files are run one after the other, and the status is the greatest of theirs. What it prints goes to
-/// `out`, or is compared with a file. Where `reader` is a terminal, a prompt on `err` asks for each line of a script.
-/// Where `err` is one, the script is explained.
+/// `out`, or is compared with a file. Where `reader` is a terminal, and no file is named, a prompt on `err` asks for
+/// each line of a script. Where `err` is one, the script is explained.
 ///
 /// For a fault of the command line the parser's words go to `err`, and nothing is read. For any other fault one line
 /// goes there, behind the flush of `out`. The reason follows, with `--explain` or where a first line is wrong. Only the

@@ -258,8 +258,9 @@ fn put_title(page: &mut Page, language: Language, name: Option<&str>, script: &[
     }
 }
 
-/// Puts a comment. A blank stands in what would begin or end one of C within it, which the preprocessor of Fortran knows
-/// too; and no line of Fortran ends with what would join it to the next.
+/// Puts a comment, with a question mark for each control character but the tab. A blank stands in what would begin or
+/// end one of C within it, which the preprocessor of Fortran knows too. No line of Fortran ends with what would join it
+/// to the next.
 fn put_remark(page: &mut Page, language: Language, text: &[u8]) {
     page.text(language.pick("/* ", "! "));
     let mut last = b' ';
@@ -267,7 +268,8 @@ fn put_remark(page: &mut Page, language: Language, text: &[u8]) {
         if matches!((last, *byte), (b'*', b'/') | (b'/', b'*')) {
             page.text(" ");
         }
-        page.bytes(slice::from_ref(byte));
+        let is_hidden = byte.is_ascii_control() && *byte != b'\t';
+        page.bytes(slice::from_ref(if is_hidden { &b'?' } else { byte }));
         last = *byte;
     }
     let end = if last == b'\\' { " !\n" } else { "\n" };

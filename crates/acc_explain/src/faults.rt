@@ -15,7 +15,8 @@ const SHOWN: usize = 40;
 /// How many bytes a line may have.
 const LONGEST: usize = 4_096;
 
-/// How many bytes of a line are counted at most. Of a line with more a front may be given alone, which also has more.
+/// How many bytes of a line are counted at most. Of a longer line only a front may be given, which has more too: as
+/// `ROOM` of the line reader in `acc_terminal` says, 8,192.
 const COUNTED: usize = 8_000;
 
 /// The column of what is wrong in a line at fault, in bytes from 1 on; of a place before it where there is no memory to

@@ -105,8 +105,8 @@ impl Reader<'_> {
         unfit.saturating_sub(1)
     }
 
-    /// The first token with which a text has this fault, and has it with the next one too: a word before a colon is no
-    /// name.
+    /// The first token with which a text has this fault, and has it with the next one too. For a word before a colon is
+    /// no name.
     fn first_with(self, text: &[u8], kind: ScriptFault) -> usize {
         let count = token_count(text);
         for nth in 1..=count {

@@ -5,6 +5,7 @@ use acc_read::next_line;
 use acc_script::Source;
 
 /// How many bytes are held: more than a line may have, so that one of more bytes is at fault by those that are held.
+/// They are also more than `COUNTED` of `acc_explain`.
 const ROOM: usize = 8_192;
 
 /// Gives each line of a source as soon as the source gave all of it. It takes no memory.

@@ -68,7 +68,7 @@ pub struct Options<'a> {
     pub junit: Option<&'a str>,
     /// The seed of a script by chance, where one is written in place of a run.
     pub random: Option<u64>,
-    /// How many statements that script has.
+    /// How many statements by chance that script has at most.
     pub lines: u64,
     /// The file for a picture of the memories at the end.
     pub svg: Option<&'a str>,
@@ -126,7 +126,7 @@ const OF_COMMANDS: &[Row] = &[
     ("until-refusal", "", "End it with the first refusal"),
     ("rows", "FILE", "Count the rows that scripts reach instead"),
     ("random", "SEED", "Write a random script instead"),
-    ("lines", "N", "How many statements it has"),
+    ("lines", "N", "At most how many come by chance"),
     (
         "drill",
         "ROUNDS",
@@ -339,7 +339,7 @@ impl<'a> Options<'a> {
 
     /// How the lines of the script are run. A prompt goes on behind faults, and its answers need no empty lines.
     pub fn manner(self) -> Manner {
-        let asks = self.terminals.input && self.file.is_none() && self.expect.is_none();
+        let asks = self.terminals.input && self.files.is_empty() && self.expect.is_none();
         Manner {
             asks,
             answers: self.line && !asks,
@@ -643,8 +643,8 @@ allowance of regions, the number of events, and both counters of its array.
 The script is FILE, or comes on standard input; for FILE and OUTPUT '-' is
 standard input too. It is read whole before its first line runs, but with --line
 each line is done when it is read: an empty line ends what it prints. So is a
-script that is typed, behind a prompt with the device and the number of open
-regions; behind a line at fault it goes on.
+script that is typed with no FILE and no OUTPUT, behind a prompt with the device
+and the number of open regions; behind a line at fault it goes on.
 
 Each FILE has a table of its own, and the status is that of the worst. If the
 first line of FILE is '# options: ..', it says what the command line leaves
@@ -669,7 +669,9 @@ fail at the first statement that is refused. With --out each FILE, and what ends
 with .acc in folders, becomes a program in FOLDER. It ends with the first
 refusal, if there is one. A Makefile there runs the programs.
 With --rows the status is 1 where a row is reached by no script. A script of
---random has 40 statements, or 1 to 10000, and is the same on each machine.
+--random has 40 statements by chance, or 1 to 10000, and fewer where the table
+takes no more. Its arrays stand before them, and behind them what ends its
+regions and shows its bytes. It is the same on each machine.
 
 Statements, one to a line, with comments after '#':
   array NAME BYTES         an array in host memory

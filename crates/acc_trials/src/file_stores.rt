@@ -8,6 +8,18 @@ use std::io::{self, ErrorKind, Read, Write};
 use std::os::unix::fs::MetadataExt;
 use std::rt::Files;
 
+/// Why a file cannot be read that is longer than `acc_script` reads.
+const TOO_LONG: &str = "it has more than 16,777,216 bytes";
+
+/// Why a folder cannot be listed whose names are longer together.
+const TOO_MANY_NAMES: &str = "its names have more than 16,777,216 bytes";
+
+/// How long a name may be that gets `.new` behind it up to [`TRIES`] times; the system takes 255 bytes.
+const LONGEST: usize = 191;
+
+/// How many names are tried for a new file.
+const TRIES: u64 = 16;
+
 /// Why a file cannot be read, or cannot be written.
 #[derive(Clone, Copy)]
 pub enum FileFault {
@@ -144,7 +156,7 @@ fn list_at<R: Files + AllocGlobal>(rt: &R, folder: &str, path: &str) -> Listed {
 }
 
 fn list_open<R: Files + AllocGlobal, F: Read + Drop>(rt: &R, folder: &str, names: F) -> Listed {
-    let names = read_whole(rt.alloc(), names)?;
+    let names = read_whole(rt.alloc(), names, TOO_MANY_NAMES)?;
     let mut paths = Vec::new(rt.alloc());
     add_paths(rt, &mut paths, folder, &names)?;
     Ok(Some(paths))
@@ -154,8 +166,21 @@ fn write_whole<R: Files + AllocGlobal>(rt: &R, name: &str, bytes: &[u8]) -> io::
     if fs::symlink_metadata(rt, name).is_ok_and(|old| !old.is_file()) {
         return fs::write(rt, name, bytes);
     }
-    let mut beside = String::from_str(rt.alloc(), name)?;
+    let mut beside = start_beside(rt.alloc(), name)?;
     write_beside(rt, name, &mut beside, bytes)
+}
+
+/// What the name of a file beside another begins with: that one's, or `accrun` in its folder where that one is long.
+fn start_beside(alloc: Global, name: &str) -> io::Result<String> {
+    match name.rsplit_once('/') {
+        Some((folder, last)) if last.len() > LONGEST => {
+            let mut beside = String::from_str(alloc, folder)?;
+            beside.push_str("/accrun")?;
+            Ok(beside)
+        }
+        None if name.len() > LONGEST => Ok(String::from_str(alloc, "accrun")?),
+        _ => Ok(String::from_str(alloc, name)?),
+    }
 }
 
 /// The numbers of a file that is there: those of its disk and of its node.
@@ -190,9 +215,9 @@ fn write_beside<R: Files>(rt: &R, name: &str, beside: &mut String, bytes: &[u8])
     replaced
 }
 
-/// Makes a new file whose name is that of another with `.new` behind it, or with more of these where that is taken.
+/// Makes a new file whose name is this one with `.new` behind it, or with more of these where that is taken.
 fn open_beside<R: Files>(rt: &R, name: &mut String) -> io::Result<R::File> {
-    for _ in 0..16 {
+    for _ in 0..TRIES {
         name.push_str(".new")?;
         match File::create_new(rt, name.as_str()) {
             Err(error) if error.kind() == ErrorKind::AlreadyExists => {}
@@ -263,10 +288,15 @@ fn read_open<F: Read + OpenFile + Drop>(alloc: Global, file: F) -> Result<Vec<u8
     if file.metadata().is_ok_and(|metadata| metadata.is_dir()) {
         return Err(FileFault::Because("Is a directory"));
     }
-    read_whole(alloc, file)
+    read_whole(alloc, file, TOO_LONG)
 }
 
-fn read_whole<F: Read + Drop>(alloc: Global, file: F) -> Result<Vec<u8>, FileFault> {
+/// Reads all that there is, or says that it is too long.
+fn read_whole<F: Read + Drop>(
+    alloc: Global,
+    file: F,
+    too_long: &'static str,
+) -> Result<Vec<u8>, FileFault> {
     let mut reader = WatchedReader {
         inner: FromRead::new(file),
         has_failed: false,
@@ -275,7 +305,7 @@ fn read_whole<F: Read + Drop>(alloc: Global, file: F) -> Result<Vec<u8>, FileFau
         Ok(bytes) => Ok(bytes),
         Err(Fault::Memory) => Err(FileFault::Memory),
         Err(_) if reader.has_failed => Err(FileFault::Because("a read failed")),
-        Err(_) => Err(FileFault::Because("it has more than 16,777,216 bytes")),
+        Err(_) => Err(FileFault::Because(too_long)),
     }
 }
 

@@ -1,6 +1,7 @@
 //! What is told of tests: lines of TAP 14, and JUnit.
 
 use crate::notes::lines_of;
+use crate::told_names::{put_letter, told_letter};
 use crate::trials::{Trial, put_numbers, put_texts};
 use acc_base::Fault;
 use acc_read::Page;
@@ -150,14 +151,15 @@ fn put_name_letter(page: &mut Page, letter: char) {
     match letter {
         '#' => page.text("\\#"),
         '\\' => page.text("\\\\"),
-        _ if letter.is_control() => page.text("?"),
-        _ => page.text(letter.encode_utf8(&mut [0; 4])),
+        _ => put_letter(page, told_letter(letter)),
     }
 }
 
 fn put_element(page: &mut Page, name: &str, note: &[u8], wrong: &[&[u8]]) {
     page.text("  <testcase classname=\"accrun\" name=\"");
-    put_escaped(page, name.as_bytes());
+    for letter in name.chars() {
+        put_escaped_letter(page, told_letter(letter));
+    }
     page.text("\">");
     if !note.is_empty() {
         put_outcome(page, "skipped", note, wrong);
@@ -193,16 +195,15 @@ fn put_escaped(page: &mut Page, bytes: &[u8]) {
     }
 }
 
-/// Puts a letter as XML has it; a question mark for one that may not stand there.
+/// Puts a letter as XML has it, in a value too; a question mark for one that may not stand there.
 fn put_escaped_letter(page: &mut Page, letter: char) {
     match letter {
         '&' => page.text("&amp;"),
         '<' => page.text("&lt;"),
         '>' => page.text("&gt;"),
         '"' => page.text("&quot;"),
-        '\t' => page.text("\t"),
+        '\t' => page.text("&#9;"),
         '\u{fffe}' | '\u{ffff}' => page.text("?"),
-        _ if letter.is_control() => page.text("?"),
-        _ => page.text(letter.encode_utf8(&mut [0; 4])),
+        _ => put_letter(page, told_letter(letter)),
     }
 }

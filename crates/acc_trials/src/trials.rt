@@ -1,6 +1,7 @@
 //! What came of a script as a test, by what it printed and what it had to print.
 
 use crate::notes::{line_at, lines_of, note_behind};
+use crate::told_names::put_told;
 use acc_base::Fault;
 use acc_read::Page;
 use std::alloc::{AllocError, Global};
@@ -49,14 +50,16 @@ impl Trial {
         self.note.as_slice().is_empty() && !self.wrong.as_slice().is_empty()
     }
 
-    /// A test that failed for what these texts say.
+    /// A test that failed for what these texts say, one of which is a name.
     ///
     /// # Errors
     ///
     /// [`Fault::Memory`].
     pub fn failed(alloc: Global, texts: &[&str]) -> Result<Trial, Fault> {
         let mut wrong = Page::new(alloc);
-        put_texts(&mut wrong, texts);
+        for text in texts {
+            put_told(&mut wrong, text);
+        }
         wrong.text("\n");
         Trial::noted(alloc, &[], wrong)
     }
@@ -68,7 +71,7 @@ impl Trial {
     /// [`Fault::Memory`].
     pub fn failed_at(alloc: Global, name: &str, line: u64, texts: &[&str]) -> Result<Trial, Fault> {
         let mut wrong = Page::new(alloc);
-        wrong.text(name);
+        put_told(&mut wrong, name);
         put_numbers(&mut wrong, &[(":", line)], ": ");
         put_texts(&mut wrong, texts);
         wrong.text("\n");
@@ -301,9 +304,13 @@ fn put_difference(
 /// Puts the line of the script and the line of its output, and whose lines the piece behind has.
 fn put_heading(page: &mut Page, script: &str, name: &str, place: u64, number: usize) {
     let numbers = [(":", place), (": line ", number as u64)];
-    page.text(script);
+    put_told(page, script);
     put_numbers(page, &numbers, " of the output is not as expected\n");
-    put_texts(page, &["--- ", name, "\n+++ ", name, "\n"]);
+    for mark in ["--- ", "+++ "] {
+        page.text(mark);
+        put_told(page, name);
+        page.text("\n");
+    }
 }
 
 /// The number of the line that printed a line of the output, or had to print one that is missing.

@@ -111,6 +111,18 @@ pub(crate) struct Cause {
     pub written: Option<Done>,
     /// What came behind that, and lost it, or could have copied it.
     pub missed: Option<Done>,
+    /// The place in the history from which on it is told. No deed before that matters.
+    pub since: usize,
+}
+
+impl Cause {
+    /// None is known, as far as back to a place.
+    fn unknown(since: usize) -> Cause {
+        Cause {
+            since,
+            ..Cause::default()
+        }
+    }
 }
 
 /// What all lines so far did, in their order.
@@ -210,8 +222,8 @@ impl History {
                 (Deed::KernelWrote, None) | (Deed::HostWrote, Some(_)) => {
                     return self.cause_between(at, end, memory, address);
                 }
-                (Deed::KernelWrote, Some(_)) if is_here => break,
-                (Deed::HostWrote, None) => break,
+                (Deed::KernelWrote, Some(_)) if is_here => return Cause::unknown(at),
+                (Deed::HostWrote, None) => return Cause::unknown(at),
                 (Deed::CopiedOut, None) => {
                     memory = Some(done.block);
                     end = at.saturating_add(1);
@@ -235,13 +247,14 @@ impl History {
             written: deeds.first().copied(),
             missed: missed_in(deeds, memory, address).filter(|done| !is_copied
                 || done.deed.lost(memory.is_none())),
+            since: at,
         }
     }
 
-    /// The first bytes of a section to which the same was done.
-    pub fn alike(&self, section: Section) -> Section {
+    /// The first bytes of a section to which the same was done from a place on.
+    pub fn alike(&self, section: Section, since: usize) -> Section {
         let mut len = section.len;
-        for done in self.all.iter() {
+        for done in self.all.get(since..).unwrap_or(&[]) {
             len = len.min(count_alike(done.section, section.start));
         }
         Section { len, ..section }
@@ -269,35 +282,36 @@ impl History {
             if rest.len == 0 {
                 break;
             }
-            if self.is_byte_outdated(block, rest.start) {
+            let Some(since) = self.own_since(block, rest.start) else {
                 return true;
-            }
-            rest = behind(rest, self.alike(rest));
+            };
+            rest = behind(rest, self.alike(rest, since));
         }
         false
     }
 
-    /// Whether a byte was written elsewhere since a block got its own.
-    fn is_byte_outdated(&self, block: Block, address: u64) -> bool {
-        for done in self.all.iter().rev() {
+    /// The place of the deed that gave a block its byte; `None` where the byte was written elsewhere since.
+    fn own_since(&self, block: Block, address: u64) -> Option<usize> {
+        for (at, done) in self.all.iter().enumerate().rev() {
             if !has_address(done.section, address) {
                 continue;
             }
             let is_here = done.block == block;
             match done.deed {
-                Deed::KernelWrote | Deed::CopiedIn | Deed::Created if is_here => return false,
-                Deed::KernelWrote | Deed::HostWrote => return true,
+                Deed::KernelWrote | Deed::CopiedIn | Deed::Created if is_here => return Some(at),
+                Deed::KernelWrote | Deed::HostWrote => return None,
                 _ => {}
             }
         }
-        false
+        Some(0)
     }
 
     /// Why nothing ever filled a byte of host memory, or of a block: what made its block, or put its copy into a queue.
     pub fn cause_unfilled(&self, block: Option<Block>, address: u64) -> Cause {
         let mut memory = block;
         let mut missed = None;
-        for done in self.all.iter().rev() {
+        let mut since = 0;
+        for (at, done) in self.all.iter().enumerate().rev() {
             if !has_address(done.section, address) {
                 continue;
             }
@@ -308,6 +322,7 @@ impl History {
                 Deed::QueuedIn if is_here && missed.is_none() => missed = Some(*done),
                 Deed::Created if is_here => {
                     missed = missed.or(Some(*done));
+                    since = at;
                     break;
                 }
                 _ => {}
@@ -316,6 +331,7 @@ impl History {
         Cause {
             written: None,
             missed,
+            since,
         }
     }
 }

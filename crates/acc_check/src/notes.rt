@@ -168,12 +168,12 @@ impl Check {
     /// The same of the first of these bytes, to which the same was done.
     fn first_advice(&self, table: &Table, read: Read) -> Result<Advice, Fault> {
         let history = &self.looks.history;
-        let section = history.alike(read.section);
         let block = read.block.map(Block::of);
         let cause = match read.mark {
-            Mark::Unfilled => history.cause_unfilled(block, section.start),
-            _ => history.cause(block, section.start),
+            Mark::Unfilled => history.cause_unfilled(block, read.section.start),
+            _ => history.cause(block, read.section.start),
         };
+        let section = history.alike(read.section, cause.since);
         let (note, section) = match (read.block, read.mark) {
             (Some(placed), mark) => self.note_of_device(placed, mark, section),
             (None, Mark::Unfilled) => (Note::None, section),

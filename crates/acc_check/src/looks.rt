@@ -9,9 +9,7 @@ use crate::findings::{Finding, Kind};
 use crate::histories::{Block, Deed, Done, History};
 use crate::notes::Advice;
 use acc_base::{Aim, Fault, Section, Step, Task, Transfer};
-use acc_stale::{
-    Held, ItemDone, Known, Mark, Placed, Run, Watch, has_address, number_of, pointer_at,
-};
+use acc_stale::{Held, ItemDone, Known, Mark, Placed, Run, Watch, has_address, pointer_at};
 use std::alloc::Global;
 
 /// What a check looks at, and what it found.
@@ -227,6 +225,17 @@ fn pointer_written(item: &ItemDone) -> Option<u64> {
         Aim::New { pointer, .. } | Aim::Cleared { pointer, .. } => Some(pointer),
         Aim::Less { pointer, .. } if count == 1 => Some(pointer),
         _ => None,
+    }
+}
+
+/// The number of the block of a step, if it has one.
+fn number_of(step: Step) -> Option<u64> {
+    match step {
+        Step::Nothing => None,
+        Step::Counted { block }
+        | Step::Born { block, .. }
+        | Step::Dropped { block, .. }
+        | Step::Moved { block } => Some(block),
     }
 }
 

@@ -6,10 +6,10 @@ use crate::log_lines::{Tail, Texts};
 use crate::objects::LogForm;
 use crate::rows::{RowCounts, has_readonly, reach, reach_item};
 use crate::totals::{REFUSED, Totals, WAITING};
-use acc_base::{Did, Event, Fault, Found, QUEUE_COUNT, Section, Task};
+use acc_base::{Did, Event, Fault, Found, QUEUE_COUNT, Section, Step, Task};
 use acc_read::{Names, Page, Statement};
 use acc_script::Effect;
-use acc_stale::{Account, Held, NextTold, number_of};
+use acc_stale::{Account, Held, NextTold};
 use acc_table::Table;
 use std::alloc::{AllocError, Global};
 
@@ -248,9 +248,9 @@ impl Log {
         did: Did,
     ) -> Result<(), AllocError> {
         let told = self.account.item(device, task, did, self.line)?;
-        let held = match number_of(did.step) {
-            Some(block) => self.account.block(device, block),
-            None => self.found(table, device, task),
+        let held = match did.step {
+            Step::Nothing => self.found(table, device, task),
+            _ => told.held,
         };
         let item = LogItem {
             place,

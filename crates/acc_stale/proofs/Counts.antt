@@ -77,6 +77,9 @@ counted_block d block task old new was range there updates waiting is = record {
   waiting = waiting;
 }
 
+pub held_there : (block : ℕ) (o : Option Block) (b : Block) → o ≡ Some b → option_map (λ (t : ToldBlock). t.held) (option_map (told_of block) o) ≡ Some b.held
+held_there block o b there = ap (λ x. option_map (λ (t : ToldBlock). t.held) (option_map (told_of block) x)) there
+
 -- there is no such block
 pub counted_none : (d block : ℕ) (task : Task) (old new : Account) → get by_number old.blocks (d, block) ≡ None → new.blocks ≡ old.blocks → new.waiting ≡ old.waiting → IsCountKept d block task old new
 counted_none d block task old new none same waiting =

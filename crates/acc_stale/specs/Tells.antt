@@ -6,7 +6,7 @@ use Rattle.acc_base.specs.declared.attachments.Aim.TheVariants as aims
 use Rattle.acc_base.specs.declared.events.Did.{Did}
 use Rattle.acc_base.specs.declared.events.Event.{Event}
 use Rattle.acc_base.specs.declared.events.Step.{Step}
-use Rattle.acc_base.specs.declared.events.Step.TheVariants.{Counted, Born, Dropped, Moved}
+use Rattle.acc_base.specs.declared.events.Step.TheVariants.{Nothing, Counted, Born, Dropped, Moved}
 use Rattle.acc_base.specs.declared.items.Section.{Section}
 use Rattle.acc_base.specs.declared.tasks.Task.{Task}
 use Rattle.acc_base.specs.declared.transfers.Transfer.{Transfer}
@@ -49,6 +49,17 @@ placed_by d section _ a = None
 abbrev pub ended_at : ℕ → Step → Account → Option Held
 ended_at d (Dropped block true) a = option_map (λ t. t.held) (told_at d block a)
 ended_at d _ a = None
+
+-- the block of a step, as an account has it
+abbrev pub held_at : ℕ → ℕ → Account → Option Held
+held_at d block a = option_map (λ t. t.held) (told_at d block a)
+
+abbrev pub held_by : ℕ → Step → Account → Option Held
+held_by d Nothing a = None
+held_by d (Counted block) a = held_at d block a
+held_by d (Born block place) a = held_at d block a
+held_by d (Dropped block ended) a = held_at d block a
+held_by d (Moved block) a = held_at d block a
 
 -- a new block is kept, and the counters of one that is counted
 abbrev pub IsStepKept : ℕ → Task → ℕ → Step → Account → Account → Type 0

@@ -7,6 +7,7 @@ ghost use Rattle.acc_base.specs.Devices.{new_whole};
 ghost use Rattle.acc_base.specs.Items.{tasks_undone};
 ghost use Rattle.acc_base.specs.Walk.{done_in};
 ghost use Rattle.acc_stale.specs.Follows.{FollowsWhole};
+ghost use Rattle.acc_stale.specs.Tells.{held_at};
 ghost use Rattle.acc_stale.specs.Accounts.{is_in, without_first, counted, told_block, told_at, attached_at, IsChanged, IsCountKept, IsRecounted, HasSameBlocks, asked_by, act_at, IsRegionChanged};
 
 use crate::known::Placed;
@@ -100,14 +101,15 @@ impl Account {
         Ok(())
     }
 
-    /// Keeps what a task leaves of the counters of a block's range.
-    pub(crate) fn recount(&mut self, device: u64, block: u64, task: Task)
+    /// Keeps what a task leaves of the counters of a block's range, and returns the block.
+    pub(crate) fn recount(&mut self, device: u64, block: u64, task: Task) -> Option<Held>
+        ensures held { result ≡ held_at device block self.new }
         ensures counted { IsCountKept device block task self.old self.new }
         ensures regions { self.new.regions ≡ self.old.regions }
     {
-        if let Some(found) = self.blocks.get_mut(&(device, block)) {
-            found.held.range = task.recounted(found.held.range);
-        }
+        let found = self.blocks.get_mut(&(device, block))?;
+        found.held.range = task.recounted(found.held.range);
+        Some(found.held)
     }
 
     /// The block of a number on a device.

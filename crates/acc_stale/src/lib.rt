@@ -17,7 +17,6 @@ pub use accounts::{Account, Held, Told, has_address};
 pub use items::{Holder, ItemDone, Watch};
 pub use known::{Known, Placed, pointer_at};
 pub use marks::{Mark, Run};
-pub use tasks::number_of;
 pub use tellings::{ItemTold, NextTold};
 pub use trackers::Tracker;
 pub use writes::Part;

@@ -103,17 +103,6 @@ impl Known {
     }
 }
 
-/// The number of the block of a step, if it has one.
-pub fn number_of(step: Step) -> Option<u64> {
-    match step {
-        Step::Nothing => None,
-        Step::Counted { block }
-        | Step::Born { block, .. }
-        | Step::Dropped { block, .. }
-        | Step::Moved { block } => Some(block),
-    }
-}
-
 /// With a queue a transfer is made later.
 pub(crate) fn at_once(queue: Option<u64>, t: Option<Transfer>) -> Option<Transfer>
     ensures { result ≡ at_once queue t }

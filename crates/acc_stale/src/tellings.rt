@@ -14,7 +14,7 @@ ghost use Rattle.acc_base.specs.Transfers.{transfer_of};
 ghost use Rattle.acc_stale.specs.Accounts.{HasSameBlocks, attached_at};
 ghost use Rattle.acc_stale.specs.Follows.{FollowsDevice, IsStepFit, IsAimFit};
 ghost use Rattle.acc_stale.specs.Told.{before_step, IsStepTold, IsAimTold, IsItemTold};
-ghost use Rattle.acc_stale.specs.Tells.{held_new, placed_by, IsStepKept, attached_by, waiting_after, pointer_held, count_left, placed_at, ended_at, IsMadeTold, LeavesOthers};
+ghost use Rattle.acc_stale.specs.Tells.{held_at, held_by, held_new, placed_by, IsStepKept, attached_by, waiting_after, pointer_held, count_left, placed_at, ended_at, IsMadeTold, LeavesOthers};
 
 use crate::accounts::{Account, Held, Waiting};
 use crate::items::{Holder, ItemDone, enters};
@@ -26,6 +26,8 @@ use std::alloc::AllocError;
 /// What is told of the step of an item.
 #[derive(Drop)]
 pub(crate) struct StepTold {
+    /// Its block as it leaves it, if it has one.
+    pub held: Option<Held>,
     /// Where its block lies, if it touches the bytes of one.
     pub block: Option<Placed>,
     /// The attached pointers of that block.
@@ -39,6 +41,8 @@ pub(crate) struct StepTold {
 pub struct ItemTold {
     /// What it did, and where the blocks lie whose bytes it touched.
     pub item: ItemDone,
+    /// The block of its step as the item leaves it, if it has one.
+    pub held: Option<Held>,
     /// The attached pointers of the block of its step, right before the step.
     pub attached: Vec<Attachment>,
     /// What it copies, at once or when its queue does.
@@ -72,6 +76,7 @@ impl Account {
     ) -> Result<ItemTold, AllocError>
         ensures item { IfOk result (λ told. (told.item.device ≡ device) × (told.item.task ≡ task) × (told.item.did ≡ did)) }
         ensures told { IfOk result (λ told. (l : Limits) (n : ℕ) (s : State) → IsWithinBounds l → AreRecordsSound l s.records → judge_task l n task s ≡ Ok did → FollowsDevice device self.old s.records → IsItemTold told.item told.attached.items s) }
+        ensures held { IfOk result (λ told. told.held ≡ held_by device did.step self.new) }
         ensures transfer { IfOk result (λ told. (l : Limits) (n : ℕ) (s : State) → IsWithinBounds l → AreRecordsSound l s.records → judge_task l n task s ≡ Ok did → FollowsDevice device self.old s.records → told.transfer ≡ transfer_of task did.step (before_step task did s).records.ranges) }
         ensures follows { OnOk result ((l : Limits) (n : ℕ) (s : State) → IsWithinBounds l → AreRecordsSound l s.records → judge_task l n task s ≡ Ok did → FollowsDevice device self.old s.records → FollowsDevice device self.new (act_state task did s).records) }
         ensures others { OnOk result (LeavesOthers device self.old self.new) }
@@ -99,15 +104,17 @@ impl Account {
         line: u64,
     ) -> Result<StepTold, AllocError>
         ensures told { IfOk result (λ told. (l : Limits) (s : State) → FollowsDevice device self.old s.records → AreRecordsSound l s.records → IsStepFit step s.records → IsStepTold device told.block task step told.attached.items s) }
+        ensures held { IfOk result (λ told. told.held ≡ held_by device step self.new) }
         ensures transfer { IfOk result (λ told. (l : Limits) (s : State) → FollowsDevice device self.old s.records → AreRecordsSound l s.records → IsStepFit step s.records → told.transfer ≡ transfer_of task step s.records.ranges) }
         ensures follows { OnOk result ((l : Limits) (s : State) → FollowsDevice device self.old s.records → AreRecordsSound l s.records → IsStepFit step s.records → FollowsDevice device self.new (act_step task step s.records)) }
         ensures others { OnOk result (LeavesOthers device self.old self.new) }
         ensures regions { self.new.regions ≡ self.old.regions }
     {
-        let (block, attached) = self.place(device, task, step, line)?;
+        let (block, attached, held) = self.place(device, task, step, line)?;
         let transfer = transfer_in(block, task, step);
         self.keep(device, task.queue(), transfer)?;
         Ok(StepTold {
+            held,
             block,
             attached,
             transfer,
@@ -124,15 +131,17 @@ impl Account {
         }
     }
 
-    /// Where the block lies whose bytes a step touches, and its attached pointers. What the step makes or counts is kept.
+    /// Where the block lies whose bytes a step touches, its attached pointers, and the block of the step as it leaves it.
+    /// What the step makes or counts is kept.
     fn place(
         &mut self,
         device: u64,
         task: Task,
         step: Step,
         line: u64,
-    ) -> Result<(Option<Placed>, Vec<Attachment>), AllocError>
+    ) -> Result<(Option<Placed>, Vec<Attachment>, Option<Held>), AllocError>
         ensures told { IfOk result (λ told. told.0 ≡ placed_by device (section_of task) step self.old) }
+        ensures held { IfOk result (λ told. told.2 ≡ held_by device step self.new) }
         ensures attached { IfOk result (λ told. told.1.items ≡ attached_by device step self.old) }
         ensures kept { OnOk result (IsStepKept device task line step self.old self.new) }
         ensures regions { self.new.regions ≡ self.old.regions }
@@ -141,37 +150,38 @@ impl Account {
             Step::Born { block, place } => {
                 let held = held_new(device, task, line, block, place);
                 self.born(held)?;
-                Ok((Some(held.placed), Vec::new(self.alloc())))
+                Ok((Some(held.placed), Vec::new(self.alloc()), Some(held)))
             }
             Step::Counted { block } => {
-                self.recount(device, block, task);
-                Ok((None, Vec::new(self.alloc())))
+                let held = self.recount(device, block, task);
+                Ok((None, Vec::new(self.alloc()), held))
             }
             Step::Dropped {
                 block,
                 ended: false,
             } => {
-                self.recount(device, block, task);
-                Ok((None, Vec::new(self.alloc())))
+                let held = self.recount(device, block, task);
+                Ok((None, Vec::new(self.alloc()), held))
             }
             Step::Dropped { block, ended: true } => self.there(device, block),
             Step::Moved { block } => self.there(device, block),
-            Step::Nothing => Ok((None, Vec::new(self.alloc()))),
+            Step::Nothing => Ok((None, Vec::new(self.alloc()), None)),
         }
     }
 
-    /// Where a block of a device lies, and its attached pointers.
+    /// Where a block of a device lies, its attached pointers, and the block.
     fn there(
         &self,
         device: u64,
         block: u64,
-    ) -> Result<(Option<Placed>, Vec<Attachment>), AllocError>
+    ) -> Result<(Option<Placed>, Vec<Attachment>, Option<Held>), AllocError>
         ensures placed { IfOk result (λ told. told.0 ≡ placed_at device block self.now) }
         ensures attached { IfOk result (λ told. told.1.items ≡ attached_at device block self.now) }
+        ensures held { IfOk result (λ told. told.2 ≡ held_at device block self.now) }
     {
         match self.told(device, block)? {
-            Some(told) => Ok((Some(told.held.placed), told.attached)),
-            None => Ok((None, Vec::new(self.alloc()))),
+            Some(told) => Ok((Some(told.held.placed), told.attached, Some(told.held))),
+            None => Ok((None, Vec::new(self.alloc()), None)),
         }
     }
 
@@ -212,6 +222,7 @@ impl Account {
     pub(crate) fn aim(&mut self, device: u64, aim: Aim) -> Result<Option<Holder>, AllocError>
         ensures told { IfOk result (λ holder. (l : Limits) (s : State) → FollowsDevice device self.old s.records → AreRecordsSound l s.records → IsAimFit aim s.records → IsAimTold device holder aim s) }
         ensures follows { OnOk result ((l : Limits) (s : State) → FollowsDevice device self.old s.records → AreRecordsSound l s.records → IsAimFit aim s.records → FollowsDevice device self.new (records_aimed aim s.records)) }
+        ensures held { OnOk result ((d block : ℕ) → held_at d block self.new ≡ held_at d block self.old) }
         ensures others { OnOk result (LeavesOthers device self.old self.new) }
         ensures regions { self.new.regions ≡ self.old.regions }
     {
@@ -244,13 +255,12 @@ impl Account {
         let Some(transfer) = self.take(device, queue) else {
             return Ok(None);
         };
-        let Some(block) = self.placed(device, transfer.block) else {
+        let Some(told) = self.told(device, transfer.block)? else {
             return Ok(None);
         };
-        let attached = self.attached(device, transfer.block)?;
         Ok(Some(NextTold {
-            block,
-            attached,
+            block: told.held.placed,
+            attached: told.attached,
             transfer,
         }))
     }
@@ -260,6 +270,7 @@ impl Account {
 fn told_by(device: u64, task: Task, did: Did, step: StepTold, holder: Option<Holder>) -> ItemTold
     ensures item { result.item ≡ record { device = device; task = task; did = did; block = step.block; holder = holder } }
     ensures attached { result.attached.items ≡ step.attached.items }
+    ensures held { result.held ≡ step.held }
     ensures transfer { result.transfer ≡ step.transfer }
 {
     ItemTold {
@@ -270,6 +281,7 @@ fn told_by(device: u64, task: Task, did: Did, step: StepTold, holder: Option<Hol
             block: step.block,
             holder,
         },
+        held: step.held,
         attached: step.attached,
         transfer: step.transfer,
     }

@@ -325,38 +325,71 @@ static void drop(lwa_block *block)
     rattle_dealloc(block);
 }
 
-/* Its addresses can be taken again where nothing more is to be read or written there. A part stays as long as its root,
-   since a region may hold it. */
-static void drop_unused(lwa_block *block)
+/* A part is in the list of its root as long as it is kept, so that the root's end finds it. */
+static void leave_root(lwa_block *part)
 {
-    if (!block->mapped && block->waiting == 0 && block->root == block) {
-        if (!block->part) {
-            lwa_give_addresses(block->told, block->len);
-        }
-        drop(block);
+    lwa_block **at = &part->root->parts;
+
+    while (*at != part) {
+        at = &(*at)->next;
     }
+    *at = part->next;
 }
 
-/* Another may be mapped at its device address, while its copies wait. */
+/* Its addresses can be taken again where nothing more is to be read or written there. */
+static void drop_unused(lwa_block *block)
+{
+    if (block->mapped || block->waiting != 0 || block->regions != 0) {
+        return;
+    }
+    if (block->root != block) {
+        leave_root(block);
+    } else if (!block->part) {
+        lwa_give_addresses(block->told, block->len);
+    }
+    drop(block);
+}
+
+/* Another may be mapped at its device address, while its copies wait: so they have bytes of their own then. A part has
+   those of its root, until that ends. */
+static void end(lwa_block *block)
+{
+    if (block->mapped) {
+        take_out(block);
+        block->mapped = false;
+    }
+    if (block->root == block && block->waiting != 0 && !block->owns) {
+        block->bytes = memcpy(lwa_memory(NULL, block->len), block->bytes, block->len);
+        block->owns = true;
+    }
+    drop_unused(block);
+}
+
 void lwa_ended(lwa_block *block)
 {
     while (block->parts != NULL) {
         lwa_block *part = block->parts;
 
-        block->parts = part->next;
-        if (part->mapped) {
-            lwa_ended(part);
-        }
+        leave_root(part);
         part->root = part;
-        drop_unused(part);
+        end(part);
     }
-    take_out(block);
-    block->mapped = false;
-    if (block->waiting != 0 && !block->owns) {
-        block->bytes = memcpy(lwa_memory(NULL, block->len), block->bytes, block->len);
-        block->owns = true;
+    end(block);
+}
+
+void lwa_hold(lwa_block *block)
+{
+    if (block != NULL) {
+        block->regions++;
     }
-    drop_unused(block);
+}
+
+void lwa_let_go(lwa_block *block)
+{
+    if (block != NULL) {
+        block->regions--;
+        drop_unused(block);
+    }
 }
 
 void lwa_made(lwa_block *block)

@@ -50,7 +50,7 @@ typedef struct lwa_pointer {
     bool open;  /* in shadow mode: a copy went over it, of which OpenACC leaves open what it leaves there */
 } lwa_pointer;
 
-/* A mapped range; or one that has ended, while copies of it wait. */
+/* A mapped range; or one that has ended, while copies of it wait or a region has it. */
 typedef struct lwa_block {
     uintptr_t at; /* the program's address; of acc_malloc, the device address, since there is no other */
     size_t len;
@@ -64,6 +64,7 @@ typedef struct lwa_block {
     struct lwa_block *child[2];            /* in the tree of all */
     bool part;
     size_t waiting; /* the copies that wait */
+    size_t regions; /* the items of open regions that have it */
     size_t kernels; /* the kernels that have it; while there are some it is lent */
     uint64_t lease;
     uint64_t region;                    /* the region of a loan that the table is not told of */
@@ -280,6 +281,10 @@ void lwa_map_part(lwa_block *root, uintptr_t at, size_t len, uintptr_t device);
 /* It is mapped no more; and a copy of it waits no more. */
 void lwa_ended(lwa_block *block);
 void lwa_made(lwa_block *block);
+
+/* An item of a region has a block, or NULL; and has it no more. */
+void lwa_hold(lwa_block *block);
+void lwa_let_go(lwa_block *block);
 
 /* The device address of a byte of a block, and that of the table. */
 uintptr_t lwa_device_of(const lwa_block *block, uintptr_t at);

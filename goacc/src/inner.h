@@ -317,6 +317,7 @@ void lwa_wait(uint64_t queue);
 /* Does something for each copy that waits. from: the call that has put it. */
 void lwa_each_waiting(void (*act)(uint64_t queue, const void *from, uintptr_t at, size_t len, bool out));
 
+size_t lwa_waiting(void); /* how many do */
 void lwa_forget_waiting(void);
 
 /* ---- pointers.c: pointers that were attached ---- */

@@ -209,6 +209,16 @@ void lwa_each_waiting(void (*act)(uint64_t queue, const void *from, uintptr_t at
     }
 }
 
+size_t lwa_waiting(void)
+{
+    size_t count = 0;
+
+    for (uint64_t queue = 0; queue < LWA_QUEUES; queue++) {
+        count += OWN[queue].end - OWN[queue].first;
+    }
+    return count;
+}
+
 void lwa_forget_waiting(void)
 {
     for (uint64_t queue = 0; queue < LWA_QUEUES; queue++) {

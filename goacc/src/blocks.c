@@ -9,8 +9,8 @@
  * copies waits. Behind each section lies an address that is never mapped, and so one lies before each.
  *
  * The device's addresses follow the program's: a window of the program's addresses has a window of the device's, in
- * which each byte lies as far behind the first. So what a program has at a multiple of its alignment the device has so,
- * and members of a structure lie as in the program, whichever of them are mapped.
+ * which each byte lies as far behind the first. So what a program has at a multiple of its alignment the device has so.
+ * And members of a structure lie as in the program, whichever of them are mapped, where one window has them.
  */
 #define _GNU_SOURCE
 #include <stdlib.h>
@@ -19,7 +19,8 @@
 
 #include "inner.h"
 
-#define WINDOW ((uintptr_t)1 << 30)
+/* The least that a window has before and behind the section that it is made for. */
+#define MARGIN ((uintptr_t)1 << 29)
 
 /* Pointers are told at a multiple of 8 where they are at one. */
 #define ALIGNMENT 8
@@ -182,10 +183,10 @@ void lwa_give_addresses(uint64_t told, size_t len)
 
 /* ---- Device addresses ---- */
 
-/* A section that lies in no window gets one, which has all of it. */
+/* A section that lies in no window gets one, which has all of it, and what lies beside it. */
 static uintptr_t device_for(uintptr_t at, size_t len)
 {
-    window made = {at / WINDOW * WINDOW, 0, WINDOW};
+    window made = {at / MARGIN * MARGIN - MARGIN, 0, 3 * MARGIN};
     void *memory;
 
     for (size_t i = 0; i < OWN.window_count; i++) {
@@ -195,7 +196,7 @@ static uintptr_t device_for(uintptr_t at, size_t len)
             return w->device + (at - w->at);
         }
     }
-    made.len += (at - made.at + len) / WINDOW * WINDOW;
+    made.len += (at % MARGIN + len) / MARGIN * MARGIN;
     memory = mmap(NULL, made.len, PROT_READ | PROT_WRITE, MAP_PRIVATE | MAP_ANONYMOUS | MAP_NORESERVE, -1, 0);
     if (memory == MAP_FAILED) {
         lwa_unserved("no memory for the device's addresses");

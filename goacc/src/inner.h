@@ -425,6 +425,9 @@ void lwa_forget_arrays(void);
 /* Finds the tools, once. */
 void lwa_find_tools(void);
 
+/* Whether this thread is in a tool. A kernel's end tells tools its event before its blocks are brought back. */
+extern _Thread_local bool lwa_in_tool;
+
 /* Tells the tools an event, out of the lock; and notes one under it, of some bytes of a block or of none. */
 void lwa_tell(int event, int construct);
 void lwa_note(int event, const lwa_block *block, uintptr_t at, size_t len);

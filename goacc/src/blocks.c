@@ -9,8 +9,8 @@
  * copies waits. Behind each section lies an address that is never mapped, and so one lies before each.
  *
  * The device's addresses follow the program's: a window of the program's addresses has a window of the device's, in
- * which each byte lies as far behind the first. So what a program has at a multiple of its alignment the device has so,
- * and members of a structure lie as in the program, whichever of them are mapped.
+ * which each byte lies as far behind the first. So what a program has at a multiple of its alignment the device has so.
+ * And members of a structure lie as in the program, whichever of them are mapped, where one window has them.
  */
 #define _GNU_SOURCE
 #include <stdlib.h>
@@ -19,7 +19,8 @@
 
 #include "inner.h"
 
-#define WINDOW ((uintptr_t)1 << 30)
+/* The least that a window has before and behind the section that it is made for. */
+#define MARGIN ((uintptr_t)1 << 29)
 
 /* Pointers are told at a multiple of 8 where they are at one. */
 #define ALIGNMENT 8
@@ -182,10 +183,10 @@ void lwa_give_addresses(uint64_t told, size_t len)
 
 /* ---- Device addresses ---- */
 
-/* A section that lies in no window gets one, which has all of it. */
+/* A section that lies in no window gets one, which has all of it, and what lies beside it. */
 static uintptr_t device_for(uintptr_t at, size_t len)
 {
-    window made = {at / WINDOW * WINDOW, 0, WINDOW};
+    window made = {at / MARGIN * MARGIN - MARGIN, 0, 3 * MARGIN};
     void *memory;
 
     for (size_t i = 0; i < OWN.window_count; i++) {
@@ -195,7 +196,7 @@ static uintptr_t device_for(uintptr_t at, size_t len)
             return w->device + (at - w->at);
         }
     }
-    made.len += (at - made.at + len) / WINDOW * WINDOW;
+    made.len += (at % MARGIN + len) / MARGIN * MARGIN;
     memory = mmap(NULL, made.len, PROT_READ | PROT_WRITE, MAP_PRIVATE | MAP_ANONYMOUS | MAP_NORESERVE, -1, 0);
     if (memory == MAP_FAILED) {
         lwa_unserved("no memory for the device's addresses");
@@ -325,38 +326,71 @@ static void drop(lwa_block *block)
     rattle_dealloc(block);
 }
 
-/* Its addresses can be taken again where nothing more is to be read or written there. A part stays as long as its root,
-   since a region may hold it. */
-static void drop_unused(lwa_block *block)
+/* A part is in the list of its root as long as it is kept, so that the root's end finds it. */
+static void leave_root(lwa_block *part)
 {
-    if (!block->mapped && block->waiting == 0 && block->root == block) {
-        if (!block->part) {
-            lwa_give_addresses(block->told, block->len);
-        }
-        drop(block);
+    lwa_block **at = &part->root->parts;
+
+    while (*at != part) {
+        at = &(*at)->next;
     }
+    *at = part->next;
 }
 
-/* Another may be mapped at its device address, while its copies wait. */
+/* Its addresses can be taken again where nothing more is to be read or written there. */
+static void drop_unused(lwa_block *block)
+{
+    if (block->mapped || block->waiting != 0 || block->regions != 0) {
+        return;
+    }
+    if (block->root != block) {
+        leave_root(block);
+    } else if (!block->part) {
+        lwa_give_addresses(block->told, block->len);
+    }
+    drop(block);
+}
+
+/* Another may be mapped at its device address, while its copies wait: so they have bytes of their own then. A part has
+   those of its root, until that ends. */
+static void end(lwa_block *block)
+{
+    if (block->mapped) {
+        take_out(block);
+        block->mapped = false;
+    }
+    if (block->root == block && block->waiting != 0 && !block->owns) {
+        block->bytes = memcpy(lwa_memory(NULL, block->len), block->bytes, block->len);
+        block->owns = true;
+    }
+    drop_unused(block);
+}
+
 void lwa_ended(lwa_block *block)
 {
     while (block->parts != NULL) {
         lwa_block *part = block->parts;
 
-        block->parts = part->next;
-        if (part->mapped) {
-            lwa_ended(part);
-        }
+        leave_root(part);
         part->root = part;
-        drop_unused(part);
+        end(part);
     }
-    take_out(block);
-    block->mapped = false;
-    if (block->waiting != 0 && !block->owns) {
-        block->bytes = memcpy(lwa_memory(NULL, block->len), block->bytes, block->len);
-        block->owns = true;
+    end(block);
+}
+
+void lwa_hold(lwa_block *block)
+{
+    if (block != NULL) {
+        block->regions++;
     }
-    drop_unused(block);
+}
+
+void lwa_let_go(lwa_block *block)
+{
+    if (block != NULL) {
+        block->regions--;
+        drop_unused(block);
+    }
 }
 
 void lwa_made(lwa_block *block)

@@ -382,13 +382,17 @@ void lwa_check_kernel(const lwa_block *block, uintptr_t at, size_t len)
 
 /* ---- The end ---- */
 
+/* What the program leaves behind on all devices: mappings, and copies that wait. */
+static size_t left;
+
+static void count_left(void)
+{
+    left += lwa_mapped[lwa_on] + lwa_waiting();
+}
+
 bool lwa_finish_check(void)
 {
-    size_t left = 0;
-
-    for (unsigned device = 0; device < LWA_DEVICES; device++) {
-        left += lwa_mapped[device];
-    }
+    lwa_each_device(count_left);
     lwa_check_call();
     if (more != 0) {
         say("", "check: %zu more", more);

@@ -221,9 +221,15 @@ static void finish(lwa_directive *d, size_t i)
     after(d, item);
     lwa_log_item(d, i);
     LWA_CHECK(lwa_check_item(d, item));
+    if (d->way == LWA_DATA) {
+        lwa_hold(item->block);
+    }
     if (item->did.step == LW_ENDED_RANGE) {
         note(item, acc_ev_delete, acc_ev_free);
         lwa_ended(item->block->root);
+    }
+    if (d->way == LWA_END_DATA) {
+        lwa_let_go(item->block);
     }
 }
 

@@ -16,7 +16,8 @@ typedef struct tried {
 
 static uint8_t nowhere;
 
-/* Pieces of malloc's by their sizes, which are eight less than a multiple of 16, and 24 at least. */
+/* Pieces by their sizes, which are eight less than a multiple of 16, and 24 at least: as malloc has them, and so asked
+   for, since the sanitizers' malloc does not round. */
 enum { UNIT = 16, LEAST = 24, KINDS = 64 };
 typedef struct piece {
     struct piece *next;
@@ -36,7 +37,7 @@ tried rattle_alloc(size_t size, size_t align)
     piece *first = pieces[kind];
 
     if (first == NULL) {
-        return answer(malloc(wanted));
+        return answer(malloc(kind != 0 ? UNIT * kind - UNIT / 2 : wanted));
     }
     pieces[kind] = first->next;
     return answer(first);

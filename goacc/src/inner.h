@@ -50,7 +50,7 @@ typedef struct lwa_pointer {
     bool open;  /* in shadow mode: a copy went over it, of which OpenACC leaves open what it leaves there */
 } lwa_pointer;
 
-/* A mapped range; or one that has ended, while copies of it wait. */
+/* A mapped range; or one that has ended, while copies of it wait or a region has it. */
 typedef struct lwa_block {
     uintptr_t at; /* the program's address; of acc_malloc, the device address, since there is no other */
     size_t len;
@@ -64,6 +64,7 @@ typedef struct lwa_block {
     struct lwa_block *child[2];            /* in the tree of all */
     bool part;
     size_t waiting; /* the copies that wait */
+    size_t regions; /* the items of open regions that have it */
     size_t kernels; /* the kernels that have it; while there are some it is lent */
     uint64_t lease;
     uint64_t region;                    /* the region of a loan that the table is not told of */
@@ -281,6 +282,10 @@ void lwa_map_part(lwa_block *root, uintptr_t at, size_t len, uintptr_t device);
 void lwa_ended(lwa_block *block);
 void lwa_made(lwa_block *block);
 
+/* An item of a region has a block, or NULL; and has it no more. */
+void lwa_hold(lwa_block *block);
+void lwa_let_go(lwa_block *block);
+
 /* The device address of a byte of a block, and that of the table. */
 uintptr_t lwa_device_of(const lwa_block *block, uintptr_t at);
 uint64_t lwa_place_of(const lwa_block *block, uintptr_t at);
@@ -312,6 +317,7 @@ void lwa_wait(uint64_t queue);
 /* Does something for each copy that waits. from: the call that has put it. */
 void lwa_each_waiting(void (*act)(uint64_t queue, const void *from, uintptr_t at, size_t len, bool out));
 
+size_t lwa_waiting(void); /* how many do */
 void lwa_forget_waiting(void);
 
 /* ---- pointers.c: pointers that were attached ---- */
@@ -418,6 +424,9 @@ void lwa_forget_arrays(void);
 
 /* Finds the tools, once. */
 void lwa_find_tools(void);
+
+/* Whether this thread is in a tool. A kernel's end tells tools its event before its blocks are brought back. */
+extern _Thread_local bool lwa_in_tool;
 
 /* Tells the tools an event, out of the lock; and notes one under it, of some bytes of a block or of none. */
 void lwa_tell(int event, int construct);

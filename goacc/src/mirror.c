@@ -128,13 +128,18 @@ void lwa_put_waiting(uint64_t queue, lwa_block *block, uintptr_t at, size_t len,
     block->queue = queue;
 }
 
-/* The first copy of a queue waits no more. */
+/* The first copy of a queue waits no more. Those behind it move to the front of the list when they are half of it or
+   less, so that the list stays short where the queue is never empty. */
 static waiting take_first(uint64_t queue)
 {
-    const waiting first = OWN[queue].list[OWN[queue].first++];
+    waiting *list = OWN[queue].list;
+    const waiting first = list[OWN[queue].first++];
+    const size_t left = OWN[queue].end - OWN[queue].first;
 
-    if (OWN[queue].first == OWN[queue].end) {
-        OWN[queue].first = OWN[queue].end = 0;
+    if (left <= OWN[queue].first) {
+        memmove(list, list + OWN[queue].first, left * sizeof *list);
+        OWN[queue].first = 0;
+        OWN[queue].end = left;
     }
     return first;
 }
@@ -202,6 +207,16 @@ void lwa_each_waiting(void (*act)(uint64_t queue, const void *from, uintptr_t at
             act(queue, w->from, w->at, w->len, w->out);
         }
     }
+}
+
+size_t lwa_waiting(void)
+{
+    size_t count = 0;
+
+    for (uint64_t queue = 0; queue < LWA_QUEUES; queue++) {
+        count += OWN[queue].end - OWN[queue].first;
+    }
+    return count;
 }
 
 void lwa_forget_waiting(void)

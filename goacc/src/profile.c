@@ -23,7 +23,8 @@ static struct {
 
 /* Whether an event is off; that of acc_ev_none is for all. */
 static bool off[acc_ev_last];
-static _Thread_local bool off_here, in_tool;
+static _Thread_local bool off_here;
+_Thread_local bool lwa_in_tool;
 
 /* Whether there is some callback. */
 static _Atomic bool some;
@@ -115,9 +116,9 @@ LWA_EXPORT void acc_register_library(acc_prof_reg reg, acc_prof_reg unreg, acc_p
 
 static void find_tools(void)
 {
-    in_tool = true;
+    lwa_in_tool = true;
     acc_register_library(acc_prof_register, acc_prof_unregister, acc_prof_lookup);
-    in_tool = false;
+    lwa_in_tool = false;
 }
 
 /* A tool may call routines while it is found, which do not look for it again. */
@@ -125,7 +126,7 @@ void lwa_find_tools(void)
 {
     static pthread_once_t once = PTHREAD_ONCE_INIT;
 
-    if (!lwa_shadow && !in_tool) {
+    if (!lwa_shadow && !lwa_in_tool) {
         pthread_once(&once, find_tools);
     }
 }
@@ -141,13 +142,13 @@ static void call_tools(acc_event_info *event)
     acc_api_info api = {acc_device_api_other, _ACC_API_INFO_VALID_BYTES, device, -1, NULL, NULL, NULL};
 
     pthread_mutex_lock(&lock);
-    in_tool = true;
+    lwa_in_tool = true;
     for (size_t i = 0; i < events[type].count && !off[type] && !off[acc_ev_none] && !off_here; i++) {
         if (events[type].list[i].on) {
             events[type].list[i].call(&info, event, &api);
         }
     }
-    in_tool = false;
+    lwa_in_tool = false;
     pthread_mutex_unlock(&lock);
 }
 
@@ -155,7 +156,7 @@ void lwa_tell(int event, int construct)
 {
     acc_event_info told;
 
-    if (event == acc_ev_none || !some || in_tool) {
+    if (event == acc_ev_none || !some || lwa_in_tool) {
         return;
     }
     memset(&told, 0, sizeof told);
@@ -169,7 +170,7 @@ void lwa_tell(int event, int construct)
 
 void lwa_note(int event, const lwa_block *block, uintptr_t at, size_t len)
 {
-    if (some && !in_tool) {
+    if (some && !lwa_in_tool) {
         notes = lwa_grown(notes, count, &room, sizeof *notes);
         notes[count++] = (acc_data_event_info){event, _ACC_DATA_EVENT_INFO_VALID_BYTES, 0, 1, NULL, NULL, len,
                                                (const void *)at,

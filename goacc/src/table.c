@@ -231,6 +231,9 @@ bool lwa_is_lent(uint32_t status)
     if (status != LW_LENT) {
         return false;
     }
+    if (lwa_in_tool) {
+        lwa_unserved("a tool needs a block that a kernel has, and would wait for good");
+    }
     pthread_cond_wait(&gathered, &lock);
     lwa_turn++;
     if (!has_table()) {

@@ -46,6 +46,25 @@ static void held(void)
     acc_free(there);
 }
 
+/* A copy that waits is of the device memory, also behind the end of the mapping. */
+static void waits(void)
+{
+    int b[4] = {1, 2, 3, 4}, c[2] = {5, 6}, back[4], *there = acc_malloc(sizeof b);
+
+    acc_memcpy_to_device(there, tens, sizeof tens);
+    acc_map_data(b, there, sizeof b);
+#pragma acc update device(b[0:2]) async(1)
+#pragma acc update self(b[3:1]) async(1)
+    acc_unmap_data(b);
+    acc_map_data(c, there + 2, sizeof c);
+#pragma acc wait(1)
+    numbers("host", b, 4);
+    acc_memcpy_from_device(back, there, sizeof back);
+    numbers("device", back, 4);
+    acc_unmap_data(c);
+    acc_free(there);
+}
+
 int main(void)
 {
     int *there = acc_malloc(sizeof a), back[4];
@@ -67,5 +86,6 @@ int main(void)
     acc_free(there);
     parts();
     held();
+    waits();
     return 0;
 }

@@ -125,6 +125,12 @@ impl Cause {
     }
 }
 
+/// How many parts of a section are looked at at most.
+const PARTS: usize = 16;
+
+/// How many deeds are looked at at most for what gave a block a byte.
+const DEEDS: usize = 1_024;
+
 /// What all lines so far did, in their order.
 #[derive(Drop)]
 pub(crate) struct History {
@@ -275,24 +281,26 @@ impl History {
         false
     }
 
-    /// Whether a byte of a section was written elsewhere since a block got its own.
+    /// Whether a byte of a section was written elsewhere since a block got its own, or may have been: not all is looked
+    /// at.
     pub fn is_outdated(&self, block: Block, section: Section) -> bool {
         let mut rest = section;
-        for _ in 0..section.len {
+        for _ in 0..PARTS {
             if rest.len == 0 {
-                break;
+                return false;
             }
             let Some(since) = self.own_since(block, rest.start) else {
                 return true;
             };
             rest = behind(rest, self.alike(rest, since));
         }
-        false
+        rest.len > 0
     }
 
-    /// The place of the deed that gave a block its byte; `None` where the byte was written elsewhere since.
+    /// The place of the deed that gave a block its byte; `None` where the byte was written elsewhere since, or no deed of
+    /// the last ones did.
     fn own_since(&self, block: Block, address: u64) -> Option<usize> {
-        for (at, done) in self.all.iter().enumerate().rev() {
+        for (at, done) in self.all.iter().enumerate().rev().take(DEEDS) {
             if !has_address(done.section, address) {
                 continue;
             }
@@ -303,7 +311,7 @@ impl History {
                 _ => {}
             }
         }
-        Some(0)
+        (self.all.len() <= DEEDS).then_some(0)
     }
 
     /// Why nothing ever filled a byte of host memory, or of a block: what made its block, or put its copy into a queue.

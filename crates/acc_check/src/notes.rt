@@ -112,10 +112,13 @@ impl Advice {
         }
     }
 
-    /// Whether the same is to be written at the same line.
+    /// Whether the same is to be written at the same line, for bytes of the same block.
     fn is_like(self, other: Advice) -> bool {
+        let (own, others) = (self.cause, other.cause);
         self.note == other.note
-            && self.cause.missed.map(|done| done.line) == other.cause.missed.map(|done| done.line)
+            && own.missed.map(|done| done.line) == others.missed.map(|done| done.line)
+            && own.missed.map(|done| done.block) == others.missed.map(|done| done.block)
+            && own.written.map(|done| done.block) == others.written.map(|done| done.block)
     }
 }
 
@@ -144,6 +147,12 @@ impl Wanted {
 /// What to write, and for which of the bytes.
 type Noted = (Note, Section);
 
+/// How many parts of the bytes that are read are looked at for one note at most.
+const PARTS: usize = 16;
+
+/// How many copies of a queue are looked at at most. Where more wait, no `wait` is told.
+const COPIES: usize = 16;
+
 impl Check {
     /// Why bytes that are read are stale, and what to write.
     pub(crate) fn advice(&self, table: &Table, read: Read) -> Result<Advice, Fault> {
@@ -151,9 +160,10 @@ impl Check {
         if table.config().devices() > 1 {
             advice.device = advice.note.device();
         }
-        for _ in 0..read.section.len {
+        for _ in 0..PARTS {
             let section = behind(read.section, advice.section);
-            if advice.note == Note::None || section.len == 0 {
+            let is_whole = matches!(advice.note, Note::None | Note::Wait { .. });
+            if is_whole || section.len == 0 {
                 break;
             }
             let next = self.first_advice(table, Read { section, ..read })?;
@@ -304,14 +314,16 @@ impl Check {
     /// Whether no copy that waits in a queue would take newer bytes, or bring the wanted byte from another block.
     fn can_wait(&self, wanted: Wanted, queue: u64) -> bool {
         let device = wanted.block.device;
+        let mut left = COPIES;
         for waiting in self.tracker.account.waiting().iter() {
             if waiting.device != device || waiting.queue != queue {
                 continue;
             }
             let t = waiting.transfer;
-            if wanted.is_spoiled_by(t) || self.takes_newer(device, t) {
+            if left == 0 || wanted.is_spoiled_by(t) || self.takes_newer(device, t) {
                 return false;
             }
+            left = left.saturating_sub(1);
         }
         true
     }
